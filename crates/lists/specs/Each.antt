@@ -1,0 +1,125 @@
+-- A loop that replaces each element of an array, one a turn; and one that asks something of each.
+-- Assumes nothing.
+use mathlib.Core.Path.{_≡_, refl, ap, sym, _∙_}
+use mathlib.Core.List.{List, [], _∷_, _++_}
+use mathlib.Core.Bool.{Bool, true, false, _&&_, _||_, cond, or-assoc, and-assoc, or-false, and-true, and-eq-true-iff}
+use Prim.Native.Nat.{ℕ, zero, suc, _+_, _<_, _≤_, suc-le-suc}
+use native.Mathlib.Nat.{add-suc, add-zero, suc-add, zero-add}
+use native.Mathlib.Numerals.{add-one}
+use native.Mathlib.Omega.{arith}
+use lib.ListN.{length, getD, set, drop, drop-of-length-le}
+use lib.Seq.{drop-cons}
+
+module _ {A : Type 0} where
+  -- each element x at its place n becomes f n x; the first place is n
+  unfoldable pub mapFrom : (ℕ → A → A) → ℕ → List A → List A
+  mapFrom f n [] = []
+  mapFrom f n (x ∷ xs) = f n x ∷ mapFrom f (suc n) xs
+
+  -- the same of the first k elements, and the others as they are
+  unfoldable pub mapTo : (ℕ → A → A) → ℕ → ℕ → List A → List A
+  mapTo f n zero xs = xs
+  mapTo f n (suc k) [] = []
+  mapTo f n (suc k) (x ∷ xs) = f n x ∷ mapTo f (suc n) k xs
+
+  -- some element does
+  unfoldable pub anyFrom : (ℕ → A → Bool) → ℕ → List A → Bool
+  anyFrom p n [] = false
+  anyFrom p n (x ∷ xs) = p n x || anyFrom p (suc n) xs
+
+  -- every element does
+  unfoldable pub allOf : (A → Bool) → List A → Bool
+  allOf p [] = true
+  allOf p (x ∷ xs) = p x && allOf p xs
+
+  pub mapTo-none : (f : ℕ → A → A) (n : ℕ) (xs : List A) → xs ≡ mapTo f n 0 xs
+  unfolding mapTo
+  mapTo-none f n xs = refl
+
+  pub length-mapTo : (f : ℕ → A → A) (n k : ℕ) (xs : List A) → length (mapTo f n k xs) ≡ length xs
+  unfolding mapTo
+  length-mapTo f n zero xs = refl
+  length-mapTo f n (suc k) [] = refl
+  length-mapTo f n (suc k) (x ∷ xs) = ap suc (length-mapTo f (suc n) k xs)
+
+  -- the next element is still the old one
+  pub mapTo-next : (f : ℕ → A → A) (n k : ℕ) (xs : List A) (d : A) → getD (mapTo f n k xs) k d ≡ getD xs k d
+  unfolding mapTo
+  mapTo-next f n zero xs d = refl
+  mapTo-next f n (suc k) [] d = refl
+  mapTo-next f n (suc k) (x ∷ xs) d = mapTo-next f (suc n) k xs d
+
+  -- one turn: the element at k is replaced
+  mapTo-suc : (f : ℕ → A → A) (n k : ℕ) (xs : List A) (d : A) → k < length xs
+      → set (mapTo f n k xs) k (f (n + k) (getD xs k d)) ≡ mapTo f n (suc k) xs
+  unfolding mapTo
+  mapTo-suc f n zero (x ∷ xs) d h = rw add-zero
+  mapTo-suc f n (suc k) (x ∷ xs) d (suc-le-suc h) = rw (add-suc, ← suc-add) (ap (λ (l : List A). f n x ∷ l) (mapTo-suc f (suc n) k xs d h))
+
+  pub mapTo-all : (f : ℕ → A → A) (n : ℕ) (xs : List A) → mapTo f n (length xs) xs ≡ mapFrom f n xs
+  unfolding mapTo mapFrom
+  mapTo-all f n [] = refl
+  mapTo-all f n (x ∷ xs) = ap (λ (l : List A). f n x ∷ l) (mapTo-all f (suc n) xs)
+
+  pub mapTo-step : (f : ℕ → A → A) (k : ℕ) (xs : List A) (d : A) → k < length xs
+      → set (mapTo f 0 k xs) k (f k (getD xs k d)) ≡ mapTo f 0 (k + 1) xs
+  mapTo-step f k xs d h = rw add-one (rw zero-add at (mapTo-suc f 0 k xs d h))
+
+  -- some element of those not yet asked
+  pub anyFrom-step : (p : ℕ → A → Bool) (k : ℕ) (xs : List A) (d : A) (a : Bool) → k < length xs
+      → (a || anyFrom p k (drop k xs)) ≡ ((a || p k (getD xs k d)) || anyFrom p (k + 1) (drop (k + 1) xs))
+  unfolding anyFrom
+  anyFrom-step p k xs d a h = rw (add-one, drop-cons xs k d, or-assoc)
+
+  pub anyFrom-none : (p : ℕ → A → Bool) (k : ℕ) (xs : List A) (a : Bool) → length xs ≤ k → (a || anyFrom p k (drop k xs)) ≡ a
+  unfolding anyFrom
+  anyFrom-none p k xs a h = rw (drop-of-length-le xs h, or-false)
+
+  pub allOf-step : (p : A → Bool) (k : ℕ) (xs : List A) (d : A) (a : Bool) → k < length xs
+      → (a && allOf p (drop k xs)) ≡ ((a && p (getD xs k d)) && allOf p (drop (k + 1) xs))
+  unfolding allOf
+  allOf-step p k xs d a h = rw (add-one, drop-cons xs k d, and-assoc)
+
+  pub allOf-none : (p : A → Bool) (k : ℕ) (xs : List A) (a : Bool) → length xs ≤ k → (a && allOf p (drop k xs)) ≡ a
+  unfolding allOf
+  allOf-none p k xs a h = rw (drop-of-length-le xs h, and-true)
+
+  -- the value of the first element that has one, or d
+  unfoldable pub firstFrom : {B : Type 0} → (ℕ → A → Bool) → (ℕ → A → B) → B → ℕ → List A → B
+  firstFrom p q e n [] = e
+  firstFrom p q e n (x ∷ xs) = cond (p n x) (q n x) (firstFrom p q e (suc n) xs)
+
+  -- one turn: t says whether one was found, and v is its value
+  pub firstFrom-step : {B : Type 0} (p : ℕ → A → Bool) (q : ℕ → A → B) (e : B) (k : ℕ) (xs : List A) (d : A) (t : Bool) (v : B) → k < length xs
+      → cond t v (firstFrom p q e k (drop k xs))
+      ≡ cond (t || p k (getD xs k d)) (cond t v (q k (getD xs k d))) (firstFrom p q e (k + 1) (drop (k + 1) xs))
+  unfolding firstFrom
+  firstFrom-step p q e k xs d true v h = refl
+  firstFrom-step p q e k xs d false v h = rw (add-one, drop-cons xs k d)
+
+  pub firstFrom-none : {B : Type 0} (p : ℕ → A → Bool) (q : ℕ → A → B) (e : B) (k : ℕ) (xs : List A) (t : Bool) (v : B) → length xs ≤ k
+      → cond t v (firstFrom p q e k (drop k xs)) ≡ cond t v e
+  unfolding firstFrom
+  firstFrom-none p q e k xs t v h = rw (drop-of-length-le xs h)
+
+  -- after the last turn
+  pub mapTo-full : (f : ℕ → A → A) (n k : ℕ) (xs : List A) → length xs ≤ k → mapTo f n k xs ≡ mapFrom f n xs
+  unfolding mapTo mapFrom
+  mapTo-full f n zero [] h = refl
+  mapTo-full f n (suc k) [] h = refl
+  mapTo-full f n (suc k) (x ∷ xs) (suc-le-suc h) = ap (λ (l : List A). f n x ∷ l) (mapTo-full f (suc n) k xs h)
+
+  -- what each change keeps, all of them keep
+  pub allOf-mapFrom : (p : A → Bool) (f : ℕ → A → A) → ((n : ℕ) (x : A) → p x ≡ true → p (f n x) ≡ true)
+      → (n : ℕ) (xs : List A) → allOf p xs ≡ true → allOf p (mapFrom f n xs) ≡ true
+  unfolding allOf mapFrom
+  allOf-mapFrom p f k n [] h = refl
+  allOf-mapFrom p f k n (x ∷ xs) h =
+      let t = and-eq-true-iff (p x) (allOf p xs) .0 h in
+      and-eq-true-iff (p (f n x)) (allOf p (mapFrom f (suc n) xs)) .1 (k n x (t .0), allOf-mapFrom p f k (suc n) xs (t .1))
+
+  -- what holds of all holds of each
+  pub allOf-at : (p : A → Bool) (k : ℕ) (xs : List A) (d : A) → k < length xs → allOf p xs ≡ true → p (getD xs k d) ≡ true
+  unfolding allOf
+  allOf-at p zero (x ∷ xs) d l h = and-eq-true-iff (p x) (allOf p xs) .0 h .0
+  allOf-at p (suc k) (x ∷ xs) d (suc-le-suc l) h = allOf-at p k xs d l (and-eq-true-iff (p x) (allOf p xs) .0 h .1)

@@ -1,0 +1,13 @@
+pub mod Modelled
+pub mod Fields
+pub mod Events
+pub mod Fresh
+pub mod Sensor
+pub mod Control
+pub mod Memory
+pub mod Slot
+pub mod Bus
+pub mod Refusals
+pub mod Reader
+pub mod Runs
+pub mod Open

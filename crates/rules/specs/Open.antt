@@ -1,0 +1,50 @@
+-- Bundles of definitions, for `unfolding` lines: to unfold a bundle is to unfold what its own line names.
+-- Assumes nothing.
+use Rattle.lists.specs.Each
+use Rattle.lists.specs.Parts
+use Rattle.rules.specs.Modelled
+use Rattle.rules.specs.Fields
+use Rattle.rules.specs.Events
+use Rattle.rules.specs.Fresh
+use Rattle.rules.specs.Sensor
+use Rattle.rules.specs.Control
+use Rattle.rules.specs.Memory
+use Rattle.rules.specs.Slot
+use Rattle.rules.specs.Bus
+use Rattle.rules.specs.Refusals
+use Rattle.rules.specs.Runs
+
+-- fields replaced
+unfoldable pub open-fields : Unit {0}
+unfolding Fields.inPhase Fields.atCounter Fields.inHalf Fields.withLeft Fields.protecting Fields.expecting Fields.withVoltage Fields.latched Fields.placed Fields.withSensor Fields.holding Fields.pointing Fields.withConfiguration Fields.withHigh Fields.withLow Fields.withCritical Fields.withTemperature Fields.withResolution Fields.withTimeout Fields.withWord
+open-fields = tt
+
+-- the steps of memory exchanges and commands
+unfoldable pub open-memory : Unit {0}
+unfolding Memory.emptied Memory.steady Memory.cleared Memory.settled Memory.lost Memory.loaded Memory.latching Memory.dataByte Memory.fetched Memory.storing Memory.dataStop Memory.changing Memory.ended Memory.ticked
+open-memory = tt
+
+-- the sensor
+unfoldable pub open-sensor : Unit {0}
+unfolding Sensor.registerOf Sensor.shutDown Sensor.criticalLocked Sensor.limitsLocked Sensor.lockedWrite Sensor.configured Sensor.written Sensor.bitsOf Sensor.signedOf Sensor.stepOf Sensor.floorOf Sensor.steppedOf Sensor.hysteresisOf Sensor.loweredOf Sensor.flagOf Sensor.criticalFlag Sensor.highFlag Sensor.lowFlag Sensor.reading Sensor.converted
+open-sensor = tt
+
+-- the control byte
+unfoldable pub open-control : Unit {0}
+unfolding Control.selectOf Control.isRead Control.commandOf Control.heardOf Control.protects Control.acksHeard Control.acksControl Control.obeyed Control.controlled
+open-control = tt
+
+-- the slot's step
+unfoldable pub open-slot : Unit {0}
+unfolding Slot.withSensorIn Slot.standing Slot.commanding Slot.holds Slot.letGo Slot.pointer Slot.firstByte Slot.secondByte Slot.byteIn Slot.acksIn Slot.readIn Slot.drivesIn Slot.drivenIn Slot.stopIn Slot.switched Slot.slotNext Slot.acks Slot.drives Slot.driven
+open-slot = tt
+
+-- the rows of refusals
+unfoldable pub open-refusals : Unit {0}
+unfolding Refusals.wrongLength Refusals.unknownKind Refusals.kindsOf Refusals.wrongSlot Refusals.outside Refusals.wrongValue Refusals.goodLength Refusals.goodPair Refusals.kindInRange Refusals.lengthInRange Refusals.keptIn Refusals.sensorInRange Refusals.slotInRange Refusals.inRange Refusals.ruledBy Refusals.ruling Refusals.emptyBus Refusals.setupOf
+open-refusals = tt
+
+-- everything: a run on known values computes
+unfoldable pub open-all : Unit {0}
+unfolding open-fields open-memory open-sensor open-control open-slot open-refusals Each.mapFrom Each.anyFrom Each.allOf Each.firstFrom Parts.part Parts.eachPart Modelled.absent Modelled.sensing Modelled.addressOf Modelled.blockOf Modelled.pageOf Events.isOne Events.actOf Fresh.freshSensor Fresh.freshSlot Fresh.setupSlot Fresh.absentSlot Fresh.powered Memory.guarded Memory.anyMark Memory.putUpTo Memory.stored Memory.tickedPart Bus.busNext Bus.memoryNext Bus.anyAck Bus.readByte Bus.shown Runs.taken Runs.given Runs.rulingOn Runs.ruledNext Runs.ruledAnswer Runs.next Runs.answered Runs.after Runs.answers
+open-all = tt

@@ -1,0 +1,53 @@
+-- An event on a bench, which is a bus with its lent memory, and runs of events.
+-- Assumes nothing.
+use Prim.Native.Nat.{ℕ}
+use mathlib.Core.List.{List, [], _∷_}
+use Rattle.rules.specs.declared.Act.{Act}
+use Rattle.rules.specs.declared.Answer.{Answer}
+use Rattle.rules.specs.declared.Answer.the-variants as answer
+use Rattle.rules.specs.declared.Bus.{Bus}
+use Rattle.rules.specs.declared.Event.{Event}
+use Rattle.rules.specs.declared.Ruling.{Ruling}
+use Rattle.rules.specs.declared.Ruling.the-variants.{Taken, Refused}
+use Rattle.rules.specs.Bus.{busNext, memoryNext, shown}
+use Rattle.rules.specs.Refusals.{ruling}
+
+pub record Bench : Type 0 where
+  pub bus : Bus
+  pub memory : List ℕ
+
+-- an act that is not refused
+unfoldable pub taken : Act → Bench → Bench
+taken a x = record { bus = busNext a (x .bus); memory = memoryNext a (x .bus) (x .memory) }
+
+unfoldable pub given : Act → Bench → Answer
+given a x = shown a (x .bus) (x .memory)
+
+unfoldable pub rulingOn : Event → Bench → Ruling
+rulingOn e x = ruling (x .bus) (x .memory) e
+
+-- "A refused event changes neither state nor memory."
+unfoldable pub ruledNext : Ruling → Bench → Bench
+ruledNext (Taken a) x = taken a x
+ruledNext (Refused r) x = x
+
+-- "The answer holds the number"
+unfoldable pub ruledAnswer : Ruling → Bench → Answer
+ruledAnswer (Taken a) x = given a x
+ruledAnswer (Refused r) x = answer.Refused r
+
+-- one event
+unfoldable pub next : Event → Bench → Bench
+next e x = ruledNext (rulingOn e x) x
+
+unfoldable pub answered : Event → Bench → Answer
+answered e x = ruledAnswer (rulingOn e x) x
+
+-- a run of events: the bench after it, and the answers in order
+unfoldable pub after : List Event → Bench → Bench
+after [] x = x
+after (e ∷ es) x = after es (next e x)
+
+unfoldable pub answers : List Event → Bench → List Answer
+answers [] x = []
+answers (e ∷ es) x = answered e x ∷ answers es (next e x)

@@ -1,0 +1,234 @@
+-- One slot: what it does at each event in each phase, what it acknowledges, what it drives. It looks at no other slot.
+-- Assumes nothing.
+use Prim.Native.Nat.{ℕ, _+_, _*_, _/_, _%_}
+use mathlib.Core.Bool.{Bool, true, false, not, cond, _&&_, _||_}
+use mathlib.Core.List.{List}
+use lib.Dec.{eqb, leb}
+use lib.ListN.{getD}
+use lib.IntN.{ℤ}
+use Rattle.rules.specs.declared.Act.{Act}
+use Rattle.rules.specs.declared.Act.the-variants.{Start, Byte, Read, Stop, Timeout, Tick, Voltage, Power, Temperature}
+use Rattle.rules.specs.declared.Phase.{Phase}
+use Rattle.rules.specs.declared.Phase.the-variants.{Idle, Control, Deaf, MemoryCounter, MemoryData, MemoryRead, HalfSelected, CommandAddress, CommandData, CommandStop, SensorPointer, SensorHigh, SensorLow, SensorReadHigh, SensorReadLow}
+use Rattle.rules.specs.declared.Slot.{Slot}
+use Rattle.rules.specs.Modelled.{absent, sensing, addressOf}
+use Rattle.rules.specs.Fields.{inPhase, withVoltage, withSensor, pointing, holding}
+use Rattle.rules.specs.Fresh.{powered}
+use Rattle.rules.specs.Sensor.{written, converted}
+use Rattle.rules.specs.Control.{acksControl, controlled}
+use Rattle.rules.specs.Memory.{settled, lost, loaded, guarded, dataByte, fetched, dataStop, changing, ticked}
+
+-- the phases of an exchange with the sensor
+unfoldable pub withSensorIn : Phase → Bool
+withSensorIn Idle = false
+withSensorIn Control = false
+withSensorIn Deaf = false
+withSensorIn MemoryCounter = false
+withSensorIn MemoryData = false
+withSensorIn MemoryRead = false
+withSensorIn HalfSelected = false
+withSensorIn CommandAddress = false
+withSensorIn CommandData = false
+withSensorIn CommandStop = false
+withSensorIn SensorPointer = true
+withSensorIn SensorHigh = true
+withSensorIn SensorLow = true
+withSensorIn SensorReadHigh = true
+withSensorIn SensorReadLow = true
+
+-- "absent slots, and sensor exchanges without a sensor, count as deaf": the phase that the rules go by
+unfoldable pub standing : Slot → Phase
+standing s = cond (absent s || (withSensorIn (s .phase) && not (sensing s))) Deaf (s .phase)
+
+-- the phases of a protect or clear that its stop has not yet begun
+unfoldable pub commanding : Phase → Bool
+commanding Idle = false
+commanding Control = false
+commanding Deaf = false
+commanding MemoryCounter = false
+commanding MemoryData = false
+commanding MemoryRead = false
+commanding HalfSelected = false
+commanding CommandAddress = true
+commanding CommandData = true
+commanding CommandStop = true
+commanding SensorPointer = false
+commanding SensorHigh = false
+commanding SensorLow = false
+commanding SensorReadHigh = false
+commanding SensorReadLow = false
+
+-- the phases in which the exchange holds something of the slot: latched bytes, a protection to come, a register's bytes
+unfoldable pub holds : Phase → Bool
+holds Idle = false
+holds Control = false
+holds Deaf = false
+holds MemoryCounter = false
+holds MemoryData = true
+holds MemoryRead = false
+holds HalfSelected = false
+holds CommandAddress = true
+holds CommandData = true
+holds CommandStop = true
+holds SensorPointer = false
+holds SensorHigh = false
+holds SensorLow = true
+holds SensorReadHigh = true
+holds SensorReadLow = true
+
+-- "A start, read, timeout or power cycle before the stop abandons the bytes; the counter stays where it then stands", and "cancels too"
+unfoldable pub letGo : Slot → Slot
+letGo s = cond (holds (standing s)) (settled s) s
+
+-- sensor write: "pointer byte (above 09h: NACK, deaf, pointer kept), two bytes; the register changes at the ACK of the second. A third gets NACK."
+unfoldable pub pointer : ℕ → Slot → Slot
+pointer b s = cond (leb b 0x09) (inPhase SensorHigh (withSensor (pointing b (s .sensor)) s)) (lost s)
+
+unfoldable pub firstByte : ℕ → Slot → Slot
+firstByte b s = inPhase SensorLow (holding (b * 256) s)
+
+unfoldable pub secondByte : ℕ → Slot → Slot
+secondByte b s = lost (withSensor (written (s .sensor) (s .sensor .pointer) (s .sensor .word / 256 * 256 + b)) s)
+
+-- a byte from the master, to slot n
+unfoldable pub byteIn : Phase → ℕ → ℕ → Slot → Slot
+-- "An idle slot ignores bytes and reads (NACK, FFh) and stays idle."
+byteIn Idle n b s = s
+-- "The first byte after a start is the control byte."
+byteIn Control n b s = controlled n b s
+byteIn Deaf n b s = s
+byteIn MemoryCounter n b s = loaded b s
+byteIn MemoryData n b s = dataByte b s
+-- "A master's byte in a read, or a read in a write, is not served (NACK, FFh) and leaves the slot deaf; so with the sensor and with the commands."
+byteIn MemoryRead n b s = lost s
+-- "later bytes are acknowledged and ignored (bench)"
+byteIn HalfSelected n b s = s
+-- "exactly one address byte and one data byte, contents ignored, both acknowledged [..] a third byte gets NACK and cancels, deaf"
+byteIn CommandAddress n b s = inPhase CommandData s
+byteIn CommandData n b s = inPhase CommandStop s
+byteIn CommandStop n b s = lost s
+byteIn SensorPointer n b s = pointer b s
+byteIn SensorHigh n b s = firstByte b s
+byteIn SensorLow n b s = secondByte b s
+byteIn SensorReadHigh n b s = lost s
+byteIn SensorReadLow n b s = lost s
+
+-- whether slot n acknowledges it
+unfoldable pub acksIn : Phase → ℕ → ℕ → Slot → Bool
+acksIn Idle n b s = false
+acksIn Control n b s = acksControl n b s
+acksIn Deaf n b s = false
+acksIn MemoryCounter n b s = true
+acksIn MemoryData n b s = not (guarded s)
+acksIn MemoryRead n b s = false
+acksIn HalfSelected n b s = true
+acksIn CommandAddress n b s = true
+acksIn CommandData n b s = true
+acksIn CommandStop n b s = false
+acksIn SensorPointer n b s = leb b 0x09
+acksIn SensorHigh n b s = true
+acksIn SensorLow n b s = true
+acksIn SensorReadHigh n b s = false
+acksIn SensorReadLow n b s = false
+
+-- a read; `more`: the master then acknowledges
+unfoldable pub readIn : Phase → Bool → Slot → Slot
+readIn Idle more s = s
+-- "A read before it gives FFh, leaves every slot deaf, and there is then no control byte until the next start."
+readIn Control more s = inPhase Deaf s
+readIn Deaf more s = s
+readIn MemoryCounter more s = lost s
+readIn MemoryData more s = lost s
+readIn MemoryRead more s = fetched more s
+readIn HalfSelected more s = lost s
+readIn CommandAddress more s = lost s
+readIn CommandData more s = lost s
+readIn CommandStop more s = lost s
+readIn SensorPointer more s = lost s
+readIn SensorHigh more s = lost s
+readIn SensorLow more s = lost s
+-- "a third read, or one after a master NACK, gives FFh"
+readIn SensorReadHigh more s = cond more (inPhase SensorReadLow s) (lost s)
+readIn SensorReadLow more s = lost s
+
+-- whether the slot drives a byte at a read, and which
+unfoldable pub drivesIn : Phase → Bool
+drivesIn Idle = false
+drivesIn Control = false
+drivesIn Deaf = false
+drivesIn MemoryCounter = false
+drivesIn MemoryData = false
+drivesIn MemoryRead = true
+drivesIn HalfSelected = false
+drivesIn CommandAddress = false
+drivesIn CommandData = false
+drivesIn CommandStop = false
+drivesIn SensorPointer = false
+drivesIn SensorHigh = false
+drivesIn SensorLow = false
+drivesIn SensorReadHigh = true
+drivesIn SensorReadLow = true
+
+unfoldable pub drivenIn : Phase → Slot → List ℕ → ℕ
+drivenIn Idle s m = 0xFF
+drivenIn Control s m = 0xFF
+drivenIn Deaf s m = 0xFF
+drivenIn MemoryCounter s m = 0xFF
+drivenIn MemoryData s m = 0xFF
+drivenIn MemoryRead s m = getD m (addressOf s .0) 0xFF
+drivenIn HalfSelected s m = 0xFF
+drivenIn CommandAddress s m = 0xFF
+drivenIn CommandData s m = 0xFF
+drivenIn CommandStop s m = 0xFF
+drivenIn SensorPointer s m = 0xFF
+drivenIn SensorHigh s m = 0xFF
+drivenIn SensorLow s m = 0xFF
+-- "high byte first"
+drivenIn SensorReadHigh s m = s .sensor .word / 256
+drivenIn SensorReadLow s m = s .sensor .word % 256
+
+-- "Stop and timeout make a slot idle; neither shortens a write cycle."
+unfoldable pub stopIn : Phase → Slot → Slot
+stopIn Idle s = s
+stopIn Control s = s
+stopIn Deaf s = s
+stopIn MemoryCounter s = s
+stopIn MemoryData s = dataStop s
+stopIn MemoryRead s = s
+stopIn HalfSelected s = s
+-- "A stop after fewer bytes does nothing"
+stopIn CommandAddress s = settled s
+stopIn CommandData s = settled s
+stopIn CommandStop s = changing s
+stopIn SensorPointer s = s
+stopIn SensorHigh s = s
+stopIn SensorLow s = settled s
+stopIn SensorReadHigh s = settled s
+stopIn SensorReadLow s = settled s
+
+-- "High voltage going off before the stop cancels, deaf."
+unfoldable pub switched : Bool → Slot → Slot
+switched on s = withVoltage on (cond (commanding (standing s) && not on) (lost s) s)
+
+-- slot n after an event
+unfoldable pub slotNext : ℕ → Act → Slot → Slot
+slotNext n Start s = inPhase Control (letGo s)
+slotNext n (Byte b) s = byteIn (standing s) n b s
+slotNext n (Read more) s = readIn (standing s) more s
+slotNext n Stop s = inPhase Idle (stopIn (standing s) s)
+slotNext n Timeout s = inPhase Idle (letGo s)
+slotNext n Tick s = ticked s
+slotNext n (Voltage k on) s = cond (eqb (k .0) n) (switched on s) s
+slotNext n Power s = powered s
+slotNext n (Temperature k t) s = cond (eqb (k .0) n) (withSensor (converted (s .sensor) t) s) s
+
+-- slot n acknowledges the byte b
+unfoldable pub acks : ℕ → ℕ → Slot → Bool
+acks n b s = acksIn (standing s) n b s
+
+-- the slot drives a read, and what it drives, with its 512 bytes m
+unfoldable pub drives : Slot → Bool
+drives s = drivesIn (standing s)
+
+unfoldable pub driven : List ℕ → Slot → ℕ
+driven m s = drivenIn (standing s) s m
