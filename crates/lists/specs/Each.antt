@@ -7,7 +7,7 @@ use Prim.Native.Nat.{ℕ, zero, suc, _+_, _<_, _≤_, suc-le-suc}
 use native.Mathlib.Nat.{add-suc, add-zero, suc-add, zero-add}
 use native.Mathlib.Numerals.{add-one}
 use native.Mathlib.Omega.{arith}
-use lib.ListN.{length, getD, set, drop, drop-of-length-le}
+use lib.ListN.{length, getD, set, drop, replicate, drop-of-length-le}
 use lib.Seq.{drop-cons}
 
 module _ {A : Type 0} where
@@ -123,3 +123,21 @@ module _ {A : Type 0} where
   unfolding allOf
   allOf-at p zero (x ∷ xs) d l h = and-eq-true-iff (p x) (allOf p xs) .0 h .0
   allOf-at p (suc k) (x ∷ xs) d (suc-le-suc l) h = allOf-at p k xs d l (and-eq-true-iff (p x) (allOf p xs) .0 h .1)
+
+  -- a fact about every element
+  abbrev pub Every : (A → Type 0) → List A → Type 0
+  Every P [] = Unit {0}
+  Every P (x ∷ xs) = P x × Every P xs
+
+  pub every-mapFrom : (P : A → Type 0) (f : ℕ → A → A) → ((n : ℕ) (x : A) → P x → P (f n x)) → (n : ℕ) (xs : List A) → Every P xs → Every P (mapFrom f n xs)
+  unfolding mapFrom
+  every-mapFrom P f k n [] h = tt
+  every-mapFrom P f k n (x ∷ xs) h = (k n x (h .0), every-mapFrom P f k (suc n) xs (h .1))
+
+  pub every-replicate : (P : A → Type 0) (n : ℕ) (x : A) → P x → Every P (replicate n x)
+  every-replicate P zero x h = tt
+  every-replicate P (suc n) x h = (h, every-replicate P n x h)
+
+  pub every-at : (P : A → Type 0) (k : ℕ) (xs : List A) (d : A) → k < length xs → Every P xs → P (getD xs k d)
+  every-at P zero (x ∷ xs) d l h = h .0
+  every-at P (suc k) (x ∷ xs) d (suc-le-suc l) h = every-at P k xs d l (h .1)

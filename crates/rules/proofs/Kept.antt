@@ -1,0 +1,468 @@
+-- Row 6: setup's bus is in range, and every event keeps the range; so no run from setup, refused events among it, meets refusal 6.
+-- Assumes nothing.
+use Prim.Native.Nat.{ℕ, suc, _+_, _-_, _*_, _/_, _%_, _<_, _≤_}
+use native.Mathlib.Omega.{arith}
+use mathlib.Core.Path.{_≡_, refl, sym, _∙_, ap, subst}
+use mathlib.Core.Bool.{Bool, true, false, false≢true, not, cond, _&&_, _||_}
+use mathlib.Core.List.{List, [], _∷_, map}
+use lib.Dec.{eqb, leb, ltb}
+use lib.IntN.{ℤ, pos, negsuc, natAbs}
+use lib.ListN.{set}
+use borrow.Author.Tests.{leb-true, ltb-false, eqb-true, eqb-false, le-leb, eq-eqb, not-true}
+use Rattle.lists.specs.Each.{mapFrom, allOf, allOf-mapFrom}
+use Rattle.lists.specs.Tests.{cond-cases, by-test, and-left, and-right, both, or-cases, or-left-false, or-right-false, cond-true, cond-false}
+use Rattle.rules.specs.declared.Act.{Act}
+use Rattle.rules.specs.declared.Act.the-variants.{Start, Byte, Read, Stop, Timeout, Tick, Voltage, Power, Temperature}
+use Rattle.rules.specs.declared.Answer.{Answer}
+use Rattle.rules.specs.declared.Answer.the-variants as answer
+use Rattle.rules.specs.declared.Bus.{Bus}
+use Rattle.rules.specs.declared.Event.{Event}
+use Rattle.rules.specs.declared.Heard.{Heard}
+use Rattle.rules.specs.declared.Heard.the-variants.{Memory, Sensor, Protect, ClearAll, ReadProtection, SelectHalf, ReadHalf, Nothing}
+use Rattle.rules.specs.declared.Outcome.{Outcome}
+use Rattle.rules.specs.declared.Pair.{Pair}
+use Rattle.rules.specs.declared.Phase.{Phase}
+use Rattle.rules.specs.declared.Phase.the-variants.{Idle, Control, Deaf, MemoryCounter, MemoryData, MemoryRead, HalfSelected, CommandAddress, CommandData, CommandStop, SensorPointer, SensorHigh, SensorLow, SensorReadHigh, SensorReadLow}
+use Rattle.rules.specs.declared.Refusal.{Refusal}
+use Rattle.rules.specs.declared.Refusal.the-variants.{MemoryLength, UnknownKind, WrongSlot, WrongValue, WrongSetup, WrongState}
+use Rattle.rules.specs.declared.Ruling.{Ruling}
+use Rattle.rules.specs.declared.Ruling.the-variants.{Taken, Refused}
+use Rattle.rules.specs.declared.Sensor as sensor
+use Rattle.rules.specs.declared.Slot.{Slot}
+use Rattle.rules.specs.Open.{open-fields, open-all}
+use Rattle.rules.specs.Fields as Fields
+use Rattle.rules.specs.Fields.{inPhase, withLeft, pointing, withWord}
+use Rattle.rules.specs.Events.{actOf, refusalNumber}
+use Rattle.rules.specs.Fresh.{freshSlot, freshSensor, setupSlot, absentSlot, powered}
+use Rattle.rules.specs.Sensor.{registerOf, written, converted}
+use Rattle.rules.specs.Control.{commandOf, heardOf, acksControl, acksHeard, obeyed, controlled}
+use Rattle.rules.specs.Memory.{emptied, steady, cleared, settled, lost, loaded, guarded, latching, dataByte, fetched, anyMark, storing, dataStop, changing, ended, ticked}
+use Rattle.rules.specs.Slot.{standing, holds, commanding, letGo, pointer, firstByte, secondByte, byteIn, readIn, stopIn, switched, slotNext}
+use Rattle.rules.specs.Bus.{busNext, shown, anyAck}
+use Rattle.rules.specs.Refusals.{wrongLength, unknownKind, kindsOf, wrongSlot, outside, wrongValue, goodLength, goodPair, kindInRange, lengthInRange, sensorInRange, slotInRange, inRange, ruledBy, ruling, emptyBus, setupOf}
+use Rattle.rules.specs.Runs.{Bench, taken, given, rulingOn, ruledNext, ruledAnswer, next, answered, after, answers}
+use Rattle.rules.proofs.SensorKept.{fresh-kept, written-kept, converted-kept, word-kept, pointing-kept}
+
+-- the test as facts about the numbers
+pub record Ranges (kind length left half counter place : ℕ) (x : sensor.Sensor) : Type 0 where
+  pub kinds : kind ≤ 2
+  pub lengths : cond (eqb kind 0) (eqb length 0) (goodLength length) ≡ true
+  pub lefts : left ≤ length
+  pub halves : half ≤ 1
+  pub counters : counter ≤ 255
+  pub places : place ≤ 15
+  pub sensors : sensorInRange x ≡ true
+
+abbrev pub InRange : Slot → Type 0
+InRange s = Ranges (s .kind) (s .length) (s .left) (s .half) (s .counter) (s .place) (s .sensor)
+
+-- seven tests joined
+module _ (a b c d e f g : Bool) where
+  joined : a ≡ true → b ≡ true → c ≡ true → d ≡ true → e ≡ true → f ≡ true → g ≡ true → (a && b && c && d && e && f && g) ≡ true
+  joined ha hb hc hd he hf hg = rw (ha, hb, hc, hd, he, hf, hg)
+
+pub facts : (s : Slot) → slotInRange s ≡ true → InRange s
+unfolding slotInRange kindInRange lengthInRange
+facts s t =
+    let k : Bool = leb (s .kind) 2 in
+    let l : Bool = cond (eqb (s .kind) 0) (eqb (s .length) 0) (goodLength (s .length)) in
+    let f : Bool = leb (s .left) (s .length) in
+    let h : Bool = leb (s .half) 1 in
+    let c : Bool = leb (s .counter) 255 in
+    let p : Bool = leb (s .place) 15 in
+    let x : Bool = sensorInRange (s .sensor) in
+    let t₆ = and-left (k && l && f && h && c && p) x t in
+    let t₅ = and-left (k && l && f && h && c) p t₆ in
+    let t₄ = and-left (k && l && f && h) c t₅ in
+    let t₃ = and-left (k && l && f) h t₄ in
+    let t₂ = and-left (k && l) f t₃ in
+    record {
+      kinds = leb-true _ _ (and-left k l t₂);
+      lengths = and-right k l t₂;
+      lefts = leb-true _ _ (and-right (k && l) f t₃);
+      halves = leb-true _ _ (and-right (k && l && f) h t₄);
+      counters = leb-true _ _ (and-right (k && l && f && h) c t₅);
+      places = leb-true _ _ (and-right (k && l && f && h && c) p t₆);
+      sensors = and-right (k && l && f && h && c && p) x t;
+    }
+
+pub test : (s : Slot) → InRange s → slotInRange s ≡ true
+unfolding slotInRange kindInRange lengthInRange
+test s v =
+    joined _ _ _ _ _ _ _
+    (le-leb _ _ (v .kinds)) (v .lengths) (le-leb _ _ (v .lefts)) (le-leb _ _ (v .halves)) (le-leb _ _ (v .counters)) (le-leb _ _ (v .places)) (v .sensors)
+
+-- one field replaced: what moves no number of row 6 is kept as it stands
+counter-kept : (n : ℕ) (s : Slot) → n ≤ 255 → InRange s → InRange (Fields.atCounter n s)
+unfolding open-fields
+counter-kept n s h v = search
+
+half-kept : (n : ℕ) (s : Slot) → n ≤ 1 → InRange s → InRange (Fields.inHalf n s)
+unfolding open-fields
+half-kept n s h v = search
+
+left-kept : (n : ℕ) (s : Slot) → n ≤ s .length → InRange s → InRange (Fields.withLeft n s)
+unfolding open-fields
+left-kept n s h v = search
+
+place-kept : (n : ℕ) (s : Slot) → n ≤ 15 → InRange s → InRange (Fields.placed n s)
+unfolding open-fields
+place-kept n s h v = search
+
+sensor-kept : (x : sensor.Sensor) (s : Slot) → sensorInRange x ≡ true → InRange s → InRange (Fields.withSensor x s)
+unfolding open-fields
+sensor-kept x s h v = search
+
+phase-kept : (p : Phase) (s : Slot) → InRange s → InRange (inPhase p s)
+unfolding open-fields
+phase-kept p s v = v
+
+emptied-kept : (s : Slot) → InRange s → InRange (emptied s)
+unfolding emptied open-fields
+emptied-kept s v = v
+
+steady-kept : (s : Slot) → InRange s → InRange (steady s)
+unfolding steady open-fields
+steady-kept s v = v
+
+holding-kept : (w : ℕ) (s : Slot) → InRange s → InRange (Fields.holding w s)
+unfolding Fields.holding
+holding-kept w s v = sensor-kept _ s (word-kept w (s .sensor) (v .sensors)) v
+
+cleared-kept : (s : Slot) → InRange s → InRange (cleared s)
+unfolding cleared
+cleared-kept s v = place-kept 0 _ (omega arith) (holding-kept 0 s v)
+
+settled-kept : (s : Slot) → InRange s → InRange (settled s)
+unfolding settled
+settled-kept s v = cleared-kept _ (cond-cases InRange (eqb (s .left) 0) (λ e. emptied-kept (steady s) (steady-kept s v)) (λ e. v))
+
+lost-kept : (s : Slot) → InRange s → InRange (lost s)
+unfolding lost
+lost-kept s v = phase-kept Deaf _ (settled-kept s v)
+
+letGo-kept : (s : Slot) → InRange s → InRange (letGo s)
+unfolding letGo
+letGo-kept s v = cond-cases InRange (holds (standing s)) (λ e. settled-kept s v) (λ e. v)
+
+-- the control byte: a half that is selected is 0 or 1
+halfIn : Heard → Bool
+halfIn (Memory k r) = true
+halfIn (Sensor k r) = true
+halfIn (Protect k) = true
+halfIn ClearAll = true
+halfIn (ReadProtection k) = true
+halfIn (SelectHalf h) = leb h 1
+halfIn ReadHalf = true
+halfIn Nothing = true
+
+halves-heard : (b : ℕ) → halfIn (heardOf b) ≡ true
+unfolding halfIn heardOf commandOf
+halves-heard b =
+    cond-cases P (eqb (b / 16) 0xA) (λ e. refl) λ e.
+    cond-cases P (eqb (b / 16) 0x3) (λ e. refl) λ e.
+    cond-cases P (eqb (b / 16) 0x6) (λ e.
+    cond-cases P (eqb b 0x62) (λ e. refl) λ e.
+    cond-cases P (eqb b 0x68) (λ e. refl) λ e.
+    cond-cases P (eqb b 0x6A) (λ e. refl) λ e.
+    cond-cases P (eqb b 0x60) (λ e. refl) λ e.
+    cond-cases P (eqb b 0x66) (λ e. refl) λ e.
+    cond-cases P (eqb b 0x63) (λ e. refl) λ e.
+    cond-cases P (eqb b 0x69) (λ e. refl) λ e.
+    cond-cases P (eqb b 0x6B) (λ e. refl) λ e.
+    cond-cases P (eqb b 0x61) (λ e. refl) λ e.
+    cond-cases P (eqb b 0x6C) (λ e. refl) λ e.
+    cond-cases P (eqb b 0x6E) (λ e. refl) λ e.
+    cond-cases P (eqb b 0x6D) (λ e. refl) λ e.
+    refl)
+    (λ e. refl)
+  where
+    P : Heard → Type 0
+    P h = halfIn h ≡ true
+
+obeyed-kept : (h : Heard) (s : Slot) → halfIn h ≡ true → InRange s → InRange (obeyed h s)
+unfolding obeyed halfIn open-fields
+obeyed-kept (Memory k false) s e v = v
+obeyed-kept (Memory k true) s e v = v
+obeyed-kept (Sensor k false) s e v = v
+obeyed-kept (Sensor k true) s e v = holding-kept _ s v
+obeyed-kept (Protect k) s e v = v
+obeyed-kept ClearAll s e v = v
+obeyed-kept (ReadProtection k) s e v = v
+obeyed-kept (SelectHalf h) s e v = half-kept h s (leb-true _ _ e) v
+obeyed-kept ReadHalf s e v = v
+obeyed-kept Nothing s e v = v
+
+controlled-kept : (n b : ℕ) (s : Slot) → InRange s → InRange (controlled n b s)
+unfolding controlled
+controlled-kept n b s v =
+    cond-cases InRange (acksControl n b s) (λ e. obeyed-kept (heardOf b) s (halves-heard b) v) (λ e. phase-kept Deaf s v)
+
+-- bytes
+loaded-kept : (b : ℕ) (s : Slot) → b ≤ 255 → InRange s → InRange (loaded b s)
+unfolding loaded
+loaded-kept b s h v = phase-kept MemoryData _ (place-kept _ _ (omega arith) (emptied-kept _ (counter-kept b s h v)))
+
+latched-kept : (l : List ℕ) (m : List Bool) (s : Slot) → InRange s → InRange (Fields.latched l m s)
+unfolding open-fields
+latched-kept l m s v = v
+
+latching-kept : (b : ℕ) (s : Slot) → InRange s → InRange (latching b s)
+unfolding latching
+latching-kept b s v = counter-kept _ _ (omega (arith, v .counters)) (place-kept _ _ (omega arith) (latched-kept _ _ s v))
+
+data-kept : (b : ℕ) (s : Slot) → InRange s → InRange (dataByte b s)
+unfolding dataByte
+data-kept b s v = cond-cases InRange (guarded s) (λ e. lost-kept s v) (λ e. latching-kept b s v)
+
+pointer-kept : (b : ℕ) (s : Slot) → InRange s → InRange (pointer b s)
+unfolding pointer
+pointer-kept b s v =
+    cond-cases InRange (leb b 0x09) (λ e. phase-kept SensorHigh _ (sensor-kept _ s (pointing-kept b (s .sensor) e (v .sensors)) v)) (λ e. lost-kept s v)
+
+second-kept : (b : ℕ) (s : Slot) → InRange s → InRange (secondByte b s)
+unfolding secondByte
+second-kept b s v = lost-kept _ (sensor-kept _ s (written-kept (s .sensor) _ _ (v .sensors)) v)
+
+byte-kept : (p : Phase) (n b : ℕ) (s : Slot) → b ≤ 255 → InRange s → InRange (byteIn p n b s)
+unfolding byteIn firstByte
+byte-kept Idle n b s h v = v
+byte-kept Control n b s h v = controlled-kept n b s v
+byte-kept Deaf n b s h v = v
+byte-kept MemoryCounter n b s h v = loaded-kept b s h v
+byte-kept MemoryData n b s h v = data-kept b s v
+byte-kept MemoryRead n b s h v = lost-kept s v
+byte-kept HalfSelected n b s h v = v
+byte-kept CommandAddress n b s h v = phase-kept CommandData s v
+byte-kept CommandData n b s h v = phase-kept CommandStop s v
+byte-kept CommandStop n b s h v = lost-kept s v
+byte-kept SensorPointer n b s h v = pointer-kept b s v
+byte-kept SensorHigh n b s h v = phase-kept SensorLow _ (holding-kept _ s v)
+byte-kept SensorLow n b s h v = second-kept b s v
+byte-kept SensorReadHigh n b s h v = lost-kept s v
+byte-kept SensorReadLow n b s h v = lost-kept s v
+
+fetched-kept : (more : Bool) (s : Slot) → InRange s → InRange (fetched more s)
+unfolding fetched
+fetched-kept more s v = phase-kept _ _ (counter-kept _ s (omega arith) v)
+
+read-kept : (p : Phase) (more : Bool) (s : Slot) → InRange s → InRange (readIn p more s)
+unfolding readIn
+read-kept Idle more s v = v
+read-kept Control more s v = phase-kept Deaf s v
+read-kept Deaf more s v = v
+read-kept MemoryCounter more s v = lost-kept s v
+read-kept MemoryData more s v = lost-kept s v
+read-kept MemoryRead more s v = fetched-kept more s v
+read-kept HalfSelected more s v = lost-kept s v
+read-kept CommandAddress more s v = lost-kept s v
+read-kept CommandData more s v = lost-kept s v
+read-kept CommandStop more s v = lost-kept s v
+read-kept SensorPointer more s v = lost-kept s v
+read-kept SensorHigh more s v = lost-kept s v
+read-kept SensorLow more s v = lost-kept s v
+read-kept SensorReadHigh more s v = cond-cases InRange more (λ e. phase-kept SensorReadLow s v) (λ e. lost-kept s v)
+read-kept SensorReadLow more s v = lost-kept s v
+
+storing-kept : (s : Slot) → InRange s → InRange (storing s)
+unfolding storing cleared steady open-fields
+storing-kept s v = left-kept (s .length) (cleared (steady s)) (omega arith) (cleared-kept (steady s) (steady-kept s v))
+
+changing-kept : (s : Slot) → InRange s → InRange (changing s)
+unfolding changing cleared emptied open-fields
+changing-kept s v = left-kept (s .length) (cleared (emptied s)) (omega arith) (cleared-kept (emptied s) (emptied-kept s v))
+
+stop-kept : (p : Phase) (s : Slot) → InRange s → InRange (stopIn p s)
+unfolding stopIn dataStop
+stop-kept Idle s v = v
+stop-kept Control s v = v
+stop-kept Deaf s v = v
+stop-kept MemoryCounter s v = v
+stop-kept MemoryData s v = cond-cases InRange (anyMark (s .marks)) (λ e. storing-kept s v) (λ e. settled-kept s v)
+stop-kept MemoryRead s v = v
+stop-kept HalfSelected s v = v
+stop-kept CommandAddress s v = settled-kept s v
+stop-kept CommandData s v = settled-kept s v
+stop-kept CommandStop s v = changing-kept s v
+stop-kept SensorPointer s v = v
+stop-kept SensorHigh s v = v
+stop-kept SensorLow s v = settled-kept s v
+stop-kept SensorReadHigh s v = settled-kept s v
+stop-kept SensorReadLow s v = settled-kept s v
+
+ended-kept : (s : Slot) → InRange s → InRange (ended s)
+unfolding ended emptied open-fields
+ended-kept s v = left-kept 0 s (omega arith) v
+
+ticked-kept : (s : Slot) → InRange s → InRange (ticked s)
+unfolding ticked
+ticked-kept s v = cond-cases InRange (eqb (s .left) 1) (λ e. ended-kept s v) (λ e. left-kept (s .left - 1) s (omega (arith, v .lefts)) v)
+
+voltage-kept : (on : Bool) (s : Slot) → InRange s → InRange (Fields.withVoltage on s)
+unfolding open-fields
+voltage-kept on s v = v
+
+switched-kept : (on : Bool) (s : Slot) → InRange s → InRange (switched on s)
+unfolding switched
+switched-kept on s v = voltage-kept on _ (cond-cases InRange (commanding (standing s) && not on) (λ e. lost-kept s v) (λ e. v))
+
+powered-kept : (s : Slot) → InRange s → InRange (powered s)
+unfolding powered freshSlot open-fields
+powered-kept s v = record { kinds = v .kinds; lengths = v .lengths; lefts = omega arith; halves = omega arith; counters = omega arith; places = omega arith; sensors = fresh-kept }
+
+-- an act whose byte is a byte keeps a slot in range
+pub byteFits : Act → Bool
+byteFits Start = true
+byteFits (Byte b) = leb b 255
+byteFits (Read more) = true
+byteFits Stop = true
+byteFits Timeout = true
+byteFits Tick = true
+byteFits (Voltage k on) = true
+byteFits Power = true
+byteFits (Temperature k t) = true
+
+pub slot-kept : (n : ℕ) (a : Act) (s : Slot) → byteFits a ≡ true → InRange s → InRange (slotNext n a s)
+unfolding slotNext byteFits
+slot-kept n Start s f v = phase-kept Control _ (letGo-kept s v)
+slot-kept n (Byte b) s f v = byte-kept (standing s) n b s (leb-true _ _ f) v
+slot-kept n (Read more) s f v = read-kept (standing s) more s v
+slot-kept n Stop s f v = phase-kept Idle _ (stop-kept (standing s) s v)
+slot-kept n Timeout s f v = phase-kept Idle _ (letGo-kept s v)
+slot-kept n Tick s f v = ticked-kept s v
+slot-kept n (Voltage k on) s f v = cond-cases InRange (eqb (k .0) n) (λ e. switched-kept on s v) (λ e. v)
+slot-kept n Power s f v = powered-kept s v
+slot-kept n (Temperature k t) s f v =
+    cond-cases InRange (eqb (k .0) n) (λ e. sensor-kept _ s (converted-kept (s .sensor) t (v .sensors)) v) (λ e. v)
+
+-- the bus
+pub bus-kept : (a : Act) (b : Bus) → byteFits a ≡ true → inRange b ≡ true → inRange (busNext a b) ≡ true
+unfolding inRange busNext
+bus-kept a b f v =
+    allOf-mapFrom slotInRange (λ n s. slotNext n a s) (λ n s t. test (slotNext n a s) (slot-kept n a s f (facts s t))) 0 (b .slots) v
+
+-- an event that is taken has a byte for a byte
+fits-in-byte : (v : ℤ) → outside (pos 0) (pos 255) v ≡ false → leb (natAbs v) 255 ≡ true
+unfolding outside
+fits-in-byte (pos n) e = le-leb n 255 (ltb-false 255 n (or-right-false (ltb n 0) (ltb 255 n) e))
+fits-in-byte (negsuc n) e = absurd (false≢true (sym e))
+
+act-fits : (e : Event) → wrongValue e ≡ false → byteFits (actOf e) ≡ true
+unfolding actOf byteFits wrongValue
+act-fits e w =
+    cond-cases P (eqb (e .kind) 1) (λ h. refl) λ h.
+    cond-cases P (eqb (e .kind) 2) (λ h. fits-in-byte (e .value) (rw h at w)) λ h.
+    cond-cases P (eqb (e .kind) 3) (λ h. refl) λ h.
+    cond-cases P (eqb (e .kind) 4) (λ h. refl) λ h.
+    cond-cases P (eqb (e .kind) 5) (λ h. refl) λ h.
+    cond-cases P (eqb (e .kind) 6) (λ h. refl) λ h.
+    cond-cases P (eqb (e .kind) 7) (λ h. refl) λ h.
+    cond-cases P (eqb (e .kind) 8) (λ h. refl) λ h. refl
+  where
+    P : Act → Type 0
+    P a = byteFits a ≡ true
+
+fitting : Ruling → Type 0
+fitting (Taken a) = byteFits a ≡ true
+fitting (Refused r) = Unit {0}
+
+ruling-fits : (b : Bus) (m : List ℕ) (e : Event) → fitting (ruling b m e)
+unfolding ruling ruledBy fitting
+ruling-fits b m e =
+    cond-cases fitting (wrongLength m) (λ h. tt) λ h.
+    cond-cases fitting (not (inRange b)) (λ h. tt) λ h.
+    cond-cases fitting (unknownKind e) (λ h. tt) λ h.
+    cond-cases fitting (wrongSlot (kindsOf b) e) (λ h. tt) λ h.
+    cond-cases fitting (wrongValue e) (λ h. tt) (λ h. act-fits e h)
+
+ruled-kept : (r : Ruling) (x : Bench) → fitting r → inRange (x .bus) ≡ true → inRange ((ruledNext r x) .bus) ≡ true
+unfolding ruledNext taken fitting
+ruled-kept (Taken a) x f v = bus-kept a (x .bus) f v
+ruled-kept (Refused r) x f v = v
+
+-- every event keeps the range
+pub next-in-range : (e : Event) (x : Bench) → inRange (x .bus) ≡ true → inRange ((next e x) .bus) ≡ true
+unfolding next rulingOn
+next-in-range e x v = ruled-kept (rulingOn e x) x (ruling-fits (x .bus) (x .memory) e) v
+
+pub after-in-range : (es : List Event) (x : Bench) → inRange (x .bus) ≡ true → inRange ((after es x) .bus) ≡ true
+unfolding after
+after-in-range [] x v = v
+after-in-range (e ∷ es) x v = after-in-range es (next e x) (next-in-range e x v)
+
+-- setup's bus is in range, refused or not
+pair-in-range : (p : Pair) → goodPair p ≡ true → InRange (setupSlot p)
+unfolding goodPair setupSlot freshSlot
+pair-in-range p g =
+    record {
+      kinds = leb-true _ _ (and-left (leb (p .kind) 2) (eqb (p .kind) 0 || goodLength (p .length)) g);
+      lengths = by-test (eqb (p .kind) 0) (λ e. rw e) (λ e. rw e (rw e at (and-right (leb (p .kind) 2) (eqb (p .kind) 0 || goodLength (p .length)) g)));
+      lefts = omega arith;
+      halves = omega arith;
+      counters = omega arith;
+      places = omega arith;
+      sensors = fresh-kept;
+    }
+
+pairs-in-range : (ps : List Pair) → allOf goodPair ps ≡ true → allOf slotInRange (map setupSlot ps) ≡ true
+unfolding allOf
+pairs-in-range [] g = refl
+pairs-in-range (p ∷ ps) g =
+    both _ _ (test (setupSlot p) (pair-in-range p (and-left (goodPair p) (allOf goodPair ps) g))) (pairs-in-range ps (and-right (goodPair p) (allOf goodPair ps) g))
+
+pub setup-in-range : (ps : List Pair) → inRange (setupOf ps .bus) ≡ true
+unfolding setupOf inRange
+setup-in-range ps =
+    cond-cases (λ (o : Outcome). allOf slotInRange (o .bus .slots) ≡ true) (allOf goodPair ps) (λ e. pairs-in-range ps e) (λ e. unfold open-all in refl)
+
+-- refusal 6 is for a state out of range alone
+pub isSix : Answer → Bool
+isSix answer.Nothing = false
+isSix answer.Ack = false
+isSix answer.Nack = false
+isSix (answer.Data b) = false
+isSix (answer.Refused r) = eqb (refusalNumber r) 6
+
+notSix : Ruling → Type 0
+notSix (Taken a) = Unit {0}
+notSix (Refused r) = eqb (refusalNumber r) 6 ≡ false
+
+ruling-not-six : (b : Bus) (m : List ℕ) (e : Event) → inRange b ≡ true → notSix (ruling b m e)
+unfolding ruling ruledBy notSix refusalNumber
+ruling-not-six b m e v =
+    cond-cases notSix (wrongLength m) (λ h. refl) λ h.
+    cond-cases notSix (not (inRange b)) (λ h. absurd (false≢true (sym (not-true (inRange b) h) ∙ v))) λ h.
+    cond-cases notSix (unknownKind e) (λ h. refl) λ h.
+    cond-cases notSix (wrongSlot (kindsOf b) e) (λ h. refl) λ h.
+    cond-cases notSix (wrongValue e) (λ h. refl) (λ h. tt)
+
+shown-not-six : (a : Act) (b : Bus) (m : List ℕ) → isSix (shown a b m) ≡ false
+unfolding shown isSix
+shown-not-six Start b m = refl
+shown-not-six (Byte v) b m = cond-cases (λ (r : Answer). isSix r ≡ false) (anyAck v b) (λ e. refl) (λ e. refl)
+shown-not-six (Read more) b m = refl
+shown-not-six Stop b m = refl
+shown-not-six Timeout b m = refl
+shown-not-six Tick b m = refl
+shown-not-six (Voltage k on) b m = refl
+shown-not-six Power b m = refl
+shown-not-six (Temperature k t) b m = refl
+
+ruled-not-six : (r : Ruling) (x : Bench) → notSix r → isSix (ruledAnswer r x) ≡ false
+unfolding ruledAnswer given notSix isSix
+ruled-not-six (Taken a) x h = shown-not-six a (x .bus) (x .memory)
+ruled-not-six (Refused r) x h = h
+
+pub answered-not-six : (e : Event) (x : Bench) → inRange (x .bus) ≡ true → isSix (answered e x) ≡ false
+unfolding answered rulingOn
+answered-not-six e x v = ruled-not-six (rulingOn e x) x (ruling-not-six (x .bus) (x .memory) e v)
+
+-- no run from a state in range, so none from setup, gets refusal 6
+pub never-six : (es : List Event) (x : Bench) → inRange (x .bus) ≡ true → allOf (λ a. not (isSix a)) (answers es x) ≡ true
+unfolding answers allOf
+never-six [] x v = refl
+never-six (e ∷ es) x v = rw (answered-not-six e x v) (never-six es (next e x) (next-in-range e x v))
+
+pub never-six-from-setup : (ps : List Pair) (m : List ℕ) (es : List Event)
+    → allOf (λ a. not (isSix a)) (answers es (record { bus = setupOf ps .bus; memory = m })) ≡ true
+never-six-from-setup ps m es = never-six es _ (setup-in-range ps)

@@ -1,0 +1,9 @@
+pub mod Cases
+pub mod SensorKept
+pub mod Kept
+pub mod InStep
+pub mod Protection
+pub mod Stored
+pub mod Rulings
+pub mod Sentences
+pub mod Everywhere
