@@ -1,12 +1,11 @@
 -- A loop that replaces each element of an array, one a turn; and one that asks something of each.
 -- Assumes nothing.
-use mathlib.Core.Path.{_≡_, refl, ap, sym, _∙_}
-use mathlib.Core.List.{List, [], _∷_, _++_}
+use mathlib.Core.Path.{_≡_, refl, ap, ap₂}
+use mathlib.Core.List.{List, [], _∷_, map}
 use mathlib.Core.Bool.{Bool, true, false, _&&_, _||_, cond, or-assoc, and-assoc, or-false, and-true, and-eq-true-iff}
 use Prim.Native.Nat.{ℕ, zero, suc, _+_, _<_, _≤_, suc-le-suc}
 use native.Mathlib.Nat.{add-suc, add-zero, suc-add, zero-add}
 use native.Mathlib.Numerals.{add-one}
-use native.Mathlib.Omega.{arith}
 use lib.ListN.{length, getD, set, drop, replicate, drop-of-length-le}
 use lib.Seq.{drop-cons}
 
@@ -108,6 +107,23 @@ module _ {A : Type 0} where
   mapTo-full f n zero [] h = refl
   mapTo-full f n (suc k) [] h = refl
   mapTo-full f n (suc k) (x ∷ xs) (suc-le-suc h) = ap (λ (l : List A). f n x ∷ l) (mapTo-full f (suc n) k xs h)
+
+  pub length-mapFrom : (f : ℕ → A → A) (n : ℕ) (xs : List A) → length (mapFrom f n xs) ≡ length xs
+  unfolding mapFrom
+  length-mapFrom f n [] = refl
+  length-mapFrom f n (x ∷ xs) = ap suc (length-mapFrom f (suc n) xs)
+
+  -- the element at k is changed by its own number, and by nothing else
+  pub mapFrom-at : (f : ℕ → A → A) (n : ℕ) (xs : List A) (k : ℕ) (d : A) → k < length xs → getD (mapFrom f n xs) k d ≡ f (n + k) (getD xs k d)
+  unfolding mapFrom
+  mapFrom-at f n (x ∷ xs) zero d h = rw add-zero
+  mapFrom-at f n (x ∷ xs) (suc k) d (suc-le-suc h) = rw (add-suc, ← suc-add) (mapFrom-at f (suc n) xs k d h)
+
+  -- what no change alters of an element, all of them together leave
+  pub map-mapFrom : {B : Type 0} (g : A → B) (f : ℕ → A → A) → ((n : ℕ) (x : A) → g (f n x) ≡ g x) → (n : ℕ) (xs : List A) → map g (mapFrom f n xs) ≡ map g xs
+  unfolding mapFrom
+  map-mapFrom g f k n [] = refl
+  map-mapFrom g f k n (x ∷ xs) = ap₂ _∷_ (k n x) (map-mapFrom g f k (suc n) xs)
 
   -- what each change keeps, all of them keep
   pub allOf-mapFrom : (p : A → Bool) (f : ℕ → A → A) → ((n : ℕ) (x : A) → p x ≡ true → p (f n x) ≡ true)

@@ -1,13 +1,53 @@
--- A loop that works on a buffer part by part: turn k on the w bytes from w * k on, with the kth element of a list.
+-- A buffer in parts of w bytes, and a loop that works on it part by part: turn k on the w bytes from w * k on, with the kth element of a list.
 -- Assumes nothing.
-use mathlib.Core.Path.{_≡_, refl, ap, sym, _∙_}
-use mathlib.Core.List.{List, [], _∷_, _++_, append-assoc}
-use Prim.Native.Nat.{ℕ, zero, suc, _+_, _-_, _*_, _<_, _≤_, suc-le-suc}
-use native.Mathlib.Nat.{mul-suc, mul-zero, add-comm}
+use mathlib.Core.Path.{_≡_, refl, ap, ap₂, sym, _∙_}
+use mathlib.Core.List.{List, [], _∷_, _++_, append-assoc, append-nil}
+use Prim.Native.Nat.{ℕ, zero, suc, _+_, _-_, _*_, _<_, _≤_, suc-le-suc, min}
+use native.Mathlib.Nat.{mul-suc, mul-zero, zero-add, sub-zero, add-comm, add-assoc}
 use native.Mathlib.Numerals.{add-one}
 use native.Mathlib.Omega.{arith}
-use lib.ListN.{length, getD, take, drop, length-take, length-drop, length-append}
-use lib.Seq.{take-append-add, drop-append-add, drop-drop}
+use lib.ListN.{length, getD, take, drop, length-take, length-drop, length-append, take-append-drop, drop-of-length-le}
+use lib.Seq.{take-at, drop-at, take-all, getD-take, getD-drop, take-append-add, drop-append-add, drop-drop}
+
+-- the kth part
+unfoldable pub part : ℕ → ℕ → List ℕ → List ℕ
+part w zero m = take w m
+part w (suc k) m = part w k (drop w m)
+
+-- the bytes before the part k + 1
+before-suc : (w k : ℕ) → w * suc k ≡ w + w * k
+before-suc w k = mul-suc w k ∙ add-comm (w * k) w
+
+pub length-part : (w k : ℕ) (m : List ℕ) → length (part w k m) ≡ min w (length m - w * k)
+unfolding part
+length-part w zero m = rw (mul-zero, sub-zero) (length-take w m)
+length-part w (suc k) m = rw (length-part w k (drop w m), length-drop, before-suc) (omega arith)
+
+-- the byte i of the part k
+pub getD-part : (w k : ℕ) (m : List ℕ) (i d : ℕ) → i < w → getD (part w k m) i d ≡ getD m (w * k + i) d
+unfolding part
+getD-part w zero m i d h = rw (mul-zero, zero-add) (getD-take w m i d h)
+getD-part w (suc k) m i d h = rw (before-suc, add-assoc) (getD-part w k (drop w m) i d h ∙ getD-drop w m (w * k + i) d)
+
+length-rest : (w n : ℕ) (m : List ℕ) → length m ≡ w * suc n → length (drop w m) ≡ w * n
+length-rest w n m h = rw (length-drop, h, before-suc) (omega arith)
+
+-- a buffer is its parts
+pub parts-ext : (w n : ℕ) (m o : List ℕ) → length m ≡ w * n → length o ≡ w * n → ((k : ℕ) → k < n → part w k m ≡ part w k o) → m ≡ o
+unfolding part
+parts-ext w zero m o f g h = empty m (f ∙ mul-zero w) ∙ sym (empty o (g ∙ mul-zero w))
+  where
+    empty : (l : List ℕ) → length l ≡ 0 → l ≡ []
+    empty l e = drop-of-length-le l {i = 0} (omega arith)
+parts-ext w (suc n) m o f g h =
+    sym (take-append-drop w m)
+    ∙ ap₂ _++_ (h 0 (omega arith)) (parts-ext w n (drop w m) (drop w o) (length-rest w n m f) (length-rest w n o g) (λ k l. h (suc k) (suc-le-suc l)))
+    ∙ take-append-drop w o
+
+-- of n bytes, the first part and the others
+seam : (w n : ℕ) (p q : List ℕ) → length p ≡ min w n → length q ≡ n - w → (take w (p ++ q) ≡ p) × (drop w (p ++ q) ≡ q)
+seam w n p [] h g = rw append-nil (take-all w p (omega arith), drop-of-length-le p {i = w} (omega arith))
+seam w n p (y ∷ q) h g = (take-at p (y ∷ q) w (omega arith), drop-at p (y ∷ q) w (omega arith))
 
 module _ {A : Type 0} (w : ℕ) (f : A → List ℕ → List ℕ) where
   -- each element on its own w bytes; what is over stays
@@ -44,7 +84,7 @@ module _ {A : Type 0} (w : ℕ) (f : A → List ℕ → List ℕ) where
     partsTo-next zero xs m h = refl
     partsTo-next (suc k) [] m h = refl
     partsTo-next (suc k) (x ∷ xs) m h =
-        let e : w * suc k ≡ w + w * k = mul-suc w k ∙ add-comm (w * k) w in
+        let e : w * suc k ≡ w + w * k = before-suc w k in
         let p : length (f x (take w m)) ≡ w = keeps x (take w m) ∙ length-take w m ∙ omega arith in
         let i : w * k ≤ length (drop w m) = rw length-drop (omega arith) in
         rw e
@@ -59,8 +99,8 @@ module _ {A : Type 0} (w : ℕ) (f : A → List ℕ → List ℕ) where
     unfolding partsTo
     partsTo-suc zero (x ∷ xs) m d l h = rw mul-zero
     partsTo-suc (suc k) (x ∷ xs) m d (suc-le-suc l) h =
-        let e : w * suc k ≡ w + w * k = mul-suc w k ∙ add-comm (w * k) w in
-        let e′ : w * suc (suc k) ≡ w + w * suc k = mul-suc w (suc k) ∙ add-comm (w * suc k) w in
+        let e : w * suc k ≡ w + w * k = before-suc w k in
+        let e′ : w * suc (suc k) ≡ w + w * suc k = before-suc w (suc k) in
         let P = f x (take w m) in
         let R = partsTo k xs (drop w m) in
         let p : length P ≡ w = keeps x (take w m) ∙ length-take w m ∙ omega arith in
@@ -75,7 +115,17 @@ module _ {A : Type 0} (w : ℕ) (f : A → List ℕ → List ℕ) where
         ≡ partsTo (k + 1) xs m
     partsTo-step k a e xs m d ha he l h = rw (he, ha, add-one) (partsTo-suc k xs m d l (rw (← add-one) h))
 
--- the kth part
-unfoldable pub part : ℕ → ℕ → List ℕ → List ℕ
-part w zero m = take w m
-part w (suc k) m = part w k (drop w m)
+    pub length-eachPart : (xs : List A) (m : List ℕ) → length (eachPart xs m) ≡ length m
+    length-eachPart xs m = ap length (sym (partsTo-all xs m)) ∙ length-partsTo (length xs) xs m
+
+    seam-eachPart : (x : A) (xs : List A) (m : List ℕ)
+        → (take w (eachPart (x ∷ xs) m) ≡ f x (take w m)) × (drop w (eachPart (x ∷ xs) m) ≡ eachPart xs (drop w m))
+    unfolding eachPart
+    seam-eachPart x xs m =
+        seam w (length m) (f x (take w m)) (eachPart xs (drop w m)) (keeps x (take w m) ∙ length-take w m) (length-eachPart xs (drop w m) ∙ length-drop w m)
+
+    -- each part is changed by its own element, and by nothing else
+    pub part-eachPart : (xs : List A) (m : List ℕ) (k : ℕ) (d : A) → k < length xs → part w k (eachPart xs m) ≡ f (getD xs k d) (part w k m)
+    unfolding part
+    part-eachPart (x ∷ xs) m zero d h = seam-eachPart x xs m .0
+    part-eachPart (x ∷ xs) m (suc k) d (suc-le-suc h) = ap (part w k) (seam-eachPart x xs m .1) ∙ part-eachPart xs (drop w m) k d h

@@ -1,9 +1,14 @@
 pub mod Cases
+pub mod Unchanged
+pub mod Masks
+pub mod Floor
+pub mod SensorSteps
+pub mod Locks
 pub mod SensorKept
 pub mod Kept
 pub mod InStep
-pub mod Protection
+pub mod Everywhere
 pub mod Stored
+pub mod Protection
 pub mod Rulings
 pub mod Sentences
-pub mod Everywhere

@@ -1,8 +1,237 @@
-use mathlib.Core.Path.{_≡_}
-use mathlib.Core.List.{List}
+-- When a slot's protection changes, and who decides to what: each step is calm, or is a tick, or is a control byte that the slot acknowledges.
+-- Assumes nothing.
+use Prim.Native.Nat.{ℕ, _+_, _*_, _/_}
+use mathlib.Core.Path.{_≡_, refl, ap, _∙_}
+use mathlib.Core.Logic.{_⊎_, inl, inr, ⊎-elim}
+use mathlib.Core.Bool.{Bool, true, false, not, cond, _&&_}
+use mathlib.Core.List.{List, map}
+use lib.Dec.{eqb, leb}
+use lib.ListN.{length, set}
+use Rattle.lists.specs.Tests.{cond-cases}
+use Rattle.lists.specs.Each.{map-mapFrom, length-mapFrom}
+use Rattle.rules.specs.declared.Act.{Act}
+use Rattle.rules.specs.declared.Act.the-variants.{Start, Byte, Read, Stop, Timeout, Tick, Voltage, Power, Temperature}
+use Rattle.rules.specs.declared.BlockNo.{BlockNo}
+use Rattle.rules.specs.declared.Bus.{Bus}
 use Rattle.rules.specs.declared.Event.{Event}
+use Rattle.rules.specs.declared.Heard.{Heard}
+use Rattle.rules.specs.declared.Heard.the-variants.{Memory, Sensor, Protect, ClearAll, ReadProtection, SelectHalf, ReadHalf, Nothing}
+use Rattle.rules.specs.declared.Phase.{Phase}
+use Rattle.rules.specs.declared.Phase.the-variants.{Idle, Control, Deaf, MemoryCounter, MemoryData, MemoryRead, HalfSelected, CommandAddress, CommandData, CommandStop, SensorPointer, SensorHigh, SensorLow, SensorReadHigh, SensorReadLow}
+use Rattle.rules.specs.declared.Slot.{Slot}
+use Rattle.rules.specs.Fields.{withVoltage, withSensor}
+use Rattle.rules.specs.Fresh.{noBlocks, freshSlot, powered}
+use Rattle.rules.specs.Sensor.{written}
+use Rattle.rules.specs.Control.{heardOf, acksControl, obeyed, controlled}
+use Rattle.rules.specs.Memory.{steady, cleared, settled, guarded, anyMark, ticked}
+use Rattle.rules.specs.Slot.{standing, commanding, holds, letGo, byteIn, readIn, stopIn, slotNext, acksIn, acks}
+use Rattle.rules.specs.Bus.{busNext}
 use Rattle.rules.specs.Refusals.{kindsOf}
-use Rattle.rules.specs.Runs.{Bench, after}
+use Rattle.rules.specs.Runs.{Bench, taken, next, after}
+use Rattle.rules.specs.Open.{open-fields, open-memory, open-slot}
+use Rattle.rules.proofs.Unchanged.{same-next, same-after}
+use Rattle.rules.proofs.Stored.{isTick}
+
+-- What decides the protection to come, when slot n is s and the act is a; after it `stands` is protected, and `comes` is to come.
+pub data Decided (n : ℕ) (a : Act) (s : Slot) (stands comes : List Bool) : Type 0 where
+  asBefore : comes ≡ s .coming → Decided n a s stands comes
+  asStands : comes ≡ stands → Decided n a s stands comes
+  byProtect : (b : ℕ) (k : BlockNo) → a ≡ Byte b → standing s ≡ Control → acks n b s ≡ true → heardOf b ≡ Protect k
+      → comes ≡ set (s .protection) (k .0) true → Decided n a s stands comes
+  byClear : (b : ℕ) → a ≡ Byte b → standing s ≡ Control → acks n b s ≡ true → heardOf b ≡ ClearAll → comes ≡ noBlocks → Decided n a s stands comes
+
+-- what an act does to those fields of a slot that outlast an exchange
+record Step (n : ℕ) (a : Act) (s r : Slot) : Type 0 where
+  kind : r .kind ≡ s .kind
+  length : r .length ≡ s .length
+  protection : r .protection ≡ cond (isTick a && eqb (s .left) 1) (s .coming) (s .protection)
+  coming : Decided n a s (r .protection) (r .coming)
+
+-- nothing decided: what is to come stays, or is dropped. As fields alone, so that a step which replaces others needs no word.
+abbrev Calm : Slot → Slot → Type 0
+Calm s r = (r .kind ≡ s .kind) × (r .length ≡ s .length) × (r .protection ≡ s .protection) × ((r .coming ≡ s .coming) ⊎ (r .coming ≡ r .protection))
+
+kept : (s : Slot) → Calm s s
+kept s = (refl, refl, refl, inl refl)
+
+dropped : (s : Slot) → Calm s (steady s)
+unfolding open-fields open-memory
+dropped s = (refl, refl, refl, inr refl)
+
+gone : (s : Slot) → Calm s (settled s)
+unfolding open-fields open-memory
+gone s = cond-cases (λ (r : Slot). Calm s (cleared r)) (eqb (s .left) 0) (λ e. dropped s) (λ e. kept s)
+
+-- an exchange that ends early
+let-go : (s : Slot) → Calm s (letGo s)
+unfolding letGo
+let-go s = cond-cases (Calm s) (holds (standing s)) (λ e. gone s) (λ e. kept s)
+
+-- a read and a stop in each phase
+read-calm : (p : Phase) (more : Bool) (s : Slot) → Calm s (readIn p more s)
+unfolding open-fields open-memory open-slot
+read-calm Idle more s = kept s
+read-calm Control more s = kept s
+read-calm Deaf more s = kept s
+read-calm MemoryCounter more s = gone s
+read-calm MemoryData more s = gone s
+read-calm MemoryRead more s = kept s
+read-calm HalfSelected more s = gone s
+read-calm CommandAddress more s = gone s
+read-calm CommandData more s = gone s
+read-calm CommandStop more s = gone s
+read-calm SensorPointer more s = gone s
+read-calm SensorHigh more s = gone s
+read-calm SensorLow more s = gone s
+read-calm SensorReadHigh more s = cond-cases (Calm s) more (λ e. kept s) (λ e. gone s)
+read-calm SensorReadLow more s = gone s
+
+stop-calm : (p : Phase) (s : Slot) → Calm s (stopIn p s)
+unfolding open-fields open-memory open-slot
+stop-calm Idle s = kept s
+stop-calm Control s = kept s
+stop-calm Deaf s = kept s
+stop-calm MemoryCounter s = kept s
+stop-calm MemoryData s = cond-cases (Calm s) (anyMark (s .marks)) (λ e. dropped s) (λ e. gone s)
+stop-calm MemoryRead s = kept s
+stop-calm HalfSelected s = kept s
+stop-calm CommandAddress s = gone s
+stop-calm CommandData s = gone s
+stop-calm CommandStop s = kept s
+stop-calm SensorPointer s = kept s
+stop-calm SensorHigh s = kept s
+stop-calm SensorLow s = gone s
+stop-calm SensorReadHigh s = gone s
+stop-calm SensorReadLow s = gone s
+
+-- a calm step is as it should be, unless it is a tick's
+calm : {n : ℕ} (a : Act) {s r : Slot} → isTick a ≡ false → Calm s r → Step n a s r
+calm a t c = record { kind = c .0; length = c .1; protection = rw t (c .2); coming = ⊎-elim asBefore asStands (c .3) }
+
+module _ (n b : ℕ) (s : Slot) where
+  quiet : {r : Slot} → Calm s r → Step n (Byte b) s r
+  unfolding isTick
+  quiet = calm (Byte b) refl
+
+  -- the control byte that the slot acknowledges
+  heard-step : (h : Heard) → standing s ≡ Control → acks n b s ≡ true → heardOf b ≡ h → Step n (Byte b) s (obeyed h s)
+  unfolding open-fields obeyed isTick
+  heard-step (Memory k false) p a e = quiet (kept s)
+  heard-step (Memory k true) p a e = quiet (kept s)
+  heard-step (Sensor k false) p a e = quiet (kept s)
+  heard-step (Sensor k true) p a e = quiet (kept s)
+  heard-step (Protect k) p a e = record { kind = refl; length = refl; protection = refl; coming = byProtect b k refl p a e refl }
+  heard-step ClearAll p a e = record { kind = refl; length = refl; protection = refl; coming = byClear b refl p a e refl }
+  heard-step (ReadProtection k) p a e = quiet (kept s)
+  heard-step (SelectHalf h) p a e = quiet (kept s)
+  heard-step ReadHalf p a e = quiet (kept s)
+  heard-step Nothing p a e = quiet (kept s)
+
+  -- a byte in each phase
+  byte-step : (p : Phase) → standing s ≡ p → Step n (Byte b) s (byteIn p n b s)
+  unfolding open-fields open-memory open-slot controlled
+  byte-step Idle p = quiet (kept s)
+  byte-step Control p =
+      cond-cases (Step n (Byte b) s) (acksControl n b s) (λ a. heard-step (heardOf b) p (ap (λ (q : Phase). acksIn q n b s) p ∙ a) refl) (λ a. quiet (kept s))
+  byte-step Deaf p = quiet (kept s)
+  byte-step MemoryCounter p = quiet (kept s)
+  byte-step MemoryData p = quiet (cond-cases (Calm s) (guarded s) (λ e. gone s) (λ e. kept s))
+  byte-step MemoryRead p = quiet (gone s)
+  byte-step HalfSelected p = quiet (kept s)
+  byte-step CommandAddress p = quiet (kept s)
+  byte-step CommandData p = quiet (kept s)
+  byte-step CommandStop p = quiet (gone s)
+  byte-step SensorPointer p = quiet (cond-cases (Calm s) (leb b 0x09) (λ e. kept s) (λ e. gone s))
+  byte-step SensorHigh p = quiet (kept s)
+  byte-step SensorLow p = quiet (gone (withSensor (written (s .sensor) (s .sensor .pointer) (s .sensor .word / 256 * 256 + b)) s))
+  byte-step SensorReadHigh p = quiet (gone s)
+  byte-step SensorReadLow p = quiet (gone s)
+
+tick-step : (n : ℕ) (s : Slot) → Step n Tick s (ticked s)
+unfolding open-fields open-memory isTick
+tick-step n s = cond-cases (Step n Tick s) (eqb (s .left) 1)
+    (λ e. record { kind = refl; length = refl; protection = rw e; coming = asBefore refl })
+    (λ e. record { kind = refl; length = refl; protection = rw e; coming = asBefore refl })
+
+slot-step : (n : ℕ) (a : Act) (s : Slot) → Step n a s (slotNext n a s)
+unfolding open-fields open-memory open-slot powered freshSlot isTick
+slot-step n Start s = calm Start refl (let-go s)
+slot-step n (Byte b) s = byte-step n b s (standing s) refl
+slot-step n (Read more) s = calm (Read more) refl (read-calm (standing s) more s)
+slot-step n Stop s = calm Stop refl (stop-calm (standing s) s)
+slot-step n Timeout s = calm Timeout refl (let-go s)
+slot-step n Tick s = tick-step n s
+slot-step n (Voltage k on) s = calm (Voltage k on) refl (cond-cases (Calm s) (eqb (k .0) n)
+    (λ e. cond-cases (λ (r : Slot). Calm s (withVoltage on r)) (commanding (standing s) && not on) (λ e. gone s) (λ e. kept s)) (λ e. kept s))
+slot-step n Power s = calm Power refl (dropped s)
+slot-step n (Temperature k t) s = calm (Temperature k t) refl (cond-cases (Calm s) (eqb (k .0) n) (λ e. kept s) (λ e. kept s))
+
+-- protection changes only at the tick that ends a cycle, and then to what was to come
+pub protection-next : (n : ℕ) (a : Act) (s : Slot) → (slotNext n a s) .protection ≡ cond (isTick a && eqb (s .left) 1) (s .coming) (s .protection)
+protection-next n a s = slot-step n a s .protection
+
+-- what is to come is decided by protect and clear alone
+pub coming-next : (n : ℕ) (a : Act) (s : Slot) → Decided n a s ((slotNext n a s) .protection) ((slotNext n a s) .coming)
+coming-next n a s = slot-step n a s .coming
+
+pub kind-next : (n : ℕ) (a : Act) (s : Slot) → (slotNext n a s) .kind ≡ s .kind
+kind-next n a s = slot-step n a s .kind
+
+pub length-next : (n : ℕ) (a : Act) (s : Slot) → (slotNext n a s) .length ≡ s .length
+length-next n a s = slot-step n a s .length
+
+-- what no act changes of a slot, no event and no run changes of any slot
+module _ (g : Slot → ℕ) (same : (n : ℕ) (a : Act) (s : Slot) → g (slotNext n a s) ≡ g s) where
+  each-bus : (a : Act) (b : Bus) → map g ((busNext a b) .slots) ≡ map g (b .slots)
+  unfolding busNext
+  each-bus a b = map-mapFrom g (λ n s. slotNext n a s) (λ n s. same n a s) 0 (b .slots)
+
+  each-taken : (a : Act) (x : Bench) → map g ((taken a x) .bus .slots) ≡ map g (x .bus .slots)
+  unfolding taken
+  each-taken a x = each-bus a (x .bus)
+
+  each-next : (e : Event) (x : Bench) → map g ((next e x) .bus .slots) ≡ map g (x .bus .slots)
+  each-next = same-next (λ (x : Bench). map g (x .bus .slots)) each-taken
+
+  each-after : (es : List Event) (x : Bench) → map g ((after es x) .bus .slots) ≡ map g (x .bus .slots)
+  each-after = same-after (λ (x : Bench). map g (x .bus .slots)) each-taken
+
+-- the slots' kinds, on which refusals go
+pub kinds-bus : (a : Act) (b : Bus) → kindsOf (busNext a b) ≡ kindsOf b
+unfolding kindsOf
+kinds-bus = each-bus (λ (s : Slot). s .kind) kind-next
+
+pub kinds-next : (e : Event) (x : Bench) → kindsOf ((next e x) .bus) ≡ kindsOf (x .bus)
+unfolding kindsOf
+kinds-next = each-next (λ (s : Slot). s .kind) kind-next
 
 pub kinds-after : (es : List Event) (x : Bench) → kindsOf ((after es x) .bus) ≡ kindsOf (x .bus)
-kinds-after es x = ?
+unfolding kindsOf
+kinds-after = each-after (λ (s : Slot). s .kind) kind-next
+
+-- the lengths of their write cycles
+unfoldable pub lengthsOf : Bus → List ℕ
+lengthsOf b = map (λ (s : Slot). s .length) (b .slots)
+
+pub lengths-bus : (a : Act) (b : Bus) → lengthsOf (busNext a b) ≡ lengthsOf b
+unfolding lengthsOf
+lengths-bus = each-bus (λ (s : Slot). s .length) length-next
+
+pub lengths-next : (e : Event) (x : Bench) → lengthsOf ((next e x) .bus) ≡ lengthsOf (x .bus)
+unfolding lengthsOf
+lengths-next = each-next (λ (s : Slot). s .length) length-next
+
+pub lengths-after : (es : List Event) (x : Bench) → lengthsOf ((after es x) .bus) ≡ lengthsOf (x .bus)
+unfolding lengthsOf
+lengths-after = each-after (λ (s : Slot). s .length) length-next
+
+-- and their number
+number-taken : (a : Act) (x : Bench) → length ((taken a x) .bus .slots) ≡ length (x .bus .slots)
+unfolding taken busNext
+number-taken a x = length-mapFrom (λ n s. slotNext n a s) 0 (x .bus .slots)
+
+pub number-next : (e : Event) (x : Bench) → length ((next e x) .bus .slots) ≡ length (x .bus .slots)
+number-next = same-next (λ (x : Bench). length (x .bus .slots)) number-taken
+
+pub number-after : (es : List Event) (x : Bench) → length ((after es x) .bus .slots) ≡ length (x .bus .slots)
+number-after = same-after (λ (x : Bench). length (x .bus .slots)) number-taken

@@ -20,7 +20,7 @@ use Rattle.rules.specs.Refusals.{wrongLength, unknownKind, kindsOf, wron
 use Rattle.rules.specs.Runs.{Bench, rulingOn, next, after}
 use Rattle.rules.proofs.Kept.{setup-in-range, after-in-range}
 use Rattle.rules.proofs.Protection.{kinds-after}
-use Rattle.rules.proofs.Stored.{length-after}
+use Rattle.rules.proofs.Stored.{memory-length-after}
 
 -- the rows as conditions on what is handed in, each with those before it in the order 1, 6, 2, 3, 4 not met
 pub data Judged (b : Bus) (m : List ℕ) (e : Event) : Ruling → Type 0 where
@@ -70,5 +70,5 @@ pub ruling-by-setup : (ps : List Pair) (m : List ℕ) (es : List Event) (e : Eve
 unfolding rulingOn
 ruling-by-setup ps m es e l =
     let x : Bench = record { bus = setupOf ps .bus; memory = m } in
-    ruling-by-kinds ((after es x) .bus) ((after es x) .memory) e (length-after es x ∙ l) (after-in-range es x (setup-in-range ps))
+    ruling-by-kinds ((after es x) .bus) ((after es x) .memory) e (memory-length-after es x ∙ l) (after-in-range es x (setup-in-range ps))
     ∙ ap (λ ks. ruledBy ks e) (kinds-after es x)

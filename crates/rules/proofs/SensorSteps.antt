@@ -1,0 +1,196 @@
+-- What can happen to a slot's sensor: a relation that each change of a sensor respects is respected by every step of the slot, save power, and by every run of such steps.
+-- Assumes nothing.
+use mathlib.Core.Path.{_≡_, refl, sym, _∙_}
+use mathlib.Core.Bool.{Bool, true, false, false≢true, not, _&&_}
+use mathlib.Core.List.{List, [], _∷_}
+use Prim.Native.Nat.{ℕ, _+_, _*_, _/_}
+use borrow.Author.Tests.{not-true}
+use lib.Bits.{bitAnd}
+use lib.Dec.{eqb, leb}
+use lib.IntN.{ℤ}
+use Rattle.lists.specs.Each.{allOf}
+use Rattle.lists.specs.Tests.{cond-cases, and-left, and-right}
+use Rattle.rules.specs.declared.Act.{Act}
+use Rattle.rules.specs.declared.Act.the-variants.{Start, Byte, Read, Stop, Timeout, Tick, Voltage, Power, Temperature}
+use Rattle.rules.specs.declared.Heard.{Heard}
+use Rattle.rules.specs.declared.Heard.the-variants as heard
+use Rattle.rules.specs.declared.Phase.{Phase}
+use Rattle.rules.specs.declared.Phase.the-variants.{Idle, Control, Deaf, MemoryCounter, MemoryData, MemoryRead, HalfSelected, CommandAddress, CommandData, CommandStop, SensorPointer, SensorHigh, SensorLow, SensorReadHigh, SensorReadLow}
+use Rattle.rules.specs.declared.Sensor.{Sensor}
+use Rattle.rules.specs.declared.Slot.{Slot}
+use Rattle.rules.specs.Control.{acksControl, heardOf, obeyed}
+use Rattle.rules.specs.Fields.{withSensor, pointing, withWord, withConfiguration, withHigh, withLow, withCritical, withResolution, withTimeout}
+use Rattle.rules.specs.Fresh.{freshSensor, freshSlot, powered}
+use Rattle.rules.specs.Memory.{cleared, settled, guarded, anyMark}
+use Rattle.rules.specs.Open.{open-fields, open-memory, open-control, open-slot}
+use Rattle.rules.specs.Sensor.{limitBits, resolutionBits, timeoutBits, criticalLocked, limitsLocked, configured, written, converted}
+use Rattle.rules.specs.Slot.{standing, commanding, holds, byteIn, readIn, stopIn, slotNext, letGo, switched}
+
+-- a write replaces one register, no locked one, or changes nothing
+pub written-cases : (P : Sensor → Type 0) (x : Sensor) (p v : ℕ)
+    → P x
+    → P (withConfiguration (configured (x .configuration) v) x)
+    → (limitsLocked (x .configuration) ≡ false → P (withHigh (bitAnd v limitBits) x))
+    → (limitsLocked (x .configuration) ≡ false → P (withLow (bitAnd v limitBits) x))
+    → (criticalLocked (x .configuration) ≡ false → P (withCritical (bitAnd v limitBits) x))
+    → P (withResolution (bitAnd v resolutionBits) x)
+    → P (withTimeout (bitAnd v timeoutBits) x)
+    → P (written x p v)
+unfolding written
+written-cases P x p v same configuration high low critical resolution timeout =
+    cond-cases P (eqb p 0x01) (λ e. configuration)
+    (λ e. cond-cases P (eqb p 0x02) (λ e. cond-cases P (limitsLocked (x .configuration)) (λ e. same) high)
+    (λ e. cond-cases P (eqb p 0x03) (λ e. cond-cases P (limitsLocked (x .configuration)) (λ e. same) low)
+    (λ e. cond-cases P (eqb p 0x04) (λ e. cond-cases P (criticalLocked (x .configuration)) (λ e. same) critical)
+    (λ e. cond-cases P (eqb p 0x08) (λ e. resolution)
+    (λ e. cond-cases P (eqb p 0x09) (λ e. timeout)
+    (λ e. same))))))
+
+-- R x y relates the sensor x to the sensor y that it becomes: every change respects it, also one after another
+pub record Respected (R : Sensor → Sensor → Type 0) : Type 0 where
+  pub same : (x : Sensor) → R x x
+  pub joined : (x y z : Sensor) → R x y → R y z → R x z
+  pub worded : (v : ℕ) (x : Sensor) → R x (withWord v x)
+  pub pointed : (b : ℕ) (x : Sensor) → leb b 0x09 ≡ true → R x (pointing b x)
+  pub writes : (x : Sensor) (p v : ℕ) → R x (written x p v)
+  pub converts : (x : Sensor) (t : ℤ) → R x (converted x t)
+
+unfoldable pub isPower : Act → Bool
+isPower Start = false
+isPower (Byte b) = false
+isPower (Read more) = false
+isPower Stop = false
+isPower Timeout = false
+isPower Tick = false
+isPower (Voltage k on) = false
+isPower Power = true
+isPower (Temperature k t) = false
+
+unfoldable pub withoutPower : List Act → Bool
+withoutPower r = allOf (λ a. not (isPower a)) r
+
+-- a run of acts, on slot n alone
+unfoldable pub slotAfter : ℕ → List Act → Slot → Slot
+slotAfter n [] s = s
+slotAfter n (a ∷ r) s = slotAfter n r (slotNext n a s)
+
+module _ (R : Sensor → Sensor → Type 0) (every : Respected R) where
+  -- from the slot s to the slot t
+  abbrev Goes : Slot → Slot → Type 0
+  Goes s t = R (s .sensor) (t .sensor)
+
+  still : (s : Slot) → Goes s s
+  still s = every .same (s .sensor)
+
+  -- the word of an exchange is let go
+  wordless : (s : Slot) → R (s .sensor) (withWord 0x0000 (s .sensor))
+  wordless s = every .worded 0x0000 (s .sensor)
+
+  settled-goes : (s : Slot) → Goes s (settled s)
+  unfolding open-fields open-memory
+  settled-goes s = cond-cases (λ (t : Slot). Goes s (cleared t)) (eqb (s .left) 0) (λ e. wordless s) (λ e. wordless s)
+
+  letGo-goes : (s : Slot) → Goes s (letGo s)
+  unfolding letGo
+  letGo-goes s = cond-cases (Goes s) (holds (standing s)) (λ e. settled-goes s) (λ e. still s)
+
+  obeyed-goes : (h : Heard) (s : Slot) → Goes s (obeyed h s)
+  unfolding open-fields obeyed
+  obeyed-goes (heard.Memory k false) s = still s
+  obeyed-goes (heard.Memory k true) s = still s
+  obeyed-goes (heard.Sensor k false) s = still s
+  obeyed-goes (heard.Sensor k true) s = every .worded _ (s .sensor)
+  obeyed-goes (heard.Protect k) s = still s
+  obeyed-goes heard.ClearAll s = still s
+  obeyed-goes (heard.ReadProtection k) s = still s
+  obeyed-goes (heard.SelectHalf h) s = still s
+  obeyed-goes heard.ReadHalf s = still s
+  obeyed-goes heard.Nothing s = still s
+
+  byte-goes : (p : Phase) (n b : ℕ) (s : Slot) → Goes s (byteIn p n b s)
+  unfolding open-fields open-memory open-slot open-control
+  byte-goes Idle n b s = still s
+  byte-goes Control n b s = cond-cases (Goes s) (acksControl n b s) (λ e. obeyed-goes (heardOf b) s) (λ e. still s)
+  byte-goes Deaf n b s = still s
+  byte-goes MemoryCounter n b s = still s
+  byte-goes MemoryData n b s = cond-cases (Goes s) (guarded s) (λ e. settled-goes s) (λ e. still s)
+  byte-goes MemoryRead n b s = settled-goes s
+  byte-goes HalfSelected n b s = still s
+  byte-goes CommandAddress n b s = still s
+  byte-goes CommandData n b s = still s
+  byte-goes CommandStop n b s = settled-goes s
+  byte-goes SensorPointer n b s =
+      cond-cases (Goes s) (leb b 0x09) (λ e. every .pointed b (s .sensor) e) (λ e. settled-goes s)
+  byte-goes SensorHigh n b s = every .worded (b * 256) (s .sensor)
+  byte-goes SensorLow n b s =
+      let p = s .sensor .pointer in
+      let v = s .sensor .word / 256 * 256 + b in
+      let x = written (s .sensor) p v in
+      every .joined (s .sensor) x _ (every .writes (s .sensor) p v) (settled-goes (withSensor x s))
+  byte-goes SensorReadHigh n b s = settled-goes s
+  byte-goes SensorReadLow n b s = settled-goes s
+
+  read-goes : (p : Phase) (more : Bool) (s : Slot) → Goes s (readIn p more s)
+  unfolding open-fields open-memory open-slot
+  read-goes Idle more s = still s
+  read-goes Control more s = still s
+  read-goes Deaf more s = still s
+  read-goes MemoryCounter more s = settled-goes s
+  read-goes MemoryData more s = settled-goes s
+  read-goes MemoryRead more s = still s
+  read-goes HalfSelected more s = settled-goes s
+  read-goes CommandAddress more s = settled-goes s
+  read-goes CommandData more s = settled-goes s
+  read-goes CommandStop more s = settled-goes s
+  read-goes SensorPointer more s = settled-goes s
+  read-goes SensorHigh more s = settled-goes s
+  read-goes SensorLow more s = settled-goes s
+  read-goes SensorReadHigh more s = cond-cases (Goes s) more (λ e. still s) (λ e. settled-goes s)
+  read-goes SensorReadLow more s = settled-goes s
+
+  stop-goes : (p : Phase) (s : Slot) → Goes s (stopIn p s)
+  unfolding open-fields open-memory open-slot
+  stop-goes Idle s = still s
+  stop-goes Control s = still s
+  stop-goes Deaf s = still s
+  stop-goes MemoryCounter s = still s
+  stop-goes MemoryData s = cond-cases (Goes s) (anyMark (s .marks)) (λ e. wordless s) (λ e. settled-goes s)
+  stop-goes MemoryRead s = still s
+  stop-goes HalfSelected s = still s
+  stop-goes CommandAddress s = settled-goes s
+  stop-goes CommandData s = settled-goes s
+  stop-goes CommandStop s = wordless s
+  stop-goes SensorPointer s = still s
+  stop-goes SensorHigh s = still s
+  stop-goes SensorLow s = settled-goes s
+  stop-goes SensorReadHigh s = settled-goes s
+  stop-goes SensorReadLow s = settled-goes s
+
+  -- power puts the sensor at its defaults: what that must respect is asked of the caller
+  pub step-respects : (n : ℕ) (a : Act) (s : Slot) → (isPower a ≡ true → R (s .sensor) freshSensor) → R (s .sensor) ((slotNext n a s) .sensor)
+  unfolding isPower slotNext switched powered freshSlot open-fields open-memory
+  step-respects n Start s fresh = letGo-goes s
+  step-respects n (Byte b) s fresh = byte-goes (standing s) n b s
+  step-respects n (Read more) s fresh = read-goes (standing s) more s
+  step-respects n Stop s fresh = stop-goes (standing s) s
+  step-respects n Timeout s fresh = letGo-goes s
+  step-respects n Tick s fresh = cond-cases (Goes s) (eqb (s .left) 1) (λ e. still s) (λ e. still s)
+  step-respects n (Voltage k on) s fresh =
+      cond-cases (Goes s) (eqb (k .0) n)
+      (λ e. cond-cases (Goes s) (commanding (standing s) && not on) (λ e. settled-goes s) (λ e. still s))
+      (λ e. still s)
+  step-respects n Power s fresh = fresh refl
+  step-respects n (Temperature k t) s fresh =
+      cond-cases (Goes s) (eqb (k .0) n) (λ e. every .converts (s .sensor) t) (λ e. still s)
+
+  pub step-without-power : (n : ℕ) (a : Act) (s : Slot) → isPower a ≡ false → R (s .sensor) ((slotNext n a s) .sensor)
+  step-without-power n a s h = step-respects n a s (λ e. absurd (false≢true (sym h ∙ e)))
+
+  pub run-without-power : (n : ℕ) (r : List Act) (s : Slot) → withoutPower r ≡ true → R (s .sensor) ((slotAfter n r s) .sensor)
+  unfolding slotAfter withoutPower allOf
+  run-without-power n [] s h = still s
+  run-without-power n (a ∷ r) s h =
+      let t = slotNext n a s in
+      every .joined (s .sensor) (t .sensor) ((slotAfter n r t) .sensor)
+      (step-without-power n a s (not-true (isPower a) (and-left (not (isPower a)) (withoutPower r) h)))
+      (run-without-power n r t (and-right (not (isPower a)) (withoutPower r) h))
