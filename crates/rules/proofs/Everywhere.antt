@@ -1,12 +1,10 @@
 -- What every act keeps of a slot, every event keeps of all slots, and every run; and what every fresh slot has, every run from setup has.
 -- Assumes nothing.
 use Prim.Native.Nat.{ℕ}
-use mathlib.Core.Bool.{Bool, cond}
 use mathlib.Core.List.{List, [], _∷_, map}
 use Rattle.lists.specs.Each.{Every, every-mapFrom, every-replicate, allOf}
 use Rattle.lists.specs.Tests.{cond-cases}
 use Rattle.rules.specs.declared.Act.{Act}
-use Rattle.rules.specs.declared.Bus.{Bus}
 use Rattle.rules.specs.declared.Event.{Event}
 use Rattle.rules.specs.declared.Outcome.{Outcome}
 use Rattle.rules.specs.declared.Pair.{Pair}

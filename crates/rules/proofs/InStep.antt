@@ -2,9 +2,8 @@
 -- Assumes nothing.
 use Prim.Native.Nat.{ℕ, _+_, _*_, _/_, _%_}
 use native.Mathlib.Omega.{arith}
-use mathlib.Core.Path.{_≡_, refl, sym, _∙_, ap, subst}
-use mathlib.Core.Bool.{Bool, true, false, not, cond, _&&_, _||_}
-use mathlib.Core.List.{List, [], _∷_, map}
+use mathlib.Core.Path.{_≡_, refl}
+use mathlib.Core.Bool.{Bool, true, false, not, _&&_, _||_}
 use lib.Dec.{eqb, leb}
 use Rattle.lists.specs.Tests.{cond-cases}
 use Rattle.rules.specs.declared.Act.{Act}
@@ -17,7 +16,6 @@ use Rattle.rules.specs.declared.Slot.{Slot}
 use Rattle.rules.specs.Modelled.{absent, sensing}
 use Rattle.rules.specs.Open.{open-fields}
 use Rattle.rules.specs.Fresh.{freshSlot, powered}
-use Rattle.rules.specs.Sensor.{converted}
 use Rattle.rules.specs.Control.{acksControl, heardOf, obeyed, controlled}
 use Rattle.rules.specs.Memory.{emptied, ended, ticked, lost, loaded, guarded, latching, dataByte, fetched}
 use Rattle.rules.specs.Slot.{standing, withSensorIn, commanding, pointer, firstByte, secondByte, byteIn, readIn, switched, slotNext}
@@ -89,7 +87,7 @@ on-in-step place counter e = omega arith
 
 data-step : (b : ℕ) (s : Slot) → s .place ≡ s .counter % 16 → InStep (dataByte b s)
 unfolding dataByte latching open-fields
-data-step b s q = cond-cases InStep (guarded s) (λ e. lost-step s) (λ e. agree (s .phase) _ _ (on-in-step (s .place) (s .counter) q))
+data-step b s q = cond-cases InStep (guarded s) (λ e. lost-step _) (λ e. agree (s .phase) _ _ (on-in-step (s .place) (s .counter) q))
 
 byte-step : (p : Phase) (n b : ℕ) (s : Slot) → inStepAt p (s .place) (s .counter) → InStep s → InStep (byteIn p n b s)
 unfolding byteIn controlled loaded emptied pointer firstByte secondByte open-fields

@@ -1,16 +1,15 @@
 -- Row 6: setup's bus is in range, and every event keeps the range; so no run from setup, refused events among it, meets refusal 6.
 -- Assumes nothing.
-use Prim.Native.Nat.{ℕ, suc, _+_, _-_, _*_, _/_, _%_, _<_, _≤_}
+use Prim.Native.Nat.{ℕ, _-_, _/_, _≤_}
 use native.Mathlib.Omega.{arith}
-use mathlib.Core.Path.{_≡_, refl, sym, _∙_, ap, subst}
+use mathlib.Core.Path.{_≡_, refl, sym, _∙_}
 use mathlib.Core.Bool.{Bool, true, false, false≢true, not, cond, _&&_, _||_}
 use mathlib.Core.List.{List, [], _∷_, map}
 use lib.Dec.{eqb, leb, ltb}
 use lib.IntN.{ℤ, pos, negsuc, natAbs}
-use lib.ListN.{set}
-use borrow.Author.Tests.{leb-true, ltb-false, eqb-true, eqb-false, le-leb, eq-eqb, not-true}
-use Rattle.lists.specs.Each.{mapFrom, allOf, allOf-mapFrom}
-use Rattle.lists.specs.Tests.{cond-cases, by-test, and-left, and-right, both, or-cases, or-left-false, or-right-false, cond-true, cond-false}
+use borrow.Author.Tests.{leb-true, ltb-false, le-leb}
+use Rattle.lists.specs.Each.{allOf, allOf-mapFrom}
+use Rattle.lists.specs.Tests.{cond-cases, by-test, and-left, and-right, both, or-right-false}
 use Rattle.rules.specs.declared.Act.{Act}
 use Rattle.rules.specs.declared.Act.the-variants.{Start, Byte, Read, Stop, Timeout, Tick, Voltage, Power, Temperature}
 use Rattle.rules.specs.declared.Answer.{Answer}
@@ -23,24 +22,23 @@ use Rattle.rules.specs.declared.Outcome.{Outcome}
 use Rattle.rules.specs.declared.Pair.{Pair}
 use Rattle.rules.specs.declared.Phase.{Phase}
 use Rattle.rules.specs.declared.Phase.the-variants.{Idle, Control, Deaf, MemoryCounter, MemoryData, MemoryRead, HalfSelected, CommandAddress, CommandData, CommandStop, SensorPointer, SensorHigh, SensorLow, SensorReadHigh, SensorReadLow}
-use Rattle.rules.specs.declared.Refusal.{Refusal}
-use Rattle.rules.specs.declared.Refusal.the-variants.{MemoryLength, UnknownKind, WrongSlot, WrongValue, WrongSetup, WrongState}
+use Rattle.rules.specs.declared.Refusal.the-variants.{MemoryLength, UnknownKind, WrongSlot, WrongValue, WrongState}
 use Rattle.rules.specs.declared.Ruling.{Ruling}
 use Rattle.rules.specs.declared.Ruling.the-variants.{Taken, Refused}
 use Rattle.rules.specs.declared.Sensor as sensor
 use Rattle.rules.specs.declared.Slot.{Slot}
 use Rattle.rules.specs.Open.{open-fields, open-all}
 use Rattle.rules.specs.Fields as Fields
-use Rattle.rules.specs.Fields.{inPhase, withLeft, pointing, withWord}
+use Rattle.rules.specs.Fields.{inPhase, withLeft}
 use Rattle.rules.specs.Events.{actOf, refusalNumber}
-use Rattle.rules.specs.Fresh.{freshSlot, freshSensor, setupSlot, absentSlot, powered}
-use Rattle.rules.specs.Sensor.{registerOf, written, converted}
-use Rattle.rules.specs.Control.{commandOf, heardOf, acksControl, acksHeard, obeyed, controlled}
+use Rattle.rules.specs.Fresh.{freshSlot, setupSlot, powered}
+use Rattle.rules.specs.Control.{commandOf, heardOf, acksControl, obeyed, controlled}
 use Rattle.rules.specs.Memory.{emptied, steady, cleared, settled, lost, loaded, guarded, latching, dataByte, fetched, anyMark, storing, dataStop, changing, ended, ticked}
 use Rattle.rules.specs.Slot.{standing, holds, commanding, letGo, pointer, firstByte, secondByte, byteIn, readIn, stopIn, switched, slotNext}
 use Rattle.rules.specs.Bus.{busNext, shown, anyAck}
-use Rattle.rules.specs.Refusals.{wrongLength, unknownKind, kindsOf, wrongSlot, outside, wrongValue, goodLength, goodPair, kindInRange, lengthInRange, sensorInRange, slotInRange, inRange, ruledBy, ruling, emptyBus, setupOf}
+use Rattle.rules.specs.Refusals.{outside, wrongValue, goodLength, goodPair, kindInRange, lengthInRange, sensorInRange, slotInRange, inRange, setupOf}
 use Rattle.rules.specs.Runs.{Bench, taken, given, rulingOn, ruledNext, ruledAnswer, next, answered, after, answers}
+use Rattle.rules.proofs.Judged.{Judged, row-1, row-6, row-2, row-3, row-4, no-row, judged}
 use Rattle.rules.proofs.SensorKept.{fresh-kept, written-kept, converted-kept, word-kept, pointing-kept}
 
 -- the test as facts about the numbers
@@ -366,14 +364,14 @@ fitting : Ruling → Type 0
 fitting (Taken a) = byteFits a ≡ true
 fitting (Refused r) = Unit {0}
 
-ruling-fits : (b : Bus) (m : List ℕ) (e : Event) → fitting (ruling b m e)
-unfolding ruling ruledBy fitting
-ruling-fits b m e =
-    cond-cases fitting (wrongLength m) (λ h. tt) λ h.
-    cond-cases fitting (not (inRange b)) (λ h. tt) λ h.
-    cond-cases fitting (unknownKind e) (λ h. tt) λ h.
-    cond-cases fitting (wrongSlot (kindsOf b) e) (λ h. tt) λ h.
-    cond-cases fitting (wrongValue e) (λ h. tt) (λ h. act-fits e h)
+judged-fits : (b : Bus) (m : List ℕ) (e : Event) (r : Ruling) → Judged b m e r → fitting r
+unfolding fitting
+judged-fits b m e (Refused MemoryLength) (row-1 h) = tt
+judged-fits b m e (Refused WrongState) (row-6 h i) = tt
+judged-fits b m e (Refused UnknownKind) (row-2 h i j) = tt
+judged-fits b m e (Refused WrongSlot) (row-3 h i j k) = tt
+judged-fits b m e (Refused WrongValue) (row-4 h i j k l) = tt
+judged-fits b m e (Taken a) (no-row h i j k l) = act-fits e l
 
 ruled-kept : (r : Ruling) (x : Bench) → fitting r → inRange (x .bus) ≡ true → inRange ((ruledNext r x) .bus) ≡ true
 unfolding ruledNext taken fitting
@@ -383,7 +381,7 @@ ruled-kept (Refused r) x f v = v
 -- every event keeps the range
 pub next-in-range : (e : Event) (x : Bench) → inRange (x .bus) ≡ true → inRange ((next e x) .bus) ≡ true
 unfolding next rulingOn
-next-in-range e x v = ruled-kept (rulingOn e x) x (ruling-fits (x .bus) (x .memory) e) v
+next-in-range e x v = ruled-kept (rulingOn e x) x (judged-fits (x .bus) (x .memory) e _ (judged (x .bus) (x .memory) e)) v
 
 pub after-in-range : (es : List Event) (x : Bench) → inRange (x .bus) ≡ true → inRange ((after es x) .bus) ≡ true
 unfolding after
@@ -427,14 +425,14 @@ notSix : Ruling → Type 0
 notSix (Taken a) = Unit {0}
 notSix (Refused r) = eqb (refusalNumber r) 6 ≡ false
 
-ruling-not-six : (b : Bus) (m : List ℕ) (e : Event) → inRange b ≡ true → notSix (ruling b m e)
-unfolding ruling ruledBy notSix refusalNumber
-ruling-not-six b m e v =
-    cond-cases notSix (wrongLength m) (λ h. refl) λ h.
-    cond-cases notSix (not (inRange b)) (λ h. absurd (false≢true (sym (not-true (inRange b) h) ∙ v))) λ h.
-    cond-cases notSix (unknownKind e) (λ h. refl) λ h.
-    cond-cases notSix (wrongSlot (kindsOf b) e) (λ h. refl) λ h.
-    cond-cases notSix (wrongValue e) (λ h. refl) (λ h. tt)
+judged-not-six : (b : Bus) (m : List ℕ) (e : Event) (r : Ruling) → inRange b ≡ true → Judged b m e r → notSix r
+unfolding notSix refusalNumber
+judged-not-six b m e (Refused MemoryLength) v (row-1 h) = refl
+judged-not-six b m e (Refused WrongState) v (row-6 h i) = absurd (false≢true (sym i ∙ v))
+judged-not-six b m e (Refused UnknownKind) v (row-2 h i j) = refl
+judged-not-six b m e (Refused WrongSlot) v (row-3 h i j k) = refl
+judged-not-six b m e (Refused WrongValue) v (row-4 h i j k l) = refl
+judged-not-six b m e (Taken a) v (no-row h i j k l) = tt
 
 shown-not-six : (a : Act) (b : Bus) (m : List ℕ) → isSix (shown a b m) ≡ false
 unfolding shown isSix
@@ -455,7 +453,7 @@ ruled-not-six (Refused r) x h = h
 
 pub answered-not-six : (e : Event) (x : Bench) → inRange (x .bus) ≡ true → isSix (answered e x) ≡ false
 unfolding answered rulingOn
-answered-not-six e x v = ruled-not-six (rulingOn e x) x (ruling-not-six (x .bus) (x .memory) e v)
+answered-not-six e x v = ruled-not-six (rulingOn e x) x (judged-not-six (x .bus) (x .memory) e _ v (judged (x .bus) (x .memory) e))
 
 -- no run from a state in range, so none from setup, gets refusal 6
 pub never-six : (es : List Event) (x : Bench) → inRange (x .bus) ≡ true → allOf (λ a. not (isSix a)) (answers es x) ≡ true

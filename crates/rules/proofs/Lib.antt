@@ -1,5 +1,8 @@
 pub mod Cases
+pub mod Judged
+pub mod Sentences
 pub mod Unchanged
+pub mod Stored
 pub mod Masks
 pub mod Floor
 pub mod SensorSteps
@@ -8,7 +11,5 @@ pub mod SensorKept
 pub mod Kept
 pub mod InStep
 pub mod Everywhere
-pub mod Stored
 pub mod Protection
 pub mod Rulings
-pub mod Sentences

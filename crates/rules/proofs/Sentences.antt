@@ -1,23 +1,22 @@
 -- Sentences of document 01 that say what follows from its rules, as facts about the definitions: they hold the lines that no marked case touches.
 -- Assumes nothing.
-use Prim.Native.Nat.{ℕ, _+_, _-_, _*_, _/_, _%_, _<_, _≤_}
+use Prim.Native.Nat.{ℕ, _+_, _*_, _/_, _%_, _<_, _≤_}
 use native.Mathlib.Omega.{arith}
-use mathlib.Core.Path.{_≡_, refl, sym, _∙_, ap, ap₂}
-use mathlib.Core.Bool.{Bool, true, false, false≢true, not, cond, _&&_, _||_, or-true}
-use mathlib.Core.List.{List, []}
-use lib.Dec.{eqb, ltb, leb}
+use mathlib.Core.Path.{_≡_, refl, sym, _∙_, ap}
+use mathlib.Core.Bool.{Bool, true, false, false≢true, not, _||_, or-true}
+use mathlib.Core.List.{List}
+use lib.Dec.{eqb, ltb}
 use lib.IntN.{ℤ, pos, negsuc}
-use lib.ListN.{length, getD, take, drop, length-take, length-drop}
+use lib.ListN.{length, getD, drop, length-take, length-drop}
 use lib.Seq.{getD-take, getD-drop}
 use lib.Signed.{ltZ, leZ}
 use borrow.Author.Tests.{eq-eqb, ne-eqb, eqb-true, not-false, ltb-true, leb-true, ltb-false, lt-leb, le-ltb}
 use Rattle.lists.specs.Tests.{cond-cases, or-left-false, or-right-false}
-use Rattle.rules.specs.declared.Act.{Act}
-use Rattle.rules.specs.declared.Act.the-variants.{Start, Byte, Read, Stop, Timeout, Tick, Voltage, Power, Temperature}
+use Rattle.rules.specs.declared.Act.the-variants.{Byte, Read, Power, Temperature}
 use Rattle.rules.specs.declared.BlockNo.{BlockNo}
 use Rattle.rules.specs.declared.Bus.{Bus}
 use Rattle.rules.specs.declared.Heard.{Heard}
-use Rattle.rules.specs.declared.Heard.the-variants.{Memory, Sensor, Protect, ClearAll, ReadProtection, SelectHalf, ReadHalf, Nothing}
+use Rattle.rules.specs.declared.Heard.the-variants.{Sensor, Protect, ClearAll}
 use Rattle.rules.specs.declared.Phase.{Phase}
 use Rattle.rules.specs.declared.Phase.the-variants.{Idle, Control, Deaf, MemoryCounter, MemoryData, MemoryRead, HalfSelected, CommandAddress, CommandData, CommandStop, SensorPointer, SensorHigh, SensorLow, SensorReadHigh, SensorReadLow}
 use Rattle.rules.specs.declared.Sensor as sensor
@@ -27,8 +26,8 @@ use Rattle.rules.specs.Modelled.{absent, sensing, addressOf}
 use Rattle.rules.specs.Open.{open-fields}
 use Rattle.rules.specs.Fields.{inPhase, withSensor, withTemperature}
 use Rattle.rules.specs.Fresh.{freshSlot, freshSensor, powered}
-use Rattle.rules.specs.Sensor.{signedOf, hysteresisOf, loweredOf, flagOf, criticalFlag, highFlag, lowFlag, reading, steppedOf, shutDown, converted}
-use Rattle.rules.specs.Control.{commandOf, heardOf, acksHeard, acksControl, obeyed, controlled}
+use Rattle.rules.specs.Sensor.{signedOf, loweredOf, flagOf, criticalFlag, highFlag, lowFlag, shutDown, converted}
+use Rattle.rules.specs.Control.{commandOf, heardOf, acksHeard, acksControl, controlled}
 use Rattle.rules.specs.Memory.{emptied, steady, cleared, settled, lost, guarded, dataByte}
 use Rattle.rules.specs.Slot.{standing, withSensorIn, commanding, switched, byteIn, acksIn, readIn, drivesIn, drivenIn, slotNext, acks, drives, driven}
 use Rattle.rules.specs.Refusals.{wrongLength, inRange, kindsOf}

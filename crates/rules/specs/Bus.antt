@@ -1,16 +1,14 @@
 -- The bus: every slot does its step, and the answer is made of what all of them show.
 -- Assumes nothing.
-use Prim.Native.Nat.{ℕ, zero, suc}
+use Prim.Native.Nat.{ℕ}
 use mathlib.Core.Bool.{Bool, cond}
 use mathlib.Core.List.{List}
-use lib.ListN.{take, drop}
 use Rattle.lists.specs.Each.{mapFrom, anyFrom, firstFrom}
 use Rattle.lists.specs.Parts.{part, eachPart}
 use Rattle.rules.specs.declared.Act.{Act}
 use Rattle.rules.specs.declared.Act.the-variants.{Start, Byte, Read, Stop, Timeout, Tick, Voltage, Power, Temperature}
 use Rattle.rules.specs.declared.Answer.{Answer}
 use Rattle.rules.specs.declared.Answer.the-variants.{Nothing, Ack, Nack, Data}
-use Rattle.rules.specs.declared.Slot.{Slot}
 use Rattle.rules.specs.declared.Bus.{Bus}
 use Rattle.rules.specs.Modelled.{slotBytes}
 use Rattle.rules.specs.Memory.{tickedPart}

@@ -5,7 +5,6 @@ use mathlib.Core.Bool.{Bool, true, false, cond, _||_}
 use mathlib.Core.List.{List, [], _∷_}
 use lib.Dec.{eqb}
 use lib.ListN.{getD, set}
-use Rattle.rules.specs.declared.Phase.{Phase}
 use Rattle.rules.specs.declared.Phase.the-variants.{Deaf, MemoryData, MemoryRead}
 use Rattle.rules.specs.declared.Slot.{Slot}
 use Rattle.rules.specs.Modelled.{addressOf, blockOf, pageOf}

@@ -1,10 +1,8 @@
 -- Document 01, "What is modelled": the sizes, and a slot's part of the memory.
 -- Assumes nothing.
-use Prim.Native.Nat.{ℕ, zero, suc, _*_, _+_, _/_}
+use Prim.Native.Nat.{ℕ, _*_, _+_, _/_}
 use mathlib.Core.Bool.{Bool}
-use mathlib.Core.List.{List}
 use lib.Dec.{eqb}
-use lib.ListN.{take, drop, getD}
 use Rattle.rules.specs.declared.Slot.{Slot}
 use Rattle.rules.specs.declared.Address.{Address}
 use Rattle.rules.specs.declared.BlockNo.{BlockNo}

@@ -1,6 +1,6 @@
 -- Document 01, "Sensor": registers, what a write keeps, what a temperature does. A signed number is a ℤ, in sixteenths of a degree.
 -- Assumes nothing.
-use Prim.Native.Nat.{ℕ, _+_, _-_, _*_, _/_, _%_}
+use Prim.Native.Nat.{ℕ, _+_, _-_, _/_, _%_}
 use mathlib.Core.Bool.{Bool, true, false, cond, _||_}
 use lib.Dec.{ltb, eqb}
 use lib.Bits.{bitAnd, bitOr}

@@ -5,7 +5,6 @@ use mathlib.Core.Bool.{Bool, true, false, not, cond, _&&_, _||_}
 use mathlib.Core.List.{List}
 use lib.Dec.{eqb, leb}
 use lib.ListN.{getD}
-use lib.IntN.{ℤ}
 use Rattle.rules.specs.declared.Act.{Act}
 use Rattle.rules.specs.declared.Act.the-variants.{Start, Byte, Read, Stop, Timeout, Tick, Voltage, Power, Temperature}
 use Rattle.rules.specs.declared.Phase.{Phase}

@@ -1,6 +1,6 @@
 -- Each code's arm: the definition computes at the code. The last arm: the byte is none of the twelve.
 -- Assumes nothing.
-use mathlib.Core.Path.{_≡_, sym, ap}
+use mathlib.Core.Path.{sym, ap}
 use borrow.Author.Tests.{ne-eqb}
 use Rattle.rules.specs.Control.{commandOf}
 use Rattle.control.proofs.command.Statement.{statement}
