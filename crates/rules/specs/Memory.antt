@@ -1,10 +1,11 @@
 -- Document 01, "Memory exchanges": the counter, the latch, commands, the write cycle.
 -- Assumes nothing.
 use Prim.Native.Nat.{ℕ, zero, suc, _+_, _-_, _*_, _/_, _%_}
-use mathlib.Core.Bool.{Bool, true, false, cond, _||_}
-use mathlib.Core.List.{List, [], _∷_}
+use mathlib.Core.Bool.{Bool, true, false, cond}
+use mathlib.Core.List.{List}
 use lib.Dec.{eqb}
 use lib.ListN.{getD, set}
+use Rattle.lists.specs.Each.{anyFrom}
 use Rattle.rules.specs.declared.Phase.the-variants.{Deaf, MemoryData, MemoryRead}
 use Rattle.rules.specs.declared.Slot.{Slot}
 use Rattle.rules.specs.Modelled.{addressOf, blockOf, pageOf}
@@ -55,8 +56,7 @@ fetched more s = inPhase (cond more MemoryRead Deaf) (atCounter ((s .counter + 1
 
 -- "A stop with at least one latched byte begins the write cycle"
 unfoldable pub anyMark : List Bool → Bool
-anyMark [] = false
-anyMark (m ∷ ms) = m || anyMark ms
+anyMark marks = anyFrom (λ n m. m) 0 marks
 
 unfoldable pub storing : Slot → Slot
 storing s = withLeft (s .length) (cleared (steady s))

@@ -18,7 +18,7 @@ use Rattle.rules.specs.Control.{acksControl, controlled}
 use Rattle.rules.specs.Memory.{settled, lost, loaded, guarded, dataByte, fetched, dataStop, changing, ticked}
 
 -- the phases of an exchange with the sensor
-unfoldable pub withSensorIn : Phase → Bool
+abbrev pub withSensorIn : Phase → Bool
 withSensorIn Idle = false
 withSensorIn Control = false
 withSensorIn Deaf = false
@@ -40,7 +40,7 @@ unfoldable pub standing : Slot → Phase
 standing s = cond (absent s || (withSensorIn (s .phase) && not (sensing s))) Deaf (s .phase)
 
 -- the phases of a protect or clear that its stop has not yet begun
-unfoldable pub commanding : Phase → Bool
+abbrev pub commanding : Phase → Bool
 commanding Idle = false
 commanding Control = false
 commanding Deaf = false
@@ -58,7 +58,7 @@ commanding SensorReadHigh = false
 commanding SensorReadLow = false
 
 -- the phases in which the exchange holds something of the slot: latched bytes, a protection to come, a register's bytes
-unfoldable pub holds : Phase → Bool
+abbrev pub holds : Phase → Bool
 holds Idle = false
 holds Control = false
 holds Deaf = false
@@ -151,7 +151,7 @@ readIn SensorReadHigh more s = cond more (inPhase SensorReadLow s) (lost s)
 readIn SensorReadLow more s = lost s
 
 -- whether the slot drives a byte at a read, and which
-unfoldable pub drivesIn : Phase → Bool
+abbrev pub drivesIn : Phase → Bool
 drivesIn Idle = false
 drivesIn Control = false
 drivesIn Deaf = false
@@ -174,7 +174,7 @@ drivenIn Control s m = 0xFF
 drivenIn Deaf s m = 0xFF
 drivenIn MemoryCounter s m = 0xFF
 drivenIn MemoryData s m = 0xFF
-drivenIn MemoryRead s m = getD m (addressOf s .0) 0xFF
+drivenIn MemoryRead s m = getD m (addressOf s .0) 0
 drivenIn HalfSelected s m = 0xFF
 drivenIn CommandAddress s m = 0xFF
 drivenIn CommandData s m = 0xFF

@@ -1,0 +1,15 @@
+-- Test by test, in the order of the definition.
+-- Assumes nothing.
+use borrow.Author.Needs.{needs}
+use Rattle.rules.specs.Refusals.{kindInRange, slotInRange}
+use Rattle.slot.proofs.in_range.Statement.{statement}
+use Rattle.slot.proofs.in_range.Tie as tie
+
+pub in-range-spec : {M : Type 1} → statement M
+unfolding slotInRange kindInRange
+in-range-spec =
+    tie.close
+    (tie.spec
+    (λ c κs. search needs)
+    (λ c κs. search needs)
+    (λ c. rw (c .before .before .before .before .before .length-in-range .ensures, c .in-range .ensures)))

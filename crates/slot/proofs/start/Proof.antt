@@ -1,0 +1,13 @@
+-- What is let go, in another phase.
+-- Assumes nothing.
+use borrow.Author.Needs.{needs}
+use Rattle.slot.proofs.start.Statement.{statement}
+use Rattle.slot.proofs.start.Tie as tie
+
+pub start-spec : {M : Type 1} → statement M
+start-spec =
+    tie.close
+    (tie.spec
+    (λ c κs. search needs)
+    (λ c κs. search needs)
+    (λ c. rw (c .in-phase .ensures, c .before .let-go .ensures)))

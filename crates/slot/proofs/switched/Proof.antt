@@ -1,0 +1,18 @@
+-- The two cases of the definition, by the phase and the level.
+-- Assumes nothing.
+use borrow.Author.Needs.{needs}
+use Rattle.rules.specs.Open.{open-fields}
+use Rattle.rules.specs.Slot.{switched}
+use Rattle.slot.proofs.switched.Statement.{statement}
+use Rattle.slot.proofs.switched.Tie as tie
+
+pub switched-spec : {M : Type 1} → statement M
+unfolding switched open-fields
+switched-spec =
+    tie.close
+    (tie.spec
+    (λ c κs. search needs)
+    (λ c κs. search needs)
+    (λ c κs. search needs)
+    (λ c. rw (← c .before .before .before .before .before .before .before .before .standing .ensures, ← c .before .before .before .before .before .before .before .commanding .ensures, c .before .before .before .before .before .before .if1 .taken, c .before .before .before .before .before .lost .ensures))
+    (λ c. rw (← c .before .before .before .before .before .before .before .standing .ensures, ← c .before .before .before .before .before .before .commanding .ensures, c .before .before .before .before .before .if1 .left)))
