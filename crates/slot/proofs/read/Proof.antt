@@ -57,7 +57,7 @@ read-spec =
     (λ c. read-by _ _ _ _ _ _ (c .before .before .before .standing .ensures) (c .before .enum-told3 .given .1) (c .silent3 .ensures))
     (λ c. read-by _ _ _ _ _ _ (c .before .before .before .before .standing .ensures) (c .before .before .enum-told4 .given .1) (rw (c .silent4 .ensures, c .before .lost .ensures)))
     (λ c. read-by _ _ _ _ _ _ (c .before .before .before .before .standing .ensures) (c .before .before .enum-told5 .given .1) (rw (c .silent5 .ensures, c .before .lost2 .ensures)))
-    (λ c. read-by _ _ _ _ _ _ (c .before .before .before .standing .ensures) (c .before .enum-told6 .given .1) (c .fetched .ensures))
+    (λ c. read-by _ _ _ _ _ _ (c .before .before .before .standing .ensures) (c .before .enum-told6 .given .1) (c .memory-byte .ensures))
     (λ c. read-by _ _ _ _ _ _ (c .before .before .before .before .standing .ensures) (c .before .before .enum-told7 .given .1) (rw (c .silent6 .ensures, c .before .lost3 .ensures)))
     (λ c. read-by _ _ _ _ _ _ (c .before .before .before .before .standing .ensures) (c .before .before .enum-told8 .given .1) (rw (c .silent7 .ensures, c .before .lost4 .ensures)))
     (λ c. read-by _ _ _ _ _ _ (c .before .before .before .before .standing .ensures) (c .before .before .enum-told9 .given .1) (rw (c .silent8 .ensures, c .before .lost5 .ensures)))

@@ -1,0 +1,213 @@
+// The memory of a slot: its counter, its latch, its protection, its write cycle.
+ghost use mathlib.Core.Path.{_≡_};
+ghost use mathlib.Core.Bool.{true, false, cond};
+ghost use Prim.Native.Nat.{_+_, _≤_};
+ghost use lib.ListN.{length, getD, set};
+ghost use Rattle.rules.specs.Modelled.{addressOf, slotBytes};
+ghost use Rattle.rules.specs.Control.{protects};
+ghost use Rattle.rules.specs.Memory.{loaded, guarded, latching, fetched, anyMark, dataStop, changing, ticked, putUpTo, tickedPart};
+ghost use Rattle.rules.specs.Refusals.{slotInRange};
+use rules::Address;
+use rules::BlockNo;
+use rules::Phase;
+use rules::Sensor;
+use rules::Slot;
+
+// The address that the counter points to in the selected half.
+fn address_of(s: Slot) -> Address
+    ensures { λ r. ⌜ r ≡ addressOf s ⌝ }
+{
+    Address(256 * (s.half as u16) + (s.counter as u16))
+}
+
+// What stands for a block; a block above 3 is not there.
+fn block_at(k: BlockNo, blocks: [bool; 4]) -> bool
+    ensures { λ r. ⌜ r ≡ getD blocks (k .0) false ⌝ }
+{
+    let at = k.0 as usize;
+    if at < 4 {
+        return blocks[at];
+    }
+    false
+}
+
+// The blocks with one more.
+pub fn with_block(k: BlockNo, blocks: [bool; 4]) -> [bool; 4]
+    ensures { λ r. ⌜ r ≡ set blocks (k .0) true ⌝ }
+{
+    let at = k.0 as usize;
+    if at < 4 {
+        let mut next = blocks;
+        next[at] = true;
+        return next;
+    }
+    blocks
+}
+
+// A block is protected.
+pub fn protects(k: BlockNo, s: Slot) -> bool
+    ensures { λ r. ⌜ r ≡ protects k s ⌝ }
+{
+    let protection = s.protection;
+    block_at(k, protection)
+}
+
+// The block of the next data byte is protected.
+pub fn guarded(s: Slot) -> bool
+    requires { ⌜ slotInRange s ≡ true ⌝ }
+    ensures { λ r. ⌜ r ≡ guarded s ⌝ }
+{
+    let a = address_of(s);
+    protects(BlockNo((a.0 / 128) as u8), s)
+}
+
+// A memory write's first byte loads the counter.
+pub fn loaded(b: u8, s: Slot) -> Slot
+    ensures { λ r. ⌜ r ≡ loaded b s ⌝ }
+{
+    Slot {
+        counter: b,
+        phase: Phase::MemoryData,
+        latch: [0u8; 16],
+        marks: [false; 16],
+        place: b % 16,
+        ..s
+    }
+}
+
+// A data byte goes into the latch at the place for it, and counter and place go on, wrapping in their page.
+pub fn latching(b: u8, s: Slot) -> Slot
+    requires { ⌜ slotInRange s ≡ true ⌝ }
+    ensures { λ r. ⌜ r ≡ latching b s ⌝ }
+{
+    let at = s.place as usize;
+    let mut latch = s.latch;
+    let mut marks = s.marks;
+    latch[at] = b;
+    marks[at] = true;
+    Slot {
+        counter: s.counter / 16 * 16 + (s.counter % 16 + 1) % 16,
+        latch,
+        marks,
+        place: (s.place + 1) % 16,
+        ..s
+    }
+}
+
+// The byte that a memory read drives: the one at the address.
+pub fn byte_at(s: Slot, part: &[u8]) -> u8
+    requires { ⌜ (slotInRange s ≡ true) × (length (now part) ≡ slotBytes) ⌝ }
+    ensures { λ r. ⌜ r ≡ getD (now (part .entry)) (addressOf s .0) 0 ⌝ }
+{
+    let a = address_of(s);
+    let at = a.0 as usize;
+    part[at]
+}
+
+// The phase after a memory read: on, if the master acknowledges.
+pub fn phase_after(more: bool) -> Phase
+    ensures { λ r. ⌜ r ≡ cond more Phase.MemoryRead Phase.Deaf ⌝ }
+{
+    if more { Phase::MemoryRead } else { Phase::Deaf }
+}
+
+// After a memory read the counter goes on in its half.
+pub fn fetched(more: bool, s: Slot) -> Slot
+    ensures { λ r. ⌜ r ≡ fetched more s ⌝ }
+{
+    let phase = phase_after(more);
+    Slot {
+        counter: ((s.counter as u16 + 1) % 256) as u8,
+        phase,
+        ..s
+    }
+}
+
+// At least one byte is latched.
+fn any_mark(marks: [bool; 16]) -> bool
+    ensures { λ r. ⌜ r ≡ anyMark marks ⌝ }
+{
+    let mut any = false;
+    for i in 0..16usize {
+        any = any | marks[i];
+    }
+    any
+}
+
+// A stop after data bytes: the write cycle begins if at least one is latched.
+pub fn data_stop(s: Slot) -> Slot
+    ensures { λ r. ⌜ r ≡ dataStop s ⌝ }
+{
+    let marks = s.marks;
+    if any_mark(marks) {
+        let x = s.sensor;
+        let sensor = Sensor { word: 0, ..x };
+        let coming = s.protection;
+        return Slot {
+            left: s.length,
+            coming,
+            place: 0,
+            sensor,
+            ..s
+        };
+    }
+    phase::settled(s)
+}
+
+// A stop after a protect or clear with both its bytes: the write cycle begins.
+pub fn changing(s: Slot) -> Slot
+    ensures { λ r. ⌜ r ≡ changing s ⌝ }
+{
+    let x = s.sensor;
+    let sensor = Sensor { word: 0, ..x };
+    Slot {
+        left: s.length,
+        latch: [0u8; 16],
+        marks: [false; 16],
+        place: 0,
+        sensor,
+        ..s
+    }
+}
+
+// The marked bytes of the latch go to their page, which begins at `at`.
+fn put(part: &mut [u8], at: usize, latch: [u8; 16], marks: [bool; 16])
+    requires { ⌜ at + 16 ≤ length (now part) ⌝ }
+    ensures { λ _. ⌜ now (part .exit) ≡ putUpTo latch marks at 16 (now (part .entry)) ⌝ }
+{
+    for i in 0..Slot::PAGE {
+        if marks[i] {
+            part[at + i] = latch[i];
+        }
+    }
+}
+
+// A tick; part is the slot's own 512 bytes, which change where a write cycle ends.
+pub fn tick(s: Slot, part: &mut [u8]) -> Slot
+    requires { ⌜ (slotInRange s ≡ true) × (length (now part) ≡ slotBytes) ⌝ }
+    ensures { λ r. ⌜ (r ≡ ticked s) × (now (part .exit) ≡ tickedPart s (now (part .entry))) ⌝ }
+{
+    let left = s.left;
+    if left == 1 {
+        let a = address_of(s);
+        let at = (a.0 / 16 * 16) as usize;
+        let latch = s.latch;
+        let marks = s.marks;
+        put(part, at, latch, marks);
+        let protection = s.coming;
+        return Slot {
+            left: 0,
+            protection,
+            latch: [0u8; 16],
+            marks: [false; 16],
+            ..s
+        };
+    }
+    if left == 0 {
+        return s;
+    }
+    Slot {
+        left: left - 1,
+        ..s
+    }
+}

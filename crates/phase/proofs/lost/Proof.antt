@@ -1,0 +1,15 @@
+-- What is settled, in another phase.
+-- Assumes nothing.
+use borrow.Author.Needs.{needs}
+use Rattle.rules.specs.Memory.{lost}
+use Rattle.phase.proofs.lost.Statement.{statement}
+use Rattle.phase.proofs.lost.Tie as tie
+
+pub lost-spec : {M : Type 1} → statement M
+unfolding lost
+lost-spec =
+    tie.close
+    (tie.spec
+    (λ c κs. search needs)
+    (λ c κs. search needs)
+    (λ c. cc))

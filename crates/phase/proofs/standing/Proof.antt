@@ -1,0 +1,14 @@
+-- The test is the definition's own.
+-- Assumes nothing.
+use borrow.Author.Needs.{needs}
+use Rattle.phase.proofs.Laws.{standing-by}
+use Rattle.phase.proofs.standing.Statement.{statement}
+use Rattle.phase.proofs.standing.Tie as tie
+
+pub standing-spec : {M : Type 1} → statement M
+standing-spec =
+    tie.close
+    (tie.spec
+    (λ c κs. search needs)
+    (λ c. search standing-by)
+    (λ c. search standing-by))
