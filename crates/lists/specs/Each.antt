@@ -1,13 +1,16 @@
 -- A loop that replaces each element of an array, one a turn; and one that asks something of each.
 -- Assumes nothing.
-use mathlib.Core.Path.{_≡_, refl, ap, ap₂}
-use mathlib.Core.List.{List, [], _∷_, map}
+use mathlib.Core.Path.{_≡_, refl, sym, ap, ap₂}
+use mathlib.Core.List.{List, [], _∷_, _++_, map, append-nil}
 use mathlib.Core.Bool.{Bool, true, false, _&&_, _||_, cond, or-assoc, and-assoc, or-false, and-true, and-eq-true-iff}
 use Prim.Native.Nat.{ℕ, zero, suc, _+_, _<_, _≤_, suc-le-suc}
 use native.Mathlib.Nat.{add-suc, add-zero, suc-add, zero-add}
 use native.Mathlib.Numerals.{add-one}
-use lib.ListN.{length, getD, set, drop, replicate, drop-of-length-le}
-use lib.Seq.{drop-cons}
+use native.Mathlib.Omega.{arith}
+use borrow.Author.Tests.{eq-eqb, ne-eqb}
+use lib.Dec.{eqb}
+use lib.ListN.{length, getD, set, take, drop, replicate, drop-of-length-le}
+use lib.Seq.{drop-cons, take-suc, take-all, length-take-le, set-at, append-snoc}
 
 module _ {A : Type 0} where
   -- each element x at its place n becomes f n x; the first place is n
@@ -157,3 +160,47 @@ module _ {A : Type 0} where
   pub every-at : (P : A → Type 0) (k : ℕ) (xs : List A) (d : A) → k < length xs → Every P xs → P (getD xs k d)
   every-at P zero (x ∷ xs) d l h = h .0
   every-at P (suc k) (x ∷ xs) d (suc-le-suc l) h = every-at P k xs d l (h .1)
+
+  -- one element replaced, as a change of all
+  abbrev pub oneAt : (A → A) → ℕ → ℕ → A → A
+  oneAt f k n x = cond (eqb k n) (f x) x
+
+  past-from : (f : A → A) (k n : ℕ) (xs : List A) → k < n → mapFrom (oneAt f k) n xs ≡ xs
+  unfolding mapFrom
+  past-from f k n [] h = refl
+  past-from f k n (x ∷ xs) h = rw (ne-eqb k n (omega arith), past-from f k (suc n) xs (omega arith))
+
+  one-from : (f : A → A) (k n j : ℕ) (xs : List A) (d : A) → k ≡ n + j → j < length xs → set xs j (f (getD xs j d)) ≡ mapFrom (oneAt f k) n xs
+  unfolding mapFrom
+  one-from f k n zero (x ∷ xs) d e h = rw (eq-eqb k n (omega arith), past-from f k (suc n) xs (omega arith))
+  one-from f k n (suc j) (x ∷ xs) d e (suc-le-suc h) =
+      rw (ne-eqb k n (omega arith)) (ap (λ (l : List A). x ∷ l) (one-from f k (suc n) j xs d (omega arith) h))
+
+  pub mapFrom-one : (f : A → A) (k : ℕ) (xs : List A) (d : A) → k < length xs → set xs k (f (getD xs k d)) ≡ mapFrom (oneAt f k) 0 xs
+  mapFrom-one f k xs d h = one-from f k 0 k xs d (omega arith) h
+
+  none-from : (f : A → A) (k n : ℕ) (xs : List A) → n + length xs ≤ k → xs ≡ mapFrom (oneAt f k) n xs
+  unfolding mapFrom
+  none-from f k n [] h = refl
+  none-from f k n (x ∷ xs) h = rw (ne-eqb k n (omega arith)) (ap (λ (l : List A). x ∷ l) (none-from f k (suc n) xs (omega arith)))
+
+  pub mapFrom-past : (f : A → A) (k : ℕ) (xs : List A) → length xs ≤ k → xs ≡ mapFrom (oneAt f k) 0 xs
+  mapFrom-past f k xs h = none-from f k 0 xs (omega arith)
+
+  -- an array filled from the front: the first n elements of s, and then what stood there
+  unfoldable pub filled : List A → List A → ℕ → List A
+  filled d s n = take n s ++ drop n d
+
+  pub filled-none : (d s : List A) → d ≡ filled d s 0
+  unfolding filled
+  filled-none d s = refl
+
+  pub filled-step : (d s : List A) (k : ℕ) (z : A) → k < length d → k < length s → set (filled d s k) k (getD s k z) ≡ filled d s (k + 1)
+  unfolding filled
+  filled-step d s k z hd hs =
+      rw (add-one, drop-cons d k z, set-at (take k s) (getD d k z) (drop (suc k) d) (getD s k z) k (length-take-le k s (omega arith)), take-suc s k z)
+      (sym (append-snoc (take k s) (getD s k z) (drop (suc k) d)))
+
+  pub filled-full : (d s : List A) (n : ℕ) → length d ≤ n → length s ≤ n → filled d s n ≡ s
+  unfolding filled
+  filled-full d s n hd hs = rw (take-all n s hs, drop-of-length-le d hd, append-nil)

@@ -23,6 +23,12 @@ unfolding part
 length-part w zero m = rw (mul-zero, sub-zero) (length-take w m)
 length-part w (suc k) m = rw (length-part w k (drop w m), length-drop, before-suc) (omega arith)
 
+-- the part k as the code cuts it out
+pub part-flat : (w k : ℕ) (m : List ℕ) → part w k m ≡ take w (drop (w * k) m)
+unfolding part
+part-flat w zero m = rw mul-zero
+part-flat w (suc k) m = rw before-suc (part-flat w k (drop w m) ∙ ap (take w) (drop-drop (w * k) w m))
+
 -- the byte i of the part k
 pub getD-part : (w k : ℕ) (m : List ℕ) (i d : ℕ) → i < w → getD (part w k m) i d ≡ getD m (w * k + i) d
 unfolding part

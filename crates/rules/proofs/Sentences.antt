@@ -74,7 +74,7 @@ pub record Silent (n : ℕ) (s : Slot) : Type 0 where
   pub at-reads : (more : Bool) → slotNext n (Read more) s ≡ s
 
 pub deaf-silent : (n : ℕ) (s : Slot) → standing s ≡ Deaf → Silent n s
-unfolding acks acksIn drives drivesIn slotNext byteIn readIn
+unfolding acks acksIn drives slotNext byteIn readIn
 deaf-silent n s e = record {
   no-ack = λ b. ap (λ p. acksIn p n b s) e;
   no-byte = ap drivesIn e;
@@ -180,10 +180,10 @@ module _ (x : sensor.Sensor) (t : ℤ) where
   unfolding lowFlag
   low-stays e f = stays _ _ _ (notBelow (loweredOf x (x .low)) t f) (below t (signedOf (x .low)) e)
 
--- the block reader: 128 bytes, those of the block
-pub block-length : (b : Bus) (m : List ℕ) (n : SlotNo) (k : BlockNo) → noBlock b m n k ≡ false → length (blockBytes b m n k) ≡ 128
-unfolding blockBytes noBlock wrongLength
-block-length b m n k e =
+-- the block reader: the block lies in the memory, and its 128 bytes are given
+pub block-fits : (b : Bus) (m : List ℕ) (n : SlotNo) (k : BlockNo) → noBlock b m n k ≡ false → 512 * n .0 + 128 * k .0 + 128 ≤ length m
+unfolding noBlock wrongLength
+block-fits b m n k e =
     let w : Bool = wrongLength m in
     let i : Bool = not (inRange b) in
     let s : Bool = ltb 7 (n .0) in
@@ -193,7 +193,11 @@ block-length b m n k e =
     let whole : length m ≡ 4096 = eqb-true (length m) 4096 (not-false (eqb (length m) 4096) (or-left-false w i (or-left-false (w || i) s e₃))) in
     let slot : n .0 ≤ 7 = ltb-false 7 (n .0) (or-right-false (w || i) s e₃) in
     let block : k .0 ≤ 3 = ltb-false 3 (k .0) (or-right-false (w || i || s || a) o e) in
-    cond-cases (λ (l : List ℕ). length l ≡ 128) (noBlock b m n k) (λ f. absurd (false≢true (sym e ∙ f))) (λ f. simp (length-take, length-drop) (omega arith))
+    omega arith
+
+pub block-length : (b : Bus) (m : List ℕ) (n : SlotNo) (k : BlockNo) → noBlock b m n k ≡ false → length (blockBytes b m n k) ≡ 128
+unfolding blockBytes
+block-length b m n k e = rw e (simp (length-take, length-drop) (omega (arith, block-fits b m n k e)))
 
 pub block-at : (b : Bus) (m : List ℕ) (n : SlotNo) (k : BlockNo) (i : ℕ) → noBlock b m n k ≡ false → i < 128
     → getD (blockBytes b m n k) i 0 ≡ getD m (512 * n .0 + 128 * k .0 + i) 0

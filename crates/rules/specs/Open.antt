@@ -36,7 +36,7 @@ open-control = tt
 
 -- the slot's step
 unfoldable pub open-slot : Unit {0}
-unfolding Slot.withSensorIn Slot.standing Slot.commanding Slot.holds Slot.letGo Slot.pointer Slot.firstByte Slot.secondByte Slot.byteIn Slot.acksIn Slot.readIn Slot.drivesIn Slot.drivenIn Slot.stopIn Slot.switched Slot.slotNext Slot.acks Slot.drives Slot.driven
+unfolding Slot.standing Slot.letGo Slot.pointer Slot.firstByte Slot.secondByte Slot.byteIn Slot.acksIn Slot.readIn Slot.drivenIn Slot.stopIn Slot.switched Slot.slotNext Slot.acks Slot.drives Slot.driven
 open-slot = tt
 
 -- the rows of refusals

@@ -7,6 +7,7 @@ use Rattle.rules.specs.declared.Answer.{Answer}
 use Rattle.rules.specs.declared.Answer.the-variants as answer
 use Rattle.rules.specs.declared.Bus.{Bus}
 use Rattle.rules.specs.declared.Event.{Event}
+use Rattle.rules.specs.declared.Outcome.{Outcome}
 use Rattle.rules.specs.declared.Ruling.{Ruling}
 use Rattle.rules.specs.declared.Ruling.the-variants.{Taken, Refused}
 use Rattle.rules.specs.Bus.{busNext, memoryNext, shown}
@@ -42,6 +43,13 @@ next e x = ruledNext (rulingOn e x) x
 
 unfoldable pub answered : Event → Bench → Answer
 answered e x = ruledAnswer (rulingOn e x) x
+
+-- what the public event gives back, and the lent memory after it
+unfoldable pub ruledOutcome : Ruling → Bench → Outcome × List ℕ
+ruledOutcome r x = (record { bus = (ruledNext r x) .bus; answer = ruledAnswer r x }, (ruledNext r x) .memory)
+
+unfoldable pub eventOf : Bus → List ℕ → Event → Outcome × List ℕ
+eventOf b m e = ruledOutcome (ruling b m e) (record { bus = b; memory = m })
 
 -- a run of events: the bench after it, and the answers in order
 unfoldable pub after : List Event → Bench → Bench

@@ -13,7 +13,7 @@ ghost use Rattle.rules.specs.Control.{heardOf, acksHeard, obeyed};
 ghost use Rattle.rules.specs.Memory.{lost, guarded, dataByte, fetched};
 ghost use Rattle.rules.specs.Slot.{standing, letGo, pointer, firstByte, secondByte, readIn, stopIn, switched};
 ghost use Rattle.rules.specs.Refusals.{slotInRange, lengthInRange};
-ghost use Rattle.slot.specs.Shown.{heeded, readOut};
+ghost use Rattle.slot.specs.Shown.{heeded, readOut, signalled};
 use rules::BlockNo;
 use rules::Heard;
 use rules::Phase;
@@ -316,22 +316,56 @@ fn stop_in(p: Phase, s: Slot) -> Slot
     }
 }
 
-pub fn start(s: Slot) -> Slot
+// The events that reach every slot and carry nothing.
+pub enum Signal {
+    Start,
+    Stop,
+    Timeout,
+    Power,
+}
+
+fn start(s: Slot) -> Slot
     ensures { λ r. ⌜ r ≡ inPhase Phase.Control (letGo s) ⌝ }
 {
     phase::in_phase(Phase::Control, phase::let_go(s))
 }
 
-pub fn stop(s: Slot) -> Slot
+fn stop(s: Slot) -> Slot
     ensures { λ r. ⌜ r ≡ inPhase Phase.Idle (stopIn (standing s) s) ⌝ }
 {
     phase::in_phase(Phase::Idle, stop_in(phase::standing(s), s))
 }
 
-pub fn timeout(s: Slot) -> Slot
+fn timeout(s: Slot) -> Slot
     ensures { λ r. ⌜ r ≡ inPhase Phase.Idle (letGo s) ⌝ }
 {
     phase::in_phase(Phase::Idle, phase::let_go(s))
+}
+
+// A power cycle keeps protection and voltage.
+fn powered(s: Slot) -> Slot
+    ensures { λ r. ⌜ r ≡ powered s ⌝ }
+{
+    let t = Slot::fresh(s.kind, s.length);
+    let protection = s.protection;
+    Slot {
+        protection,
+        coming: protection,
+        voltage: s.voltage,
+        ..t
+    }
+}
+
+// A start, stop, timeout or power cycle.
+pub fn signalled(x: Signal, s: Slot) -> Slot
+    ensures { λ r. ⌜ r ≡ signalled x s ⌝ }
+{
+    match x {
+        Signal::Start => start(s),
+        Signal::Stop => stop(s),
+        Signal::Timeout => timeout(s),
+        Signal::Power => powered(s),
+    }
 }
 
 // High voltage on or off: a protect or clear that its stop has not begun is cancelled by off.
@@ -343,20 +377,6 @@ pub fn switched(on: bool, s: Slot) -> Slot
         return Slot { voltage: on, ..t };
     }
     Slot { voltage: on, ..s }
-}
-
-// A power cycle keeps protection and voltage.
-pub fn powered(s: Slot) -> Slot
-    ensures { λ r. ⌜ r ≡ powered s ⌝ }
-{
-    let t = Slot::fresh(s.kind, s.length);
-    let protection = s.protection;
-    Slot {
-        protection,
-        coming: protection,
-        voltage: s.voltage,
-        ..t
-    }
 }
 
 // A temperature.

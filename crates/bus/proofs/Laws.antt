@@ -1,0 +1,120 @@
+-- The bus's loops and decisions in the form in which a function's proof asks for them.
+-- Assumes nothing.
+use mathlib.Core.Path.{_≡_, refl, sym, _∙_, ap}
+use mathlib.Core.Bool.{Bool, false, true, false≢true, _||_}
+use mathlib.Core.List.{List, []}
+use Prim.Native.Nat.{ℕ, _*_, _≤_}
+use native.Mathlib.Omega.{arith}
+use borrow.Author.Tests.{eq-eqb, ne-eqb, ltb-false}
+use lib.Dec.{T, ltb}
+use lib.IntN.{ℤ, pos, negsuc, natAbs}
+use lib.Signed.{nonNeg}
+use mir.Syntax.{w8}
+use mir.Val.{Fits}
+use lib.ListN.{length, take, drop}
+use Rattle.lists.specs.Each.{allOf, firstFrom}
+use Rattle.lists.specs.Parts.{part, part-flat}
+use Rattle.rules.specs.declared.Act.{Act}
+use Rattle.rules.specs.declared.Act.the-variants.{Byte, Read, Tick}
+use Rattle.rules.specs.declared.Answer.the-variants as answer
+use Rattle.rules.specs.declared.Bus.{Bus}
+use Rattle.rules.specs.declared.Event.{Event}
+use Rattle.rules.specs.declared.Outcome.{Outcome}
+use Rattle.rules.specs.declared.Pair.{Pair}
+use Rattle.rules.specs.declared.Phase.the-variants.{Idle}
+use Rattle.rules.specs.declared.Refusal.{Refusal}
+use Rattle.rules.specs.declared.Refusal.the-variants.{MemoryLength, WrongState}
+use Rattle.rules.specs.declared.Ruling.{Ruling}
+use Rattle.rules.specs.declared.Ruling.the-variants.{Taken, Refused}
+use Rattle.rules.specs.declared.Slot.{Slot}
+use Rattle.lists.specs.Tests.{or-right-false}
+use Rattle.rules.specs.Modelled.{memoryBytes}
+use Rattle.rules.specs.Refusals.{wrongLength, outside, wrongValue, kindsOf, slotInRange, inRange, ruledBy, ruling}
+use Rattle.rules.specs.Runs.{taken, given, ruledNext, ruledAnswer, ruledOutcome, eventOf}
+use Rattle.rules.proofs.Rulings.{ruling-by-kinds}
+use Rattle.bus.specs.Taken.{kindsIn, takenThen}
+use Rattle.rules.specs.Fields.{withSensor}
+use Rattle.rules.specs.Sensor.{converted}
+use Rattle.rules.specs.Slot.{slotNext, acks, drives, driven}
+
+-- what a proof takes for the element past the end of an array of slots: zeros, empty lists, the first phase
+abbrev pub noSlot : Slot
+noSlot =
+    record {
+      kind = 0;
+      length = 0;
+      left = 0;
+      half = 0;
+      counter = 0;
+      protection = [];
+      coming = [];
+      voltage = false;
+      phase = Idle;
+      latch = [];
+      marks = [];
+      place = 0;
+      sensor = record { pointer = 0; configuration = 0; high = 0; low = 0; critical = 0; temperature = 0; resolution = 0; timeout = 0; word = 0 };
+    }
+
+-- what the loops do with slot n
+abbrev pub afterByte : ℕ → ℕ → Slot → Slot
+afterByte v n s = slotNext n (Byte v) s
+
+abbrev pub acked : ℕ → ℕ → Slot → Bool
+acked v n s = acks n v s
+
+abbrev pub afterRead : Bool → ℕ → Slot → Slot
+afterRead more n s = slotNext n (Read more) s
+
+abbrev pub afterTick : ℕ → Slot → Slot
+afterTick n s = slotNext n Tick s
+
+abbrev pub drove : ℕ → Slot → Bool
+drove n s = drives s
+
+-- the byte of slot n, with its part of the memory as the code cuts it out
+abbrev pub byteOf : List ℕ → ℕ → Slot → ℕ
+byteOf m n s = driven (take 512 (drop (512 * n) m)) s
+
+pub byte-of-part : (m : List ℕ) (ss : List Slot) → firstFrom drove (byteOf m) 255 0 ss ≡ firstFrom drove (λ n s. driven (part 512 n m) s) 255 0 ss
+byte-of-part m ss = ap (λ (f : ℕ → Slot → ℕ). firstFrom drove f 255 0 ss) (λ i n s. driven (sym (part-flat 512 n m) i) s)
+
+-- a slot at a temperature
+abbrev pub heat : ℤ → Slot → Slot
+heat t s = withSensor (converted (s .sensor) t) s
+
+-- a value in range is a byte
+as-byte : (v : ℤ) → outside (pos 0) (pos 255) v ≡ false → T (nonNeg v) × Fits w8 (natAbs v)
+unfolding outside
+as-byte (pos n) e = (tt, record { fits = let h : n ≤ 255 = ltb-false 255 n (or-right-false (ltb n 0) (ltb 255 n) e) in omega arith })
+as-byte (negsuc n) e = absurd (false≢true (sym e))
+
+pub value-as-byte : (e : Event) → e .kind ≡ 2 → wrongValue e ≡ false → T (nonNeg (e .value)) × Fits w8 (natAbs (e .value))
+unfolding wrongValue
+value-as-byte e k w = as-byte (e .value) (rw (eq-eqb (e .kind) 2 k) at w)
+
+-- an event by its ruling
+module _ (b : Bus) (m : List ℕ) (e : Event) where
+  pub event-refused : (r : Outcome) (x : Refusal) → ruling b m e ≡ Refused x → r ≡ record { bus = b; answer = answer.Refused x } → eventOf b m e ≡ (r, m)
+  unfolding eventOf ruledOutcome ruledNext ruledAnswer
+  event-refused r x f g = rw f (ap (λ (o : Outcome). (o, m)) (sym g))
+
+  pub event-taken : (a : Act) (p : Outcome × List ℕ) → ruling b m e ≡ Taken a → takenThen b m a ≡ p → eventOf b m e ≡ p
+  unfolding eventOf ruledOutcome ruledNext ruledAnswer taken given takenThen
+  event-taken a p f g = rw f g
+
+  pub ruling-short : (length m ≡ memoryBytes → ⊥) → ruling b m e ≡ Refused MemoryLength
+  unfolding ruling wrongLength
+  ruling-short h = rw (ne-eqb (length m) memoryBytes h)
+
+  pub ruling-odd : (q : Bool) → length m ≡ memoryBytes → q ≡ allOf slotInRange (b .slots) → q ≡ false → ruling b m e ≡ Refused WrongState
+  unfolding ruling wrongLength inRange
+  ruling-odd q h f g = rw (eq-eqb (length m) memoryBytes h, ← f, g)
+
+  pub ruling-in-range : (q p : Ruling) → (inRange b ≡ true) × (length m ≡ memoryBytes) → q ≡ ruledBy (kindsIn (b .slots)) e → q ≡ p → ruling b m e ≡ p
+  unfolding kindsOf
+  ruling-in-range q p v f g = ruling-by-kinds b m e (v .1) (v .0) ∙ sym f ∙ g
+
+-- past the end of an array of pairs
+abbrev pub noPair : Pair
+noPair = record { kind = 0; length = 0 }

@@ -1,0 +1,13 @@
+-- The tests of the definition.
+-- Assumes nothing.
+use borrow.Author.Needs.{needs}
+use Rattle.rules.specs.Refusals.{goodLength, goodPair}
+use Rattle.bus.proofs.good_pair.Statement.{statement}
+use Rattle.bus.proofs.good_pair.Tie as tie
+
+pub good-pair-spec : {M : Type 1} → statement M
+unfolding goodPair goodLength
+good-pair-spec =
+    tie.close
+    (tie.spec
+    (λ c. search needs))

@@ -1,0 +1,14 @@
+-- The tests of the definition, on the slot's kind.
+-- Assumes nothing.
+use borrow.Author.Needs.{needs}
+use Rattle.rules.specs.Refusals.{wrongSlot}
+use Rattle.bus.proofs.wrong_slot.Statement.{statement}
+use Rattle.bus.proofs.wrong_slot.Tie as tie
+
+pub wrong-slot-spec : {M : Type 1} → statement M
+unfolding wrongSlot
+wrong-slot-spec =
+    tie.close
+    (tie.spec
+    (λ c κs. search needs)
+    (λ c. rw (c .before .before .before .before .kind-at .ensures)))
