@@ -1,10 +1,10 @@
 -- A loop that replaces each element of an array, one a turn; and one that asks something of each.
 -- Assumes nothing.
-use mathlib.Core.Path.{_≡_, refl, sym, ap, ap₂}
+use mathlib.Core.Path.{_≡_, refl, sym, _∙_, ap, ap₂}
 use mathlib.Core.List.{List, [], _∷_, _++_, map, append-nil}
 use mathlib.Core.Bool.{Bool, true, false, _&&_, _||_, cond, or-assoc, and-assoc, or-false, and-true, and-eq-true-iff}
 use Prim.Native.Nat.{ℕ, zero, suc, _+_, _<_, _≤_, suc-le-suc}
-use native.Mathlib.Nat.{add-suc, add-zero, suc-add, zero-add}
+use native.Mathlib.Nat.{add-suc, add-zero, suc-add, zero-add, suc-inj}
 use native.Mathlib.Numerals.{add-one}
 use native.Mathlib.Omega.{arith}
 use borrow.Author.Tests.{eq-eqb, ne-eqb}
@@ -204,3 +204,40 @@ module _ {A : Type 0} where
   pub filled-full : (d s : List A) (n : ℕ) → length d ≤ n → length s ≤ n → filled d s n ≡ s
   unfolding filled
   filled-full d s n hd hs = rw (take-all n s hs, drop-of-length-le d hd, append-nil)
+
+  -- none has a value, and none but the kth
+  firstFrom-no : {B : Type 0} (p : ℕ → A → Bool) (q : ℕ → A → B) (e : B) (n : ℕ) (xs : List A) (d : A)
+      → ((i : ℕ) → i < length xs → p (n + i) (getD xs i d) ≡ false) → firstFrom p q e n xs ≡ e
+  unfolding firstFrom
+  firstFrom-no p q e n [] d h = refl
+  firstFrom-no p q e n (x ∷ xs) d h =
+      rw (rw add-zero at (h 0 (omega arith))) (firstFrom-no p q e (suc n) xs d (λ i l. rw (suc-add, ← add-suc) (h (suc i) (suc-le-suc l))))
+
+  pub firstFrom-one : {B : Type 0} (p : ℕ → A → Bool) (q : ℕ → A → B) (e : B) (n : ℕ) (xs : List A) (d : A) (k : ℕ) → k < length xs
+      → ((i : ℕ) → i < length xs → (i ≡ k → ⊥) → p (n + i) (getD xs i d) ≡ false)
+      → firstFrom p q e n xs ≡ cond (p (n + k) (getD xs k d)) (q (n + k) (getD xs k d)) e
+  unfolding firstFrom
+  firstFrom-one p q e n (x ∷ xs) d zero l h =
+      rw (firstFrom-no p q e (suc n) xs d (λ i m. rw (suc-add, ← add-suc) (h (suc i) (suc-le-suc m) (λ z. omega arith))), add-zero)
+  firstFrom-one p q e n (x ∷ xs) d (suc k) (suc-le-suc l) h =
+      rw (rw add-zero at (h 0 (omega arith) (λ z. omega arith)), add-suc, ← suc-add)
+      (firstFrom-one p q e (suc n) xs d k l (λ i m ne. rw (suc-add, ← add-suc) (h (suc i) (suc-le-suc m) (λ z. ne (suc-inj z)))))
+
+  -- some element does, as a first value
+  any-first : (p : ℕ → A → Bool) (n : ℕ) (xs : List A) → anyFrom p n xs ≡ firstFrom p (λ i x. true) false n xs
+  unfolding anyFrom firstFrom
+  any-first p n [] = refl
+  any-first p n (x ∷ xs) = go (p n x) (any-first p (suc n) xs)
+    where
+      go : (b : Bool) {c d : Bool} → c ≡ d → (b || c) ≡ cond b true d
+      go true e = refl
+      go false e = e
+
+  pub anyFrom-one : (p : ℕ → A → Bool) (n : ℕ) (xs : List A) (d : A) (k : ℕ) → k < length xs
+      → ((i : ℕ) → i < length xs → (i ≡ k → ⊥) → p (n + i) (getD xs i d) ≡ false)
+      → anyFrom p n xs ≡ p (n + k) (getD xs k d)
+  anyFrom-one p n xs d k l h = any-first p n xs ∙ firstFrom-one p (λ i x. true) false n xs d k l h ∙ same (p (n + k) (getD xs k d))
+    where
+      same : (b : Bool) → cond b true false ≡ b
+      same true = refl
+      same false = refl

@@ -3,6 +3,13 @@ pub mod Judged
 pub mod Sentences
 pub mod Unchanged
 pub mod Stored
+pub mod Alone
+pub mod Parse
+pub mod Classes
+pub mod Foreign
+pub mod Struck
+pub mod Apart
+pub mod Sharp
 pub mod Masks
 pub mod Floor
 pub mod SensorSteps
@@ -12,4 +19,8 @@ pub mod Kept
 pub mod InStep
 pub mod Everywhere
 pub mod Protection
+pub mod Controls
 pub mod Rulings
+pub mod RunAnswers
+pub mod Demand3
+pub mod Swap

@@ -8,7 +8,7 @@ use mathlib.Core.List.{List, map}
 use lib.Dec.{eqb, leb}
 use lib.ListN.{length, set}
 use Rattle.lists.specs.Tests.{cond-cases}
-use Rattle.lists.specs.Each.{map-mapFrom, length-mapFrom}
+use Rattle.lists.specs.Each.{map-mapFrom}
 use Rattle.rules.specs.declared.Act.{Act}
 use Rattle.rules.specs.declared.Act.the-variants.{Start, Byte, Read, Stop, Timeout, Tick, Voltage, Power, Temperature}
 use Rattle.rules.specs.declared.BlockNo.{BlockNo}
@@ -30,6 +30,7 @@ use Rattle.rules.specs.Refusals.{kindsOf}
 use Rattle.rules.specs.Runs.{Bench, taken, next, after}
 use Rattle.rules.specs.Open.{open-fields, open-memory, open-slot}
 use Rattle.rules.proofs.Unchanged.{same-next, same-after}
+use Rattle.rules.proofs.Alone.{number-taken}
 use Rattle.rules.proofs.Stored.{isTick}
 
 -- What decides the protection to come, when slot n is s and the act is a; after it `stands` is protected, and `comes` is to come.
@@ -226,10 +227,6 @@ unfolding lengthsOf
 lengths-after = each-after (λ (s : Slot). s .length) length-next
 
 -- and their number
-number-taken : (a : Act) (x : Bench) → length ((taken a x) .bus .slots) ≡ length (x .bus .slots)
-unfolding taken busNext
-number-taken a x = length-mapFrom (λ n s. slotNext n a s) 0 (x .bus .slots)
-
 pub number-next : (e : Event) (x : Bench) → length ((next e x) .bus .slots) ≡ length (x .bus .slots)
 number-next = same-next (λ (x : Bench). length (x .bus .slots)) number-taken
 

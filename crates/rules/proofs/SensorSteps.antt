@@ -24,6 +24,7 @@ use Rattle.rules.specs.Fresh.{freshSensor, freshSlot, powered}
 use Rattle.rules.specs.Memory.{cleared, settled, guarded, anyMark}
 use Rattle.rules.specs.Open.{open-fields, open-memory, open-control, open-slot}
 use Rattle.rules.specs.Sensor.{limitBits, resolutionBits, timeoutBits, criticalLocked, limitsLocked, configured, written, converted}
+use Rattle.rules.specs.Exchanges.{slotAfter}
 use Rattle.rules.specs.Slot.{standing, commanding, holds, byteIn, readIn, stopIn, slotNext, letGo, switched}
 
 -- a write replaces one register, no locked one, or changes nothing
@@ -68,11 +69,6 @@ isPower (Temperature k t) = false
 
 unfoldable pub withoutPower : List Act → Bool
 withoutPower r = allOf (λ a. not (isPower a)) r
-
--- a run of acts, on slot n alone
-unfoldable pub slotAfter : ℕ → List Act → Slot → Slot
-slotAfter n [] s = s
-slotAfter n (a ∷ r) s = slotAfter n r (slotNext n a s)
 
 module _ (R : Sensor → Sensor → Type 0) (every : Respected R) where
   -- from the slot s to the slot t

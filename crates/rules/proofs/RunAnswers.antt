@@ -1,0 +1,103 @@
+-- The answers of a run are those of its events one by one: an event that is refused does nothing, so the others go and answer as their acts do without it; and those answers fall into the items of the parse.
+-- Assumes nothing.
+use Prim.Native.Nat.{ℕ}
+use mathlib.Core.Path.{_≡_, refl, sym, _∙_, ap}
+use mathlib.Core.Bool.{true, cond}
+use mathlib.Core.List.{List, [], _∷_, _++_}
+use mathlib.Core.Option.{some}
+use lib.ListN.{length}
+use Rattle.rules.specs.declared.Act.{Act}
+use Rattle.rules.specs.declared.Act.the-variants.{Start}
+use Rattle.rules.specs.declared.Event.{Event}
+use Rattle.rules.specs.declared.Ruling.{Ruling}
+use Rattle.rules.specs.declared.Ruling.the-variants.{Taken, Refused}
+use Rattle.rules.specs.Modelled.{memoryBytes}
+use Rattle.rules.specs.Refusals.{kindsOf, inRange, ruledBy}
+use Rattle.rules.specs.Runs.{Bench, taken, given, rulingOn, ruledNext, ruledAnswer, next, answered, after}
+use Rattle.rules.specs.Exchanges.{keptAnswer, keptAnswers, chunks, concat, ownOf, keptBy, actsOf, went, told, Inside, Item, exchange, between, insideAct, upToStop, itemActs, flatten, itemsOf, own, ownTold}
+use Rattle.rules.proofs.Kept.{next-in-range}
+use Rattle.rules.proofs.Protection.{kinds-next}
+use Rattle.rules.proofs.Rulings.{ruling-by-kinds}
+use Rattle.rules.proofs.Stored.{memory-length-next}
+use Rattle.rules.proofs.Parse.{flatten-items}
+
+-- one event, however it is ruled: the bench, and the answer
+went-kept : (v : Ruling) (r : List Act) (x : Bench) → went r (ruledNext v x) ≡ went (keptBy v r) x
+unfolding went keptBy ruledNext
+went-kept (Taken a) r x = refl
+went-kept (Refused n) r x = refl
+
+told-kept : (v : Ruling) (r : List Act) (x : Bench) → keptAnswer v (ruledAnswer v x) (told r (ruledNext v x)) ≡ told (keptBy v r) x
+unfolding told keptBy keptAnswer ruledNext ruledAnswer
+told-kept (Taken a) r x = refl
+told-kept (Refused n) r x = refl
+
+-- a bench that meets neither row 1 nor row 6, with slots of these kinds
+record Sound (kinds : List ℕ) (x : Bench) : Type 0 where
+  long : length (x .memory) ≡ memoryBytes
+  ranged : inRange (x .bus) ≡ true
+  alike : kindsOf (x .bus) ≡ kinds
+
+module _ (kinds : List ℕ) where
+  sound-next : (e : Event) (x : Bench) → Sound kinds x → Sound kinds (next e x)
+  sound-next e x s = record {
+    long = memory-length-next e x ∙ s .long;
+    ranged = next-in-range e x (s .ranged);
+    alike = kinds-next e x ∙ s .alike;
+  }
+
+  ruled-by-kinds : (e : Event) (x : Bench) → Sound kinds x → rulingOn e x ≡ ruledBy kinds e
+  unfolding rulingOn
+  ruled-by-kinds e x s = ruling-by-kinds (x .bus) (x .memory) e (s .long) (s .ranged) ∙ ap (λ ks. ruledBy ks e) (s .alike)
+
+  after-sound : (es : List Event) (x : Bench) → Sound kinds x → after es x ≡ went (actsOf kinds es) x
+  unfolding after next went actsOf
+  after-sound [] x s = refl
+  after-sound (e ∷ es) x s =
+      after-sound es (next e x) (sound-next e x s)
+      ∙ ap (λ v. went (actsOf kinds es) (ruledNext v x)) (ruled-by-kinds e x s)
+      ∙ went-kept (ruledBy kinds e) (actsOf kinds es) x
+
+  answers-sound : (es : List Event) (x : Bench) → Sound kinds x → keptAnswers kinds es x ≡ told (actsOf kinds es) x
+  unfolding keptAnswers next answered told actsOf
+  answers-sound [] x s = refl
+  answers-sound (e ∷ es) x s =
+      ap (keptAnswer (ruledBy kinds e) (answered e x)) (answers-sound es (next e x) (sound-next e x s))
+      ∙ ap (λ v. keptAnswer (ruledBy kinds e) (ruledAnswer v x) (told (actsOf kinds es) (ruledNext v x))) (ruled-by-kinds e x s)
+      ∙ told-kept (ruledBy kinds e) (actsOf kinds es) x
+
+told-stop : (xs : List Inside) (r : List Act) (x : Bench) → told (upToStop xs r) x ≡ told (upToStop xs []) x ++ told r (went (upToStop xs []) x)
+unfolding told went upToStop
+told-stop [] r x = refl
+told-stop (y ∷ ys) r x = ap (given (insideAct y) x ∷_) (told-stop ys r (taken (insideAct y) x))
+
+told-item : (i : Item) (r : List Act) (x : Bench) → told (itemActs i r) x ≡ told (itemActs i []) x ++ told r (went (itemActs i []) x)
+unfolding told went itemActs
+told-item (exchange xs) r x = ap (given Start x ∷_) (told-stop xs r (taken Start x))
+told-item (between g) r x = refl
+
+-- together they are the answers of the run
+pub told-chunks : (is : List Item) (x : Bench) → told (flatten is) x ≡ concat (chunks is x)
+unfolding told flatten chunks concat
+told-chunks [] x = refl
+told-chunks (i ∷ is) x = told-item i (flatten is) x ∙ ap (told (itemActs i []) x ++_) (told-chunks is (went (itemActs i []) x))
+
+pub own-chunks : (s : ℕ) (is : List Item) (x : Bench) → ownTold s is x ≡ ownOf s is (chunks is x)
+unfolding ownTold chunks ownOf
+own-chunks s [] x = refl
+own-chunks s (i ∷ is) x = ap (λ cs. cond (own s i) (told (itemActs i []) x ∷ cs) cs) (own-chunks s is (went (itemActs i []) x))
+
+module _ (es : List Event) (x : Bench) (long : length (x .memory) ≡ memoryBytes) (ranged : inRange (x .bus) ≡ true) where
+  sound : Sound (kindsOf (x .bus)) x
+  sound = record { long = long; ranged = ranged; alike = refl }
+
+  -- the bench after the run, and the answers
+  pub after-kept : after es x ≡ went (actsOf (kindsOf (x .bus)) es) x
+  after-kept = after-sound (kindsOf (x .bus)) es x sound
+
+  pub answers-kept : keptAnswers (kindsOf (x .bus)) es x ≡ told (actsOf (kindsOf (x .bus)) es) x
+  answers-kept = answers-sound (kindsOf (x .bus)) es x sound
+
+  -- item by item
+  pub run-answers : (is : List Item) → itemsOf (actsOf (kindsOf (x .bus)) es) ≡ some is → keptAnswers (kindsOf (x .bus)) es x ≡ concat (chunks is x)
+  run-answers is p = answers-kept ∙ ap (λ r. told r x) (sym (flatten-items _ is p)) ∙ told-chunks is x
