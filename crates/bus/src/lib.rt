@@ -118,8 +118,8 @@ fn read_all(slots: [Slot; 8], mem: &[u8], more: bool) -> Seen
     let mut byte: u8 = 255;
     for i in 0..8usize {
         let s = all[i];
-        let a = 512 * i;
-        let e = a + 512;
+        let a = Slot::BYTES * i;
+        let e = a + Slot::BYTES;
         let r = slot::read(s, &mem[a..e], more);
         let next = r.slot;
         all[i] = next;
@@ -141,8 +141,8 @@ fn tick_all(slots: [Slot; 8], mem: &mut [u8]) -> [Slot; 8]
     let mut all = slots;
     for i in 0..8usize {
         let s = all[i];
-        let a = 512 * i;
-        let e = a + 512;
+        let a = Slot::BYTES * i;
+        let e = a + Slot::BYTES;
         let next = memory::tick(s, &mut mem[a..e]);
         all[i] = next;
     }

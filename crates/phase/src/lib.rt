@@ -2,10 +2,11 @@
 ghost use mathlib.Core.Path.{_≡_};
 ghost use Rattle.rules.specs.Fields.{inPhase};
 ghost use Rattle.rules.specs.Memory.{settled, lost};
-ghost use Rattle.rules.specs.Slot.{withSensorIn, standing, commanding, holds, letGo};
+ghost use Rattle.rules.specs.Slot.{being, traits, standing, letGo};
 use rules::Phase;
 use rules::Sensor;
 use rules::Slot;
+use rules::Traits;
 
 // The slot in another phase.
 pub fn in_phase(phase: Phase, s: Slot) -> Slot
@@ -14,26 +15,38 @@ pub fn in_phase(phase: Phase, s: Slot) -> Slot
     Slot { phase, ..s }
 }
 
-// The phases of an exchange with the sensor.
-fn with_sensor_in(p: Phase) -> bool
-    ensures { λ r. ⌜ r ≡ withSensorIn p ⌝ }
+fn being(sensor: bool, command: bool, holds: bool, drives: bool) -> Traits
+    ensures { λ r. ⌜ r ≡ being sensor command holds drives ⌝ }
+{
+    Traits {
+        sensor,
+        command,
+        holds,
+        drives,
+    }
+}
+
+// What a phase is: of an exchange with the sensor, of a protect or clear before its stop, one that holds something of the slot, one
+// that serves reads.
+pub fn traits(p: Phase) -> Traits
+    ensures { λ r. ⌜ r ≡ traits p ⌝ }
 {
     match p {
-        Phase::Idle => false,
-        Phase::Control => false,
-        Phase::Deaf => false,
-        Phase::MemoryCounter => false,
-        Phase::MemoryData => false,
-        Phase::MemoryRead => false,
-        Phase::HalfSelected => false,
-        Phase::CommandAddress => false,
-        Phase::CommandData => false,
-        Phase::CommandStop => false,
-        Phase::SensorPointer => true,
-        Phase::SensorHigh => true,
-        Phase::SensorLow => true,
-        Phase::SensorReadHigh => true,
-        Phase::SensorReadLow => true,
+        Phase::Idle => being(false, false, false, false),
+        Phase::Control => being(false, false, false, false),
+        Phase::Deaf => being(false, false, false, false),
+        Phase::MemoryCounter => being(false, false, false, false),
+        Phase::MemoryData => being(false, false, true, false),
+        Phase::MemoryRead => being(false, false, false, true),
+        Phase::HalfSelected => being(false, false, false, false),
+        Phase::CommandAddress => being(false, true, true, false),
+        Phase::CommandData => being(false, true, true, false),
+        Phase::CommandStop => being(false, true, true, false),
+        Phase::SensorPointer => being(true, false, false, false),
+        Phase::SensorHigh => being(true, false, false, false),
+        Phase::SensorLow => being(true, false, true, false),
+        Phase::SensorReadHigh => being(true, false, true, true),
+        Phase::SensorReadLow => being(true, false, true, true),
     }
 }
 
@@ -42,56 +55,11 @@ pub fn standing(s: Slot) -> Phase
     ensures { λ r. ⌜ r ≡ standing s ⌝ }
 {
     let phase = s.phase;
-    if (s.kind == 0) | (with_sensor_in(phase) & (s.kind != 2)) {
+    let t = traits(phase);
+    if (s.kind == 0) | (t.sensor & (s.kind != 2)) {
         return Phase::Deaf;
     }
     phase
-}
-
-// The phases of a protect or clear that its stop has not yet begun.
-pub fn commanding(p: Phase) -> bool
-    ensures { λ r. ⌜ r ≡ commanding p ⌝ }
-{
-    match p {
-        Phase::Idle => false,
-        Phase::Control => false,
-        Phase::Deaf => false,
-        Phase::MemoryCounter => false,
-        Phase::MemoryData => false,
-        Phase::MemoryRead => false,
-        Phase::HalfSelected => false,
-        Phase::CommandAddress => true,
-        Phase::CommandData => true,
-        Phase::CommandStop => true,
-        Phase::SensorPointer => false,
-        Phase::SensorHigh => false,
-        Phase::SensorLow => false,
-        Phase::SensorReadHigh => false,
-        Phase::SensorReadLow => false,
-    }
-}
-
-// The phases in which the exchange holds something of the slot.
-fn holds(p: Phase) -> bool
-    ensures { λ r. ⌜ r ≡ holds p ⌝ }
-{
-    match p {
-        Phase::Idle => false,
-        Phase::Control => false,
-        Phase::Deaf => false,
-        Phase::MemoryCounter => false,
-        Phase::MemoryData => true,
-        Phase::MemoryRead => false,
-        Phase::HalfSelected => false,
-        Phase::CommandAddress => true,
-        Phase::CommandData => true,
-        Phase::CommandStop => true,
-        Phase::SensorPointer => false,
-        Phase::SensorHigh => false,
-        Phase::SensorLow => true,
-        Phase::SensorReadHigh => true,
-        Phase::SensorReadLow => true,
-    }
 }
 
 // What an exchange held is let go, save what belongs to a write cycle that runs.
@@ -129,7 +97,8 @@ pub fn lost(s: Slot) -> Slot
 pub fn let_go(s: Slot) -> Slot
     ensures { λ r. ⌜ r ≡ letGo s ⌝ }
 {
-    if holds(standing(s)) {
+    let t = traits(standing(s));
+    if t.holds {
         return settled(s);
     }
     s

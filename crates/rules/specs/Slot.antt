@@ -10,6 +10,7 @@ use Rattle.rules.specs.declared.Act.the-variants.{Start, Byte, Read, Sto
 use Rattle.rules.specs.declared.Phase.{Phase}
 use Rattle.rules.specs.declared.Phase.the-variants.{Idle, Control, Deaf, MemoryCounter, MemoryData, MemoryRead, HalfSelected, CommandAddress, CommandData, CommandStop, SensorPointer, SensorHigh, SensorLow, SensorReadHigh, SensorReadLow}
 use Rattle.rules.specs.declared.Slot.{Slot}
+use Rattle.rules.specs.declared.Traits.{Traits}
 use Rattle.rules.specs.Modelled.{absent, sensing, addressOf}
 use Rattle.rules.specs.Fields.{inPhase, withVoltage, withSensor, pointing, holding}
 use Rattle.rules.specs.Fresh.{powered}
@@ -17,63 +18,43 @@ use Rattle.rules.specs.Sensor.{written, converted}
 use Rattle.rules.specs.Control.{acksControl, controlled}
 use Rattle.rules.specs.Memory.{settled, lost, loaded, guarded, dataByte, fetched, dataStop, changing, ticked}
 
--- the phases of an exchange with the sensor
+-- what each phase is: of an exchange with the sensor; of a protect or clear that its stop has not yet begun; one in which the exchange
+-- holds something of the slot, latched bytes, a protection to come or a register's bytes; one in which a read is served
+abbrev pub being : Bool → Bool → Bool → Bool → Traits
+being sensor command holds drives = record { sensor = sensor; command = command; holds = holds; drives = drives }
+
+abbrev pub traits : Phase → Traits
+traits Idle = being false false false false
+traits Control = being false false false false
+traits Deaf = being false false false false
+traits MemoryCounter = being false false false false
+traits MemoryData = being false false true false
+traits MemoryRead = being false false false true
+traits HalfSelected = being false false false false
+traits CommandAddress = being false true true false
+traits CommandData = being false true true false
+traits CommandStop = being false true true false
+traits SensorPointer = being true false false false
+traits SensorHigh = being true false false false
+traits SensorLow = being true false true false
+traits SensorReadHigh = being true false true true
+traits SensorReadLow = being true false true true
+
 abbrev pub withSensorIn : Phase → Bool
-withSensorIn Idle = false
-withSensorIn Control = false
-withSensorIn Deaf = false
-withSensorIn MemoryCounter = false
-withSensorIn MemoryData = false
-withSensorIn MemoryRead = false
-withSensorIn HalfSelected = false
-withSensorIn CommandAddress = false
-withSensorIn CommandData = false
-withSensorIn CommandStop = false
-withSensorIn SensorPointer = true
-withSensorIn SensorHigh = true
-withSensorIn SensorLow = true
-withSensorIn SensorReadHigh = true
-withSensorIn SensorReadLow = true
+withSensorIn p = traits p .sensor
+
+abbrev pub commanding : Phase → Bool
+commanding p = traits p .command
+
+abbrev pub holds : Phase → Bool
+holds p = traits p .holds
+
+abbrev pub drivesIn : Phase → Bool
+drivesIn p = traits p .drives
 
 -- "absent slots, and sensor exchanges without a sensor, count as deaf": the phase that the rules go by
 unfoldable pub standing : Slot → Phase
 standing s = cond (absent s || (withSensorIn (s .phase) && not (sensing s))) Deaf (s .phase)
-
--- the phases of a protect or clear that its stop has not yet begun
-abbrev pub commanding : Phase → Bool
-commanding Idle = false
-commanding Control = false
-commanding Deaf = false
-commanding MemoryCounter = false
-commanding MemoryData = false
-commanding MemoryRead = false
-commanding HalfSelected = false
-commanding CommandAddress = true
-commanding CommandData = true
-commanding CommandStop = true
-commanding SensorPointer = false
-commanding SensorHigh = false
-commanding SensorLow = false
-commanding SensorReadHigh = false
-commanding SensorReadLow = false
-
--- the phases in which the exchange holds something of the slot: latched bytes, a protection to come, a register's bytes
-abbrev pub holds : Phase → Bool
-holds Idle = false
-holds Control = false
-holds Deaf = false
-holds MemoryCounter = false
-holds MemoryData = true
-holds MemoryRead = false
-holds HalfSelected = false
-holds CommandAddress = true
-holds CommandData = true
-holds CommandStop = true
-holds SensorPointer = false
-holds SensorHigh = false
-holds SensorLow = true
-holds SensorReadHigh = true
-holds SensorReadLow = true
 
 -- "A start, read, timeout or power cycle before the stop abandons the bytes; the counter stays where it then stands", and "cancels too"
 unfoldable pub letGo : Slot → Slot
@@ -150,24 +131,7 @@ readIn SensorLow more s = lost s
 readIn SensorReadHigh more s = cond more (inPhase SensorReadLow s) (lost s)
 readIn SensorReadLow more s = lost s
 
--- whether the slot drives a byte at a read, and which
-abbrev pub drivesIn : Phase → Bool
-drivesIn Idle = false
-drivesIn Control = false
-drivesIn Deaf = false
-drivesIn MemoryCounter = false
-drivesIn MemoryData = false
-drivesIn MemoryRead = true
-drivesIn HalfSelected = false
-drivesIn CommandAddress = false
-drivesIn CommandData = false
-drivesIn CommandStop = false
-drivesIn SensorPointer = false
-drivesIn SensorHigh = false
-drivesIn SensorLow = false
-drivesIn SensorReadHigh = true
-drivesIn SensorReadLow = true
-
+-- the byte that the slot drives at a read, with its 512 bytes m; FFh where it drives none
 unfoldable pub drivenIn : Phase → Slot → List ℕ → ℕ
 drivenIn Idle s m = 0xFF
 drivenIn Control s m = 0xFF

@@ -99,6 +99,14 @@ pub enum Phase {
     SensorReadLow,
 }
 
+// What a phase is; specs/Slot has the table.
+pub struct Traits {
+    pub sensor: bool,
+    pub command: bool,
+    pub holds: bool,
+    pub drives: bool,
+}
+
 // The registers that can change, and what an exchange with the sensor holds.
 pub struct Sensor {
     pub pointer: u8,

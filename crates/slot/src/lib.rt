@@ -372,9 +372,13 @@ pub fn signalled(x: Signal, s: Slot) -> Slot
 pub fn switched(on: bool, s: Slot) -> Slot
     ensures { λ r. ⌜ r ≡ switched on s ⌝ }
 {
-    if phase::commanding(phase::standing(s)) & !on {
-        let t = phase::lost(s);
-        return Slot { voltage: on, ..t };
+    let t = phase::traits(phase::standing(s));
+    if t.command & !on {
+        let gone = phase::lost(s);
+        return Slot {
+            voltage: on,
+            ..gone
+        };
     }
     Slot { voltage: on, ..s }
 }

@@ -1,0 +1,55 @@
+-- The table, row by row.
+-- Assumes nothing.
+use borrow.Author.Needs.{needs}
+use Rattle.phase.proofs.traits.Statement.{statement}
+use Rattle.phase.proofs.traits.Tie as tie
+
+pub traits-spec : {M : Type 1} → statement M
+traits-spec =
+    tie.close
+    (tie.spec
+    (λ c. search needs)
+    (λ c κs. search needs)
+    (λ c. search needs)
+    (λ c κs. search needs)
+    (λ c. search needs)
+    (λ c κs. search needs)
+    (λ c. search needs)
+    (λ c κs. search needs)
+    (λ c. search needs)
+    (λ c κs. search needs)
+    (λ c. search needs)
+    (λ c κs. search needs)
+    (λ c. search needs)
+    (λ c κs. search needs)
+    (λ c. search needs)
+    (λ c κs. search needs)
+    (λ c. search needs)
+    (λ c κs. search needs)
+    (λ c. search needs)
+    (λ c κs. search needs)
+    (λ c. search needs)
+    (λ c κs. search needs)
+    (λ c. search needs)
+    (λ c κs. search needs)
+    (λ c. search needs)
+    (λ c κs. search needs)
+    (λ c. search needs)
+    (λ c κs. search needs)
+    (λ c. search needs)
+    (λ c κs. search needs)
+    (λ c. rw (c .before .enum-told .given .1, c .being .ensures))
+    (λ c. rw (c .before .enum-told2 .given .1, c .being2 .ensures))
+    (λ c. rw (c .before .enum-told3 .given .1, c .being3 .ensures))
+    (λ c. rw (c .before .enum-told4 .given .1, c .being4 .ensures))
+    (λ c. rw (c .before .enum-told5 .given .1, c .being5 .ensures))
+    (λ c. rw (c .before .enum-told6 .given .1, c .being6 .ensures))
+    (λ c. rw (c .before .enum-told7 .given .1, c .being7 .ensures))
+    (λ c. rw (c .before .enum-told8 .given .1, c .being8 .ensures))
+    (λ c. rw (c .before .enum-told9 .given .1, c .being9 .ensures))
+    (λ c. rw (c .before .enum-told10 .given .1, c .being10 .ensures))
+    (λ c. rw (c .before .enum-told11 .given .1, c .being11 .ensures))
+    (λ c. rw (c .before .enum-told12 .given .1, c .being12 .ensures))
+    (λ c. rw (c .before .enum-told13 .given .1, c .being13 .ensures))
+    (λ c. rw (c .before .enum-told14 .given .1, c .being14 .ensures))
+    (λ c. rw (c .before .enum-told15 .given .1, c .being15 .ensures)))
