@@ -1,0 +1,111 @@
+-- Laws for the script's lines: what fits, and lines put one after another.
+-- Assumes nothing.
+use mathlib.Core.Path.{_≡_, refl, sym, _∙_, ap}
+use mathlib.Core.List.{List, [], _∷_, _++_}
+use Prim.Native.Nat.{ℕ, zero, suc, _+_, _-_, _*_, _≤_, _<_}
+use native.Mathlib.Nat.{zero-add, add-zero, add-suc, suc-add}
+use native.Mathlib.Numerals.{add-one}
+use native.Mathlib.Omega.{arith}
+use lib.IntN.{pos, negsuc, _-ℤ_}
+use borrow.Author.Tests.{ltb-true, ltb-false}
+use lib.Dec.{ltb}
+use lib.ListN.{length, getD, set, take, drop, length-append, List·getD-append}
+use lib.Seq.{sets, getD-at, getD-drop, getD-append-add, length-take-le}
+use Rattle.lists.specs.Each.{filled}
+use Rattle.lists.specs.Tests.{by-test}
+use Rattle.rules.specs.declared.Answer.{Answer}
+use Rattle.rules.specs.declared.Answer.the-variants.{Nothing, Ack, Nack, Data, Refused}
+use Rattle.rules.specs.declared.Bus.{Bus}
+use Rattle.rules.specs.declared.Event.{Event}
+use Rattle.rules.specs.declared.Outcome.{Outcome}
+use Rattle.rules.specs.declared.Pair.{Pair}
+use Rattle.rules.specs.declared.Refusal.{Refusal}
+use Rattle.rules.specs.declared.Refusal.the-variants.{MemoryLength, UnknownKind, WrongSlot, WrongValue, WrongSetup, WrongState}
+use Rattle.rules.specs.Events.{refusalNumber}
+use Rattle.rules.specs.Runs.{Bench, rulingOn, next, answered, ruledOutcome, eventOf}
+use Rattle.lines.specs.Script.{pairAt, pairsTo, recordAt, digitsOf, lineOf, benchTo, linesTo}
+
+-- a refusal's number is a digit
+refusal-small : (r : Refusal) → refusalNumber r ≤ 6
+unfolding refusalNumber
+refusal-small MemoryLength = omega arith
+refusal-small UnknownKind = omega arith
+refusal-small WrongSlot = omega arith
+refusal-small WrongValue = omega arith
+refusal-small WrongSetup = omega arith
+refusal-small WrongState = omega arith
+
+pub digit-small : (r : Refusal) (n : ℕ) → n ≡ refusalNumber r → n ≤ 6
+digit-small r n e = omega (arith, refusal-small r)
+
+-- one below zero, and so many more
+pub below-zero : (m : ℕ) → negsuc 0 -ℤ pos m ≡ negsuc m
+below-zero zero = refl
+below-zero (suc m) = ap (λ (n : ℕ). negsuc (suc n)) (zero-add m)
+
+-- one record more
+pub bench-step : (x : Bench) (bs : List ℕ) (k : ℕ) → benchTo x bs (k + 1) ≡ next (recordAt bs (4 * k)) (benchTo x bs k)
+unfolding benchTo
+bench-step x bs k = rw add-one
+
+pub lines-step : (x : Bench) (bs : List ℕ) (k : ℕ) → linesTo x bs (k + 1) ≡ linesTo x bs k ++ lineOf (answered (recordAt bs (4 * k)) (benchTo x bs k))
+unfolding linesTo
+lines-step x bs k = rw add-one
+
+pub lines-none : (x : Bench) (bs out : List ℕ) → out ≡ sets out 0 (linesTo x bs 0)
+unfolding linesTo
+lines-none x bs out = refl
+
+-- a line has at most four bytes
+pub line-length : (a : Answer) → length (lineOf a) ≤ 4
+unfolding lineOf digitsOf
+line-length Nothing = omega arith
+line-length Ack = omega arith
+line-length Nack = omega arith
+line-length (Data b) = omega arith
+line-length (Refused r) = omega arith
+
+-- stores after stores
+pub sets-append : (l : List ℕ) (i : ℕ) (p q : List ℕ) → sets l i (p ++ q) ≡ sets (sets l i p) (i + length p) q
+sets-append l i [] q = rw add-zero
+sets-append l i (a ∷ p) q = sets-append (set l i a) (suc i) p q ∙ ap (λ (n : ℕ). sets (sets (set l i a) (suc i) p) n q) (suc-add i (length p) ∙ sym (add-suc i (length p)))
+
+-- what the public event gives is the next bench and its answer
+module _ (b : Bus) (m : List ℕ) (e : Event) (o : Outcome) (n : List ℕ) (p : eventOf b m e ≡ (o, n)) where
+  pub event-bench : record { bus = o .bus; memory = n } ≡ next e (record { bus = b; memory = m })
+  unfolding eventOf ruledOutcome next rulingOn
+  event-bench = ap (λ (z : Outcome × List ℕ). record { bus = z .0 .bus; memory = z .1 }) (sym p)
+
+  pub event-answer : o .answer ≡ answered e (record { bus = b; memory = m })
+  unfolding eventOf ruledOutcome answered rulingOn
+  event-answer = ap (λ (z : Outcome × List ℕ). z .0 .answer) (sym p)
+
+-- the setup's pairs
+pub length-pairs : (bs : List ℕ) (n : ℕ) → length (pairsTo bs n) ≡ n
+unfolding pairsTo
+length-pairs bs zero = refl
+length-pairs bs (suc n) = length-append (pairsTo bs n) (pairAt bs (2 * n) ∷ []) ∙ omega (arith, length-pairs bs n)
+
+pub pairs-at : (bs : List ℕ) (n k : ℕ) (z : Pair) → k < n → getD (pairsTo bs n) k z ≡ pairAt bs (2 * k)
+unfolding pairsTo
+pairs-at bs zero k z h = absurd (none h)
+  where
+    none : {i : ℕ} → i < 0 → ⊥
+    none h = omega arith
+pairs-at bs (suc n) k z h =
+    by-test (ltb k n)
+    (λ e. List·getD-append (pairsTo bs n) (pairAt bs (2 * n) ∷ []) z k (rw (length-pairs bs n) (ltb-true k n e)) ∙ pairs-at bs n k z (ltb-true k n e))
+    (λ e.
+    let f : n ≡ k = let g : n ≤ k = ltb-false k n e in omega arith in
+    getD-at (pairsTo bs n) (pairAt bs (2 * n)) [] z k (length-pairs bs n ∙ f) ∙ ap (λ i. pairAt bs (2 * i)) f)
+
+-- past the end of an array of pairs
+abbrev pub noPair : Pair
+noPair = record { kind = 0; length = 0 }
+
+-- past what has been filled stands what stood there
+pub filled-later : (d s : List ℕ) (k j : ℕ) → k ≤ length s → k ≤ j → getD (filled d s k) j 0 ≡ getD d j 0
+unfolding filled
+filled-later d s k j h l =
+    let e : length (take k s) + (j - k) ≡ j = rw (length-take-le k s h) (omega arith) in
+    sym (ap (λ n. getD (take k s ++ drop k d) n 0) e) ∙ getD-append-add (take k s) (drop k d) (j - k) 0 ∙ getD-drop k d (j - k) 0 ∙ ap (λ n. getD d n 0) (omega arith)

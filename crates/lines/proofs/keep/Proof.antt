@@ -1,0 +1,34 @@
+-- The bytes passed are those that are moved; those to come are still where they were.
+-- Assumes nothing.
+use mathlib.Core.Path.{refl, _≡_}
+use Prim.Native.Nat.{_≤_, _<_, _-_, _+_}
+use native.Mathlib.Omega.{arith}
+use borrow.Author.Needs.{needs}
+use lib.ListN.{length, drop, length-drop, length-set}
+use lib.Seq.{getD-drop}
+use Rattle.lists.specs.Each.{filled, filled-none, filled-step}
+use Rattle.lines.proofs.Laws.{filled-later}
+use Rattle.lines.proofs.keep.Statement.{statement}
+use Rattle.lines.proofs.keep.Tie as tie
+
+abbrev Inv-loop : tie.InvT-loop
+Inv-loop bytes₀ from count i₀ bytes i = (i ≤ count) × (length bytes ≡ length bytes₀) × (bytes ≡ filled bytes₀ (drop from bytes₀) i)
+
+abbrev μ-loop : tie.MeasureT-loop
+μ-loop bytes₀ from count i₀ bytes i = count - i
+
+pub keep-spec : {M : Type 1} → statement M
+keep-spec =
+    tie.close
+    (tie.spec
+    Inv-loop
+    μ-loop
+    (λ c. (omega arith, refl, filled-none _ _))
+    (λ c. search needs)
+    (λ c. search needs)
+    (λ c. search needs)
+    (λ c. search needs)
+    (λ c. search needs)
+    (λ c. let l = c .before .before .loop in let b = c .before .before .before .args .bytes .now in let f = c .before .before .before .args .from in let e : l .i < length (drop f b) = rw (length-drop f b) (omega arith) in (omega arith, simp length-set (l .inv .1), rw (l .inv .2, filled-later b (drop f b) (l .i) (f + l .i) (omega arith) (omega arith), ← getD-drop f b (l .i) 0) (filled-step b (drop f b) (l .i) 0 (omega arith) e)))
+    (λ c. search needs)
+    (λ c. let l = c .before .loop in let e : l .i ≡ c .before .before .args .count = omega arith in rw e at (l .inv .2)))
