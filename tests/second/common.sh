@@ -1,0 +1,82 @@
+# Shared by compare, fuzz and faults; sourced, not run.
+#
+# Finds the repository root (two folders up), builds the C programs into a
+# temporary folder that goes away at the end, and runs the two programs.
+# FIRST, if set, is the command line of the program under test, a filter from
+# a script on standard input to lines on standard output.
+
+set -u
+second_dir=$(cd "$(dirname "${BASH_SOURCE[0]}")" && pwd)
+root=$(cd "$second_dir/../.." && pwd)
+work=$(mktemp -d "${TMPDIR:-/tmp}/second.XXXXXX") || exit 2
+trap 'rm -rf "$work"' EXIT
+trap 'exit 130' INT TERM
+
+first=${FIRST:-$(printf '%q script' "$root/run")}
+
+die() { echo "$*" >&2; exit 2; }
+
+compiler() {
+    local name
+    for name in cc gcc clang; do
+        command -v "$name" && return
+    done
+    die "no C compiler (cc, gcc or clang) found"
+}
+
+# build PROGRAM SOURCE [OPTION]: into the temporary folder.
+build() { "$cc" -std=c99 "${3:--O2}" -w -o "$work/$1" "$2" || die "$2 does not build"; }
+
+cc=$(compiler) || exit 2
+for name in second generate shrink; do
+    build "$name" "$second_dir/$name.c"
+done
+
+# plan EVENTS SEED: a line `seed events mode` for each script: up to 90 short
+# ones with two odd ones after every fifth, then, for what is still missing,
+# 24 long ones.  Odd ones are not counted as events.
+plan() {
+    local events=$1 seed=$(($2 * 1000)) total=0 i=0 size
+    while ((i < 90 && total < events)); do
+        size=$((50 + (i * 137 + $2 % 451 * 31) % 451))
+        echo "$((seed + i)) $size plain"
+        ((total += size, i++))
+        ((i % 5)) && continue
+        echo "$((seed + 200 + i)) $((size % 100)) odd"
+        echo "$((seed + 201 + i)) $((size % 7)) odd"
+    done
+    ((total < events)) || return 0
+    size=$(((events - total + 23) / 24))
+    for ((i = 0; i < 24; i++)); do
+        echo "$((seed + 400 + i)) $size plain"
+    done
+}
+
+run_first() { sh -c "$first" <"$1" >"$2" 2>"$work/first.err"; }
+run_second() { "$work/second" <"$1" >"$2"; }
+
+# alike SCRIPT: both programs say the same, byte for byte.
+alike() {
+    run_first "$1" "$work/first.txt"
+    run_second "$1" "$work/second.txt"
+    cmp -s "$work/first.txt" "$work/second.txt"
+}
+
+# The whole case of document 01, so that a FIRST that cannot be run at all is
+# not taken for a difference.
+check_whole_case() {
+    printf '\1\1\0\0\0\0\0\0\0\0\0\0\0\0\0\0' >"$work/whole"
+    printf '%b' '\01\0\0\0' '\02\0\0\0240' '\02\0\0\0' '\02\0\0\0132' '\04\0\0\0' \
+        '\01\0\0\0' '\02\0\0\0240' '\06\0\0\0' '\01\0\0\0' '\02\0\0\0240' >>"$work/whole"
+    run_first "$work/whole" "$work/first.txt"
+    [ "$(tr '\n' ' ' <"$work/first.txt")" = '- A A A - - N - - A ' ] && return
+    cat "$work/first.err" >&2
+    die "the whole case of document 01 fails with: $first"
+}
+
+# show SCRIPT: shrinks the difference and prints it.
+show() {
+    "$work/shrink" "$1" "$work" "$first" "$work/second" && return
+    cmp "$work/first.txt" "$work/second.txt"
+    cat "$work/first.err"
+}

@@ -1,0 +1,606 @@
+/*
+ * generate SEED EVENTS [odd]: writes a script for the script program of
+ * document 01 to standard output: a setup and EVENTS records.
+ *
+ * The scripts are random but meant: whole exchanges of every sort, a good
+ * share of them then disturbed (cut, interrupted, mixed up), with ticks, pin
+ * and temperature events around them.  The generator knows nothing of the
+ * device's answers; it only remembers what it wrote where, so that it comes
+ * back to the same places.  The same arguments always give the same script.
+ *
+ * With `odd` the setup is bad or cut short, or the last record is cut.
+ */
+#include <stdio.h>
+#include <stdlib.h>
+#include <string.h>
+
+enum { START = 1, BYTE, READ, STOP, TIMEOUT, TICK, VOLTAGE, POWER, TEMPERATURE };
+
+/* ---- Chance (splitmix for the seed, then xorshift) ---------------------- */
+
+static unsigned long long state;
+
+static void seed_with(unsigned long long seed)
+{
+    seed += 0x9E3779B97F4A7C15ULL;
+    seed = (seed ^ seed >> 30) * 0xBF58476D1CE4E5B9ULL;
+    seed = (seed ^ seed >> 27) * 0x94D049BB133111EBULL;
+    state = (seed ^ seed >> 31) | 1;
+}
+
+static int below(int n)
+{
+    state ^= state >> 12;
+    state ^= state << 25;
+    state ^= state >> 27;
+    return (int)((state * 0x2545F4914F6CDD1DULL >> 33) % (unsigned)n);
+}
+
+static int between(int low, int high) { return low + below(high - low + 1); }
+static int one_in(int n) { return below(n) == 0; }
+
+#define ONE_OF(array) ((array)[below((int)(sizeof (array) / sizeof (array)[0]))])
+
+/* ---- What the generator remembers --------------------------------------- */
+
+static int kind_of[8], length_of[8];     /* the setup */
+static int favourite[2], with_sensor;    /* slots most exchanges go to */
+static int places[4];                    /* addresses this script comes back to */
+static int limit[8][3], hysteresis[8];   /* last written: high, low, critical */
+static int lately;                       /* 0, 1 or 2: the limit written last */
+static int locked[8];                    /* lock bits written since power came */
+static int in_hand;                      /* the slot of the exchange being made */
+static long left;                        /* records still to write */
+
+static void forget(void)
+{
+    memset(limit, 0, sizeof limit);
+    memset(hysteresis, 0, sizeof hysteresis);
+    memset(locked, 0, sizeof locked);
+}
+
+/* ---- Records ------------------------------------------------------------ */
+
+static void record(int kind, int slot, int value)
+{
+    if (left <= 0)
+        return;
+    left--;
+    if (kind == POWER)
+        forget();
+    putchar(kind);
+    putchar(slot);
+    putchar(value >> 8 & 255);
+    putchar(value & 255);
+}
+
+static int any_value(void)
+{
+    static const int ends[] = { -32768, -641, -640, -2, -1, 0, 1, 2, 255, 256,
+                                2000, 2001, 32767 };
+    return one_in(6) ? between(-32768, 32767) : ONE_OF(ends);
+}
+
+static int any_slot(void)
+{
+    static const int high[] = { 8, 8, 8, 9, 16, 128, 255 };
+    return one_in(3) ? ONE_OF(high) : below(8);
+}
+
+/* An exchange is gathered here first, so that it can be disturbed. */
+struct event { int kind, slot, value; };
+static struct event gathered[200];
+static int count;
+
+static void insert(int at, int kind, int slot, int value)
+{
+    if (count == 200)
+        return;
+    memmove(gathered + at + 1, gathered + at, (size_t)(count - at) * sizeof gathered[0]);
+    gathered[at].kind = kind;
+    gathered[at].slot = slot;
+    gathered[at].value = value;
+    count++;
+}
+
+static void add(int kind, int value) { insert(count, kind, 0, value); }
+
+/* ---- Slots, addresses, temperatures ------------------------------------- */
+
+static int any_of_eight(void)
+{
+    int n = below(8);
+    return kind_of[n] ? n : below(8);    /* mostly one that is there */
+}
+
+static int a_slot(void) { return in_hand = below(3) ? favourite[below(2)] : any_of_eight(); }
+static int a_sensor(void) { return in_hand = below(8) ? with_sensor : any_of_eight(); }
+
+/* Near the ends of pages, of blocks and of the half. */
+static int an_address(void)
+{
+    static const int ends[] = { 0x00, 0x01, 0x0E, 0x0F, 0x10, 0x1F, 0x70, 0x7E, 0x7F,
+                                0x80, 0x81, 0x8F, 0xEF, 0xF0, 0xFD, 0xFE, 0xFF };
+    switch (below(8)) {
+    case 0: return below(256);
+    case 1: return ONE_OF(ends);
+    default: return ONE_OF(places);
+    }
+}
+
+/* Mostly at a limit, with and without hysteresis, and the steps around it. */
+static int a_temperature(int n)
+{
+    static const int ends[] = { -640, -639, -641, 2000, 1999, 2001, -32768, 32767 };
+    static const int near[] = { 0, 0, 0, 1, -1, 2, -2, 3, -3, 4, -4, 8, -8 };
+    int t = limit[n][one_in(2) ? lately : below(3)] - (one_in(2) ? hysteresis[n] : 0);
+
+    switch (below(16)) {
+    case 0: return ONE_OF(ends);
+    case 1: case 2: return between(-640, 2000);
+    case 3: return between(-9, 9);
+    case 4: t += between(-100, 100); break;
+    default: t += ONE_OF(near); break;
+    }
+    return t < -640 ? -640 : t > 2000 ? 2000 : t;
+}
+
+/* ---- Disturbing and playing --------------------------------------------- */
+
+static void rubbish_at(int at)
+{
+    static const int kinds[] = { 0, 10, 255, 128, BYTE, BYTE, READ, READ, VOLTAGE,
+                                 VOLTAGE, TEMPERATURE, TEMPERATURE, TEMPERATURE };
+    insert(at, ONE_OF(kinds), any_slot(), any_value());
+}
+
+static void intrude(int at)
+{
+    int n = one_in(2) ? in_hand : below(8);
+
+    switch (below(14)) {
+    case 0: insert(at, START, 0, 0); break;
+    case 1: insert(at, STOP, 0, 0); break;
+    case 2: insert(at, TIMEOUT, 0, 0); break;
+    case 3: insert(at, READ, 0, below(2)); break;
+    case 4: case 5: insert(at, BYTE, 0, below(256)); break;
+    case 6: for (int k = between(1, 5); k > 0; k--) insert(at, TICK, 0, 0); break;
+    case 7: insert(at, TICK, 0, 0); break;
+    case 8: insert(at, VOLTAGE, n, below(2)); break;
+    case 12: insert(at, VOLTAGE, in_hand, 0); break;
+    case 9: insert(at, TEMPERATURE, n, a_temperature(n)); break;
+    case 10: insert(at, TEMPERATURE, with_sensor, a_temperature(with_sensor)); break;
+    case 11: rubbish_at(at); break;
+    default: if (one_in(4)) insert(at, POWER, 0, 0); break;
+    }
+}
+
+static void disturb(void)
+{
+    int at = below(count + 1);
+
+    switch (below(8)) {
+    case 0: count = at; break;                         /* cut */
+    case 1: count--; break;                            /* no stop */
+    case 2: gathered[count - 1].kind = TIMEOUT; break; /* instead of the stop */
+    case 3:                                            /* one is lost */
+        if (at < count) {
+            memmove(gathered + at, gathered + at + 1,
+                    (size_t)(count - at - 1) * sizeof gathered[0]);
+            count--;
+        }
+        break;
+    default: intrude(at); break;
+    }
+}
+
+/* Writes the gathered events; cells that are to be ignored hold anything. */
+static void play_as_is(void)
+{
+    for (int i = 0; i < count; i++) {
+        struct event e = gathered[i];
+        if (e.kind >= START && e.kind <= POWER && e.kind != VOLTAGE && one_in(8)) {
+            e.slot = below(256);
+            if (e.kind != BYTE && e.kind != READ)
+                e.value = any_value();
+        }
+        record(e.kind, e.slot, e.value);
+    }
+    count = 0;
+}
+
+static void play(void)
+{
+    if (one_in(4))
+        do
+            disturb();
+        while (count > 0 && one_in(3));
+    play_as_is();
+}
+
+/* ---- Exchanges ---------------------------------------------------------- */
+
+static void reads(int many)
+{
+    for (int i = 1; i <= many; i++)
+        add(READ, i < many || one_in(10));
+    if (one_in(16))
+        add(BYTE, below(256));
+    if (one_in(8))
+        add(READ, below(2));
+}
+
+/* So many ticks that the slot's write cycle is often just over, or just not. */
+static void ticks(int n)
+{
+    int many = kind_of[n] ? length_of[n] : 3;
+
+    switch (below(8)) {
+    case 0: many = 0; break;
+    case 1: many -= 1; break;
+    case 2: many += 1; break;
+    case 3: many = below(7); break;
+    }
+    while (many-- > 0)
+        add(TICK, 0);
+    if (one_in(12))
+        insert(below(count + 1), VOLTAGE, n, below(2));
+    play_as_is();
+}
+
+static void random_read(int n, int place, int many)
+{
+    add(START, 0);
+    add(BYTE, 0xA0 | n << 1);
+    add(BYTE, place);
+    if (one_in(4))
+        add(STOP, 0);
+    add(START, 0);
+    add(BYTE, 0xA1 | n << 1);
+    reads(many);
+    add(STOP, 0);
+    play();
+}
+
+static void current_read(int n)
+{
+    add(START, 0);
+    add(BYTE, 0xA1 | n << 1);
+    reads(between(1, 4));
+    add(STOP, 0);
+    play();
+}
+
+static int a_register_value(int n, int which)
+{
+    static const int sixteenths[] = { 0, 24, 48, 96 };
+    static const int ends[] = { 0x1000, 0x1000, 0x0FFC, 0x1FFC, 0xFFFF };
+    int value = below(65536);
+
+    if (which == 1) {
+        value &= 0xF83F;
+        value |= below(4) << 9;
+        if (one_in(6)) value |= 0x0080;
+        if (one_in(6)) value |= 0x0040;
+        if (one_in(locked[n] || value & 0x00C0 ? 2 : 6)) value |= 0x0100;
+        if (!locked[n])
+            hysteresis[n] = sixteenths[value >> 9 & 3];
+        locked[n] |= value & 0x00C0;
+    } else if (which >= 2 && which <= 4) {
+        if (one_in(4))
+            value = ONE_OF(ends);
+        else if (one_in(4))
+            value = between(-160, 500) * 4;
+        else if (below(8))
+            value = between(-30, 60) * 4;
+        if (!(locked[n] & (which == 4 ? 0x0080 : 0x0040)))
+            limit[n][lately = which - 2] = (value & 0x0FFC) - (value & 0x1000);
+    } else if (which == 8 && one_in(3)) {
+        value &= 0xFFFC;
+    }
+    return value & 0xFFFF;
+}
+
+/* With which < 0 the pointer is left where it is. */
+static void sensor_read(int n, int which)
+{
+    if (which >= 0) {
+        add(START, 0);
+        add(BYTE, 0x30 | n << 1);
+        add(BYTE, which);
+    }
+    add(START, 0);
+    add(BYTE, 0x31 | n << 1);
+    reads(one_in(5) ? between(0, 4) : 2);
+    if (one_in(8)) {                     /* between the two bytes, or near */
+        int t = a_temperature(n);
+        insert(count - below(3), TEMPERATURE, n, t);
+    }
+    add(STOP, 0);
+    play();
+}
+
+/* One temperature, or several: here and there, or a walk across a limit. */
+static void measure(int n)
+{
+    int many = one_in(2) ? 1 : between(2, 8);
+    int step = one_in(2) ? 0 : between(-4, 4);
+    int t = a_temperature(n);
+
+    for (int i = 0; i < many; i++) {
+        record(TEMPERATURE, n, t);
+        sensor_read(n, i == 0 ? 5 : -1);
+        t = step != 0 ? t + step : a_temperature(n);
+    }
+}
+
+static void sensor_write(void)
+{
+    static const int pointers[] = { 1, 1, 1, 2, 2, 3, 3, 4, 4, 8, 8, 8, 9 };
+    int n = a_sensor();
+    int which = one_in(6) ? below(12) : locked[n] && one_in(3) ? 1 : ONE_OF(pointers);
+    int value = a_register_value(n, which);
+    int many = one_in(8) ? below(4) : 2;
+
+    add(START, 0);
+    add(BYTE, 0x30 | n << 1);
+    add(BYTE, one_in(40) ? below(256) : which);
+    if (many > 0) add(BYTE, value >> 8);
+    if (many > 1) add(BYTE, value & 255);
+    if (many > 2) add(BYTE, below(256));
+    if (many < 2 && one_in(2)) {         /* a repeated start, then the read */
+        add(START, 0);
+        add(BYTE, 0x31 | n << 1);
+        reads(2);
+    }
+    add(STOP, 0);
+    play();
+    if (one_in(3))
+        sensor_read(n, one_in(4) ? 5 : which);
+    if (one_in(3))
+        measure(n);
+}
+
+/* Sets the limits, the resolution and the configuration of a sensor. */
+static void prime(int n)
+{
+    static const int order[] = { 8, 4, 3, 2, 1 };
+
+    for (int i = 0; i < 5; i++) {
+        int value = a_register_value(n, order[i]);
+        add(START, 0);
+        add(BYTE, 0x30 | n << 1);
+        add(BYTE, order[i]);
+        add(BYTE, value >> 8);
+        add(BYTE, value & 255);
+        add(STOP, 0);
+        play_as_is();
+    }
+}
+
+static void page_write(void)
+{
+    int n = a_slot();
+    int place = an_address();
+    int many = one_in(4) ? below(21) : below(5);
+    int warm = kind_of[n] == 2 && one_in(5);  /* a temperature while busy */
+
+    add(START, 0);
+    add(BYTE, 0xA0 | n << 1);
+    add(BYTE, place);
+    while (many-- > 0)
+        add(BYTE, below(256));
+    add(STOP, 0);
+    play();
+    if (one_in(12))
+        record(POWER, 0, 0);
+    if (warm)
+        record(TEMPERATURE, n, a_temperature(n));
+    ticks(n);
+    if (warm)
+        sensor_read(n, 5);
+    if (one_in(4))
+        current_read(n);
+    if (one_in(2))
+        random_read(n, one_in(3) ? place & 0xF0 : place, one_in(5) ? 17 : between(1, 4));
+}
+
+/* ---- The 0110 commands -------------------------------------------------- */
+
+static const int protect_codes[] = { 0x62, 0x68, 0x6A, 0x60 };
+static const int ask_codes[] = { 0x63, 0x69, 0x6B, 0x61, 0x6D, 0x6D };
+
+static void ask(void)
+{
+    add(START, 0);
+    add(BYTE, ONE_OF(ask_codes));
+    for (int k = below(3); k > 0; k--)
+        add(one_in(2) ? BYTE : READ, below(2));
+    add(STOP, 0);
+    play();
+}
+
+static void half(void)
+{
+    add(START, 0);
+    add(BYTE, one_in(2) ? 0x6C : 0x6E);
+    for (int k = one_in(3) ? below(5) : 0; k > 0; k--)
+        add(one_in(4) ? READ : BYTE, below(2));
+    add(STOP, 0);
+    play();
+    if (one_in(3))
+        ask();
+    if (one_in(3))
+        current_read(a_slot());
+}
+
+static void protect(void)
+{
+    int n = favourite[below(2)];
+    int block = below(6);
+    int many = one_in(5) ? below(5) : 2;
+
+    if (one_in(4))
+        record(VOLTAGE, n, below(4) != 0);
+    add(START, 0);
+    add(BYTE, block < 4 ? protect_codes[block] : 0x66);
+    while (many-- > 0)
+        add(BYTE, below(256));
+    if (one_in(8)) {                     /* the voltage goes before the stop */
+        int at = between(1, count);
+        if (one_in(2))
+            insert(at, VOLTAGE, n, 1);
+        insert(at, VOLTAGE, n, 0);
+    }
+    add(STOP, 0);
+    play();
+    if (one_in(12))
+        record(POWER, 0, 0);
+    ticks(n);
+    if (one_in(2))
+        ask();
+}
+
+static void unknown(void)
+{
+    static const int codes[] = { 0x64, 0x65, 0x67, 0x6F };
+
+    add(START, 0);
+    add(BYTE, one_in(2) ? ONE_OF(codes) : below(256));
+    for (int k = below(4); k > 0; k--)
+        add(below(3) ? BYTE : READ, below(2));
+    add(STOP, 0);
+    play();
+}
+
+static void between_exchanges(void)
+{
+    for (int k = between(1, 3); k > 0; k--)
+        intrude(count);
+    play_as_is();
+}
+
+static void rubbish(void)
+{
+    for (int k = between(1, 4); k > 0; k--)
+        rubbish_at(count);
+    play_as_is();
+}
+
+/* ---- The script --------------------------------------------------------- */
+
+/* Each script has a leaning, so that state of one sort builds up in it. */
+static void exchange(int leaning)
+{
+    static const int shares[4][11] = {
+        /* write read current sensor-w sensor-r measure half protect ask unknown between */
+        { 25, 8, 6, 18, 4, 10, 6, 10, 4, 2, 4 },
+        { 48, 14, 10, 2, 1, 2, 10, 3, 2, 2, 3 },
+        { 2, 1, 1, 60, 4, 20, 1, 2, 1, 1, 4 },
+        { 26, 5, 4, 2, 1, 2, 8, 34, 9, 2, 4 },
+    };
+    int chosen = below(100);             /* beyond the shares: rubbish */
+    int which = 0;
+
+    while (which < 11 && chosen >= shares[leaning][which])
+        chosen -= shares[leaning][which++];
+    switch (which) {
+    case 0: page_write(); break;
+    case 1: random_read(a_slot(), an_address(), one_in(8) ? between(5, 20) : between(1, 4)); break;
+    case 2: current_read(a_slot()); break;
+    case 3: sensor_write(); break;
+    case 4: sensor_read(a_sensor(), between(-3, 10)); break;
+    case 5: measure(a_sensor()); break;
+    case 6: half(); break;
+    case 7: protect(); break;
+    case 8: ask(); break;
+    case 9: unknown(); break;
+    case 10: between_exchanges(); break;
+    default: rubbish(); break;
+    }
+    if (one_in(120)) {
+        record(POWER, 0, 0);
+        if (leaning == 2)
+            prime(with_sensor);
+    }
+}
+
+/* Mostly full buses; one script in three has one or two slots only, since
+ * on a full bus the answers to the 0110 commands drown each other. */
+static void choose_setup(unsigned char setup[16], int leaning)
+{
+    int few = one_in(3);
+    int found = 0;
+
+    favourite[0] = below(8);
+    with_sensor = favourite[0];
+    favourite[1] = below(3) ? below(8) : favourite[0];
+    for (int n = 0; n < 8; n++) {
+        int mine = n == favourite[0] || n == favourite[1];
+        kind_of[n] = !mine && (few || one_in(8)) ? 0 : between(1, 2);
+        if (n == favourite[0] && (leaning == 2 || one_in(2)))
+            kind_of[n] = 2;
+        length_of[n] = kind_of[n] ? between(1, 5) : one_in(2) ? 0 : below(256);
+        setup[2 * n] = (unsigned char)kind_of[n];
+        setup[2 * n + 1] = (unsigned char)length_of[n];
+        if (kind_of[n] == 2 && one_in(++found))
+            with_sensor = n;
+    }
+    for (int i = 0; i < 4; i++) {
+        static const int starts[] = { 0x00, 0x10, 0x60, 0x70, 0x80, 0xE0, 0xF0 };
+        int page = ONE_OF(starts);
+        places[i] = page + (one_in(3) ? below(16) : one_in(2) ? 15 : 14);
+    }
+}
+
+/* A kind or a length that is just or far out of its range. */
+static void spoil(unsigned char setup[16])
+{
+    static const int kinds[] = { 3, 3, 4, 128, 255 };
+    static const int lengths[] = { 0, 0, 6, 6, 255 };
+    int n = below(8);
+
+    if (one_in(2)) {
+        setup[2 * n] = (unsigned char)ONE_OF(kinds);
+    } else {
+        setup[2 * n] = (unsigned char)between(1, 2);
+        setup[2 * n + 1] = (unsigned char)ONE_OF(lengths);
+    }
+}
+
+int main(int argc, char **argv)
+{
+    static const int leanings[] = { 0, 0, 1, 2, 2, 3 };
+    unsigned char setup[16];
+    int odd = argc > 3 && strcmp(argv[3], "odd") == 0;
+    int oddness, leaning;
+
+    if (argc < 3) {
+        fputs("usage: generate SEED EVENTS [odd]\n", stderr);
+        return 2;
+    }
+    seed_with(strtoull(argv[1], NULL, 10));
+    left = strtol(argv[2], NULL, 10);
+    leaning = ONE_OF(leanings);
+    choose_setup(setup, leaning);
+    oddness = odd ? below(4) : -1;
+    if (oddness == 0 || oddness == 1)
+        spoil(setup);
+    if (oddness == 2) {                  /* the setup is cut */
+        if (one_in(3))
+            spoil(setup);
+        fwrite(setup, 1, (size_t)below(16), stdout);
+        return 0;
+    }
+    fwrite(setup, 1, sizeof setup, stdout);
+    for (int k = 0; k < 2; k++)
+        if (one_in(2) || leaning == 3)
+            record(VOLTAGE, favourite[k], 1);
+    if (leaning == 2 || one_in(4))
+        prime(with_sensor);
+    while (left > 0)
+        exchange(leaning);
+    if (oddness == 3 || oddness == 0)
+        fwrite("\1\0\0", 1, (size_t)between(1, 3), stdout);  /* a cut record */
+    return 0;
+}
