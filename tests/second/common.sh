@@ -1,3 +1,4 @@
+# shellcheck shell=bash
 # Shared by compare, fuzz and faults; sourced, not run.
 #
 # Finds the repository root (two folders up), builds the C programs into a
@@ -16,6 +17,12 @@ first=${FIRST:-$(printf '%q script' "$root/run")}
 
 die() { echo "$*" >&2; exit 2; }
 
+for argument; do                  # all arguments of all three are numbers
+    case $argument in
+    "" | *[!0-9]*) die "${0##*/}: not a number: $argument" ;;
+    esac
+done
+
 compiler() {
     local name
     for name in cc gcc clang; do
@@ -25,31 +32,35 @@ compiler() {
 }
 
 # build PROGRAM SOURCE [OPTION]: into the temporary folder.
-build() { "$cc" -std=c99 "${3:--O2}" -w -o "$work/$1" "$2" || die "$2 does not build"; }
+build() { "$cc" -std=c99 "${3:--O1}" -w -o "$work/$1" "$2" || die "$2 does not build"; }
 
 cc=$(compiler) || exit 2
 for name in second generate shrink; do
     build "$name" "$second_dir/$name.c"
 done
 
-# plan EVENTS SEED: a line `seed events mode` for each script: up to 90 short
-# ones with two odd ones after every fifth, then, for what is still missing,
-# 24 long ones.  Odd ones are not counted as events.
+# plan EVENTS SEED: a line `seed events mode` for each script: a bare setup, up
+# to 90 short ones with two odd ones after every fifth, then, for what is still
+# missing, 23 long ones and a very long one that does not fit into one buffer.
+# Odd ones are not counted as events.
 plan() {
-    local events=$1 seed=$(($2 * 1000)) total=0 i=0 size
-    while ((i < 90 && total < events)); do
+    local events=$1 seed=$(($2 * 1000)) i=0 size rest
+    echo "$((seed + 199)) 0 plain"
+    while ((i < 90 && events > 0)); do
         size=$((50 + (i * 137 + $2 % 451 * 31) % 451))
         echo "$((seed + i)) $size plain"
-        ((total += size, i++))
+        ((events -= size, i++))
         ((i % 5)) && continue
         echo "$((seed + 200 + i)) $((size % 100)) odd"
         echo "$((seed + 201 + i)) $((size % 7)) odd"
     done
-    ((total < events)) || return 0
-    size=$(((events - total + 23) / 24))
-    for ((i = 0; i < 24; i++)); do
+    ((events > 0)) || return 0
+    size=$(((events * 2 / 3 + 22) / 23))
+    for ((i = 0; i < 23; i++)); do
         echo "$((seed + 400 + i)) $size plain"
     done
+    rest=$((events - 23 * size))
+    ((rest <= 0)) || echo "$((seed + 423)) $rest plain"
 }
 
 run_first() { sh -c "$first" <"$1" >"$2" 2>"$work/first.err"; }
@@ -76,7 +87,7 @@ check_whole_case() {
 
 # show SCRIPT: shrinks the difference and prints it.
 show() {
-    "$work/shrink" "$1" "$work" "$first" "$work/second" && return
+    "$work/shrink" "$1" "$work" "$first" "$(printf %q "$work/second")" && return
     cmp "$work/first.txt" "$work/second.txt"
     cat "$work/first.err"
 }

@@ -113,7 +113,11 @@ static int any_of_eight(void)
     return kind_of[n] ? n : below(8);    /* mostly one that is there */
 }
 
-static int a_slot(void) { return in_hand = below(3) ? favourite[below(2)] : any_of_eight(); }
+static int a_slot(void)
+{
+    return in_hand = below(3) ? favourite[below(2)] : any_of_eight();
+}
+
 static int a_sensor(void) { return in_hand = below(8) ? with_sensor : any_of_eight(); }
 
 /* Near the ends of pages, of blocks and of the half. */
@@ -133,8 +137,10 @@ static int a_temperature(int n)
 {
     static const int ends[] = { -640, -639, -641, 2000, 1999, 2001, -32768, 32767 };
     static const int near[] = { 0, 0, 0, 1, -1, 2, -2, 3, -3, 4, -4, 8, -8 };
-    int t = limit[n][one_in(2) ? lately : below(3)] - (one_in(2) ? hysteresis[n] : 0);
+    int t = limit[n][one_in(2) ? lately : below(3)];
 
+    if (one_in(2))
+        t -= hysteresis[n];
     switch (below(16)) {
     case 0: return ONE_OF(ends);
     case 1: case 2: return between(-640, 2000);
@@ -147,11 +153,18 @@ static int a_temperature(int n)
 
 /* ---- Disturbing and playing --------------------------------------------- */
 
+/* Kinds, slots and values out of their ranges, or at the ends of them. */
 static void rubbish_at(int at)
 {
     static const int kinds[] = { 0, 10, 255, 128, BYTE, BYTE, READ, READ, VOLTAGE,
                                  VOLTAGE, TEMPERATURE, TEMPERATURE, TEMPERATURE };
-    insert(at, ONE_OF(kinds), any_slot(), any_value());
+    static const int ends[10][4] = {
+        [BYTE] = { -1, 0, 255, 256 }, [READ] = { -1, 0, 1, 2 },
+        [VOLTAGE] = { -1, 0, 1, 2 }, [TEMPERATURE] = { -641, -640, 2000, 2001 } };
+    int kind = ONE_OF(kinds);
+    int slot = one_in(3) ? with_sensor : any_slot();
+
+    insert(at, kind, slot, kind < 10 && one_in(2) ? ends[kind][below(4)] : any_value());
 }
 
 static void intrude(int at)
@@ -162,15 +175,15 @@ static void intrude(int at)
     case 0: insert(at, START, 0, 0); break;
     case 1: insert(at, STOP, 0, 0); break;
     case 2: insert(at, TIMEOUT, 0, 0); break;
-    case 3: insert(at, READ, 0, below(2)); break;
-    case 4: case 5: insert(at, BYTE, 0, below(256)); break;
+    case 3: case 4: insert(at, READ, 0, below(2)); break;
+    case 5: insert(at, BYTE, 0, below(256)); break;
     case 6: for (int k = between(1, 5); k > 0; k--) insert(at, TICK, 0, 0); break;
     case 7: insert(at, TICK, 0, 0); break;
     case 8: insert(at, VOLTAGE, n, below(2)); break;
-    case 12: insert(at, VOLTAGE, in_hand, 0); break;
-    case 9: insert(at, TEMPERATURE, n, a_temperature(n)); break;
-    case 10: insert(at, TEMPERATURE, with_sensor, a_temperature(with_sensor)); break;
-    case 11: rubbish_at(at); break;
+    case 9: insert(at, VOLTAGE, in_hand, 0); break;
+    case 10: insert(at, TEMPERATURE, n, a_temperature(n)); break;
+    case 11: insert(at, TEMPERATURE, with_sensor, a_temperature(with_sensor)); break;
+    case 12: rubbish_at(at); break;
     default: if (one_in(4)) insert(at, POWER, 0, 0); break;
     }
 }
@@ -220,12 +233,20 @@ static void play(void)
 
 /* ---- Exchanges ---------------------------------------------------------- */
 
+/* A byte or a read where none belongs; bytes are so many in four. */
+static void stray(int bytes)
+{
+    int kind = below(4) < bytes ? BYTE : READ;
+    add(kind, below(2));
+}
+
 static void reads(int many)
 {
-    for (int i = 1; i <= many; i++)
+    for (int i = 1; i <= many; i++) {
+        if (one_in(30))
+            add(BYTE, below(256));
         add(READ, i < many || one_in(10));
-    if (one_in(16))
-        add(BYTE, below(256));
+    }
     if (one_in(8))
         add(READ, below(2));
 }
@@ -243,8 +264,10 @@ static void ticks(int n)
     }
     while (many-- > 0)
         add(TICK, 0);
-    if (one_in(12))
-        insert(below(count + 1), VOLTAGE, n, below(2));
+    if (one_in(12)) {
+        int on = below(2);
+        insert(below(count + 1), VOLTAGE, n, on);
+    }
     play_as_is();
 }
 
@@ -301,14 +324,18 @@ static int a_register_value(int n, int which)
     return value & 0xFFFF;
 }
 
+static void point(int n, int which)
+{
+    add(START, 0);
+    add(BYTE, 0x30 | n << 1);
+    add(BYTE, which);
+}
+
 /* With which < 0 the pointer is left where it is. */
 static void sensor_read(int n, int which)
 {
-    if (which >= 0) {
-        add(START, 0);
-        add(BYTE, 0x30 | n << 1);
-        add(BYTE, which);
-    }
+    if (which >= 0)
+        point(n, which);
     add(START, 0);
     add(BYTE, 0x31 | n << 1);
     reads(one_in(5) ? between(0, 4) : 2);
@@ -342,9 +369,7 @@ static void sensor_write(void)
     int value = a_register_value(n, which);
     int many = one_in(8) ? below(4) : 2;
 
-    add(START, 0);
-    add(BYTE, 0x30 | n << 1);
-    add(BYTE, one_in(40) ? below(256) : which);
+    point(n, one_in(40) ? below(256) : which);
     if (many > 0) add(BYTE, value >> 8);
     if (many > 1) add(BYTE, value & 255);
     if (many > 2) add(BYTE, below(256));
@@ -368,9 +393,7 @@ static void prime(int n)
 
     for (int i = 0; i < 5; i++) {
         int value = a_register_value(n, order[i]);
-        add(START, 0);
-        add(BYTE, 0x30 | n << 1);
-        add(BYTE, order[i]);
+        point(n, order[i]);
         add(BYTE, value >> 8);
         add(BYTE, value & 255);
         add(STOP, 0);
@@ -401,8 +424,10 @@ static void page_write(void)
         sensor_read(n, 5);
     if (one_in(4))
         current_read(n);
+    if (one_in(3))
+        place &= 0xF0;
     if (one_in(2))
-        random_read(n, one_in(3) ? place & 0xF0 : place, one_in(5) ? 17 : between(1, 4));
+        random_read(n, place, one_in(5) ? 17 : between(1, 4));
 }
 
 /* ---- The 0110 commands -------------------------------------------------- */
@@ -415,7 +440,7 @@ static void ask(void)
     add(START, 0);
     add(BYTE, ONE_OF(ask_codes));
     for (int k = below(3); k > 0; k--)
-        add(one_in(2) ? BYTE : READ, below(2));
+        stray(2);
     add(STOP, 0);
     play();
 }
@@ -425,7 +450,7 @@ static void half(void)
     add(START, 0);
     add(BYTE, one_in(2) ? 0x6C : 0x6E);
     for (int k = one_in(3) ? below(5) : 0; k > 0; k--)
-        add(one_in(4) ? READ : BYTE, below(2));
+        stray(3);
     add(STOP, 0);
     play();
     if (one_in(3))
@@ -468,7 +493,7 @@ static void unknown(void)
     add(START, 0);
     add(BYTE, one_in(2) ? ONE_OF(codes) : below(256));
     for (int k = below(4); k > 0; k--)
-        add(below(3) ? BYTE : READ, below(2));
+        stray(3);
     add(STOP, 0);
     play();
 }
@@ -490,26 +515,33 @@ static void rubbish(void)
 /* ---- The script --------------------------------------------------------- */
 
 /* Each script has a leaning, so that state of one sort builds up in it. */
+enum { MIXED, MEMORY, SENSOR, PROTECTION };
+
 static void exchange(int leaning)
 {
     static const int shares[4][11] = {
         /* write read current sensor-w sensor-r measure half protect ask unknown between */
-        { 25, 8, 6, 18, 4, 10, 6, 10, 4, 2, 4 },
-        { 48, 14, 10, 2, 1, 2, 10, 3, 2, 2, 3 },
-        { 2, 1, 1, 60, 4, 20, 1, 2, 1, 1, 4 },
-        { 26, 5, 4, 2, 1, 2, 8, 34, 9, 2, 4 },
+        [MIXED] = { 25, 8, 6, 18, 4, 10, 6, 10, 4, 2, 4 },
+        [MEMORY] = { 48, 14, 10, 2, 1, 2, 10, 3, 2, 2, 3 },
+        [SENSOR] = { 2, 1, 1, 60, 4, 20, 1, 2, 1, 1, 4 },
+        [PROTECTION] = { 26, 5, 4, 2, 1, 2, 8, 34, 9, 2, 4 },
     };
     int chosen = below(100);             /* beyond the shares: rubbish */
     int which = 0;
+    int n, place;
 
     while (which < 11 && chosen >= shares[leaning][which])
         chosen -= shares[leaning][which++];
     switch (which) {
     case 0: page_write(); break;
-    case 1: random_read(a_slot(), an_address(), one_in(8) ? between(5, 20) : between(1, 4)); break;
+    case 1:
+        n = a_slot();
+        place = an_address();
+        random_read(n, place, one_in(8) ? between(5, 20) : between(1, 4));
+        break;
     case 2: current_read(a_slot()); break;
     case 3: sensor_write(); break;
-    case 4: sensor_read(a_sensor(), between(-3, 10)); break;
+    case 4: n = a_sensor(); sensor_read(n, between(-3, 10)); break;
     case 5: measure(a_sensor()); break;
     case 6: half(); break;
     case 7: protect(); break;
@@ -520,7 +552,7 @@ static void exchange(int leaning)
     }
     if (one_in(120)) {
         record(POWER, 0, 0);
-        if (leaning == 2)
+        if (leaning == SENSOR)
             prime(with_sensor);
     }
 }
@@ -538,7 +570,7 @@ static void choose_setup(unsigned char setup[16], int leaning)
     for (int n = 0; n < 8; n++) {
         int mine = n == favourite[0] || n == favourite[1];
         kind_of[n] = !mine && (few || one_in(8)) ? 0 : between(1, 2);
-        if (n == favourite[0] && (leaning == 2 || one_in(2)))
+        if (n == favourite[0] && (leaning == SENSOR || one_in(2)))
             kind_of[n] = 2;
         length_of[n] = kind_of[n] ? between(1, 5) : one_in(2) ? 0 : below(256);
         setup[2 * n] = (unsigned char)kind_of[n];
@@ -570,7 +602,7 @@ static void spoil(unsigned char setup[16])
 
 int main(int argc, char **argv)
 {
-    static const int leanings[] = { 0, 0, 1, 2, 2, 3 };
+    static const int leanings[] = { MIXED, MIXED, MEMORY, SENSOR, SENSOR, PROTECTION };
     unsigned char setup[16];
     int odd = argc > 3 && strcmp(argv[3], "odd") == 0;
     int oddness, leaning;
@@ -594,9 +626,9 @@ int main(int argc, char **argv)
     }
     fwrite(setup, 1, sizeof setup, stdout);
     for (int k = 0; k < 2; k++)
-        if (one_in(2) || leaning == 3)
+        if (one_in(2) || leaning == PROTECTION)
             record(VOLTAGE, favourite[k], 1);
-    if (leaning == 2 || one_in(4))
+    if (leaning == SENSOR || one_in(4))
         prime(with_sensor);
     while (left > 0)
         exchange(leaning);

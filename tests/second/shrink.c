@@ -174,7 +174,41 @@ static void take_away(void)
     }
 }
 
-/* Each of these is tried once: less in the setup, 0 for what a record says. */
+/* An absent slot, a plain memory, or at least the shortest cycle. */
+static int try_pair(unsigned char pair[2])
+{
+    unsigned char before[2] = { pair[0], pair[1] };
+    unsigned char simpler[3][2] = { { 0, 0 }, { 1, 1 }, { pair[0], 1 } };
+
+    for (int i = 0; i < 3; i++) {
+        if (memcmp(before, simpler[i], 2) == 0)
+            break;
+        memcpy(pair, simpler[i], 2);
+        if (differ())
+            return 1;
+    }
+    memcpy(pair, before, 2);
+    return 0;
+}
+
+/* 00h instead of what a cell of a record holds, or at least FFh. */
+static int try_cell(unsigned char *cell)
+{
+    unsigned char before = *cell;
+
+    if (before == 0x00)
+        return 0;
+    *cell = 0x00;
+    if (differ())
+        return 1;
+    *cell = 0xFF;
+    if (before != 0xFF && differ())
+        return 1;
+    *cell = before;
+    return 0;
+}
+
+/* Tries less in the setup and in each record; 1 if something became simpler. */
 static int simplify(void)
 {
     int changed = 0;
@@ -184,29 +218,11 @@ static int simplify(void)
         now.rest_length = 0;
         changed |= keep_or_undo(before);
     }
-    for (size_t i = 0; i + 1 < now.setup_length; i += 2) {
-        struct script before = now;
-        if (now.setup[i] == 0 && now.setup[i + 1] == 0)
-            continue;
-        now.setup[i] = now.setup[i + 1] = 0;
-        if (keep_or_undo(before)) {
-            changed = 1;
-        } else if (now.setup[i + 1] != 1) {
-            now.setup[i + 1] = 1;
-            changed |= keep_or_undo(before);
-        }
-    }
+    for (size_t i = 0; i + 1 < now.setup_length; i += 2)
+        changed |= try_pair(&now.setup[i]);
     for (size_t i = 0; i < now.records; i++)
-        for (int cell = 1; cell < 4; cell++) {
-            unsigned char before = now.record[i][cell];
-            if (before == 0)
-                continue;
-            now.record[i][cell] = 0;
-            if (differ())
-                changed = 1;
-            else
-                now.record[i][cell] = before;
-        }
+        for (int cell = 1; cell < 4; cell++)
+            changed |= try_cell(&now.record[i][cell]);
     return changed;
 }
 
@@ -215,6 +231,7 @@ static int simplify(void)
 static void say_setup(void)
 {
     static const char *const kinds[] = { "absent", "memory", "memory with sensor" };
+    int said = 0;
 
     if (now.setup_length < 16) {
         printf("setup cut after %d bytes\n", (int)now.setup_length);
@@ -224,12 +241,13 @@ static void say_setup(void)
         int kind = now.setup[2 * n], length = now.setup[2 * n + 1];
         if (kind == 0 && length == 0)
             continue;
+        said++;
         if (kind <= 2)
             printf("setup slot %d: %s, length %d\n", n, kinds[kind], length);
         else
             printf("setup slot %d: kind %d, length %d\n", n, kind, length);
     }
-    puts("setup: the other slots are absent");
+    printf("setup: %s slots are absent\n", said ? "the other" : "all");
 }
 
 static void words(char text[80], const unsigned char r[4])
@@ -279,6 +297,8 @@ static void print_case(void)
         char text[80] = "end of input", line_a[12], line_b[12];
         if (i < now.records)
             words(text, now.record[i]);
+        else if (i == now.records && now.rest_length > 0)
+            sprintf(text, "cut record of %d bytes", (int)now.rest_length);
         next_line(&a, line_a);
         next_line(&b, line_b);
         printf("%4lu %-32s %-8s %s", (unsigned long)i + 1, text, line_a, line_b);
