@@ -1,6 +1,7 @@
 /*
  * The second opinion: the script program of document 01, written from that
- * document alone and sharing nothing with the proved model.
+ * document and sharing no line with the proved model.  At the few places where
+ * the document is silent it takes the choices of docs/DECISIONS.md.
  *
  * It follows the document's sections and uses its words.  It is meant to be
  * read beside the document, so it is plain rather than clever.  The file
