@@ -31,7 +31,7 @@ use Rattle.lists.specs.Tests.{or-right-false}
 use Rattle.rules.specs.Modelled.{memoryBytes}
 use Rattle.rules.specs.Refusals.{wrongLength, outside, wrongValue, kindsOf, slotInRange, inRange, ruledBy, ruling}
 use Rattle.rules.specs.Runs.{taken, given, ruledNext, ruledAnswer, ruledOutcome, eventOf}
-use Rattle.rules.proofs.Rulings.{ruling-by-kinds}
+use Rattle.rules.proofs.Range.Rulings.{ruling-by-kinds}
 use Rattle.bus.specs.Taken.{kindsIn, takenThen}
 use Rattle.rules.specs.Fields.{withSensor}
 use Rattle.rules.specs.Sensor.{converted}

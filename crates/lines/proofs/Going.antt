@@ -14,8 +14,8 @@ use Rattle.rules.specs.declared.Outcome.{Outcome}
 use Rattle.rules.specs.Modelled.{memoryBytes}
 use Rattle.rules.specs.Refusals.{inRange}
 use Rattle.rules.specs.Runs.{Bench, next, answered, eventOf}
-use Rattle.rules.proofs.Kept.{next-in-range}
-use Rattle.rules.proofs.Stored.{memory-length-next}
+use Rattle.rules.proofs.Range.Kept.{next-in-range}
+use Rattle.rules.proofs.Memory.Stored.{memory-length-next}
 use Rattle.lines.specs.Script.{recordAt, lineOf, recordsIn, benchTo, linesTo}
 use Rattle.lines.specs.Ended.{Ended}
 use Rattle.lines.proofs.Laws.{bench-step, lines-step, line-length, sets-append, event-bench, event-answer}

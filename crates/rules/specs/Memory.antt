@@ -41,7 +41,7 @@ unfoldable pub guarded : Slot → Bool
 guarded s = protects (blockOf (addressOf s)) s
 
 -- "else it is acknowledged and latched at the counter's offset in its 16-byte page, and the low four counter bits go up by one, wrapping.
--- A later byte at the same offset replaces the earlier." The place is the counter's offset, kept beside the latch (proofs/InStep).
+-- A later byte at the same offset replaces the earlier." The place is the counter's offset, kept beside the latch (proofs/Memory/InStep).
 unfoldable pub latching : ℕ → Slot → Slot
 latching b s =
     atCounter (s .counter / 16 * 16 + (s .counter % 16 + 1) % 16)

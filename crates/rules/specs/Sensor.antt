@@ -77,7 +77,7 @@ signedOf v = cond (ltb (v % 8192) 4096) (pos (v % 8192)) (negsuc (8191 - v % 819
 unfoldable pub stepOf : ℕ → ℕ
 stepOf r = cond (eqb r 0) 8 (cond (eqb r 1) 4 (cond (eqb r 2) 2 1))
 
--- "the value t is the greatest multiple not above the given one" (shrZ divides and rounds down; that this is the greatest multiple is proved: proofs/Floor)
+-- "the value t is the greatest multiple not above the given one" (shrZ divides and rounds down; that this is the greatest multiple is proved: proofs/Registers/Floor)
 unfoldable pub floorOf : ℕ → ℤ → ℤ
 floorOf step given = shrZ given step *ℤ pos step
 

@@ -11,7 +11,7 @@ use Rattle.lists.specs.Parts.{partsTo, partsTo-none, partsTo-all, partsTo-step}
 use Rattle.rules.specs.Memory.{tickedPart}
 use Rattle.rules.specs.Refusals.{slotInRange}
 use Rattle.rules.specs.Slot.{slotNext}
-use Rattle.rules.proofs.Stored.{length-tickedPart}
+use Rattle.rules.proofs.Memory.Stored.{length-tickedPart}
 use Rattle.bus.proofs.Laws.{noSlot, afterTick}
 use Rattle.bus.proofs.tick_all.Statement.{statement}
 use Rattle.bus.proofs.tick_all.Tie as tie

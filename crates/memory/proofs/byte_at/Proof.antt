@@ -4,7 +4,7 @@ use mathlib.Core.Path.{ap}
 use native.Mathlib.Omega.{arith}
 use borrow.Author.Needs.{needs}
 use Rattle.rules.specs.Modelled.{addressOf}
-use Rattle.rules.proofs.Kept.{facts}
+use Rattle.rules.proofs.Range.Kept.{facts}
 use Rattle.rules.specs.declared.Address.{Address}
 use Rattle.memory.proofs.byte_at.Statement.{statement}
 use Rattle.memory.proofs.byte_at.Tie as tie

@@ -9,7 +9,7 @@ use lib.ListN.{getD}
 use Rattle.rules.specs.Control.{protects}
 use Rattle.rules.specs.Memory.{guarded}
 use Rattle.rules.specs.Modelled.{addressOf, blockOf}
-use Rattle.rules.proofs.Kept.{facts}
+use Rattle.rules.proofs.Range.Kept.{facts}
 use Rattle.rules.specs.declared.Address.{Address}
 use Rattle.memory.proofs.guarded.Statement.{statement}
 use Rattle.memory.proofs.guarded.Tie as tie

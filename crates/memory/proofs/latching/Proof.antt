@@ -5,7 +5,7 @@ use native.Mathlib.Omega.{arith}
 use borrow.Author.Needs.{needs}
 use Rattle.rules.specs.Memory.{latching}
 use Rattle.rules.specs.Open.{open-fields}
-use Rattle.rules.proofs.Kept.{facts}
+use Rattle.rules.proofs.Range.Kept.{facts}
 use Rattle.memory.proofs.latching.Statement.{statement}
 use Rattle.memory.proofs.latching.Tie as tie
 

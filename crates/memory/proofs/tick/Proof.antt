@@ -6,7 +6,7 @@ use borrow.Author.Needs.{needs}
 use Rattle.rules.specs.Memory.{emptied, ended}
 use Rattle.rules.specs.Modelled.{addressOf}
 use Rattle.rules.specs.Open.{open-fields}
-use Rattle.rules.proofs.Kept.{facts}
+use Rattle.rules.proofs.Range.Kept.{facts}
 use Rattle.rules.specs.declared.Address.{Address}
 use Rattle.memory.proofs.Laws.{ticked-ends, ticked-rests, ticked-waits, part-ends, part-waits}
 use Rattle.memory.proofs.tick.Statement.{statement}

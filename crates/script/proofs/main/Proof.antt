@@ -4,7 +4,7 @@ use mathlib.Core.Path.{_∙_, ap}
 use borrow.Author.Needs.{needs}
 use Rattle.rules.specs.Refusals.{inRange}
 use Rattle.rules.specs.declared.Outcome.{Outcome}
-use Rattle.rules.proofs.Kept.{setup-in-range}
+use Rattle.rules.proofs.Range.Kept.{setup-in-range}
 use Rattle.script.proofs.main.Statement.{statement}
 use Rattle.script.proofs.main.Tie as tie
 

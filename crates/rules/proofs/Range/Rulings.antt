@@ -12,9 +12,9 @@ use Rattle.rules.specs.declared.Pair.{Pair}
 use Rattle.rules.specs.Modelled.{memoryBytes}
 use Rattle.rules.specs.Refusals.{wrongLength, kindsOf, inRange, ruledBy, ruling, setupOf}
 use Rattle.rules.specs.Runs.{Bench, rulingOn, after}
-use Rattle.rules.proofs.Kept.{setup-in-range, after-in-range}
-use Rattle.rules.proofs.Protection.{kinds-after}
-use Rattle.rules.proofs.Stored.{memory-length-after}
+use Rattle.rules.proofs.Range.Kept.{setup-in-range, after-in-range}
+use Rattle.rules.proofs.Memory.Protection.{kinds-after}
+use Rattle.rules.proofs.Memory.Stored.{memory-length-after}
 
 -- in a state that is in range, with its memory, rows 2, 3 and 4 are left
 pub ruling-by-kinds : (b : Bus) (m : List ℕ) (e : Event) → length m ≡ memoryBytes → inRange b ≡ true → ruling b m e ≡ ruledBy (kindsOf b) e

@@ -17,12 +17,12 @@ use Rattle.rules.specs.Modelled.{slotCount, slotBytes, memoryBytes}
 use Rattle.rules.specs.Fresh.{absentSlot}
 use Rattle.rules.specs.Runs.{Bench, after}
 use Rattle.rules.specs.Exchanges.{Inside, Item, exchange, controls, addressed, struck, strike, ownTold}
-use Rattle.rules.proofs.Alone.{slotsOf}
-use Rattle.rules.proofs.Stored.{memory-length-after}
-use Rattle.rules.proofs.Protection.{number-after}
-use Rattle.rules.proofs.Classes.{addressed-struck}
-use Rattle.rules.proofs.Demand3.{Ready, Parts, slot, Same, demand3, begun, setup-ready, setup-number, setup-idle}
-use Rattle.rules.proofs.Struck.{Idles}
+use Rattle.rules.proofs.Clerks.Alone.{slotsOf}
+use Rattle.rules.proofs.Memory.Stored.{memory-length-after}
+use Rattle.rules.proofs.Memory.Protection.{number-after}
+use Rattle.rules.proofs.Clerks.Classes.{addressed-struck}
+use Rattle.rules.proofs.Clerks.Demand3.{Ready, Parts, slot, Same, demand3, begun, setup-ready, setup-number, setup-idle}
+use Rattle.rules.proofs.Clerks.Struck.{Idles}
 
 -- of two neighbours one is struck out for slot k: what is left does not tell their order
 swap-struck : (k : ℕ) (i j : Item) (ys : List Item) → (struck k i ≡ true) ⊎ (struck k j ≡ true) → strike k (i ∷ j ∷ ys) ≡ strike k (j ∷ i ∷ ys)

@@ -17,7 +17,7 @@ use Rattle.rules.specs.Slot.{slotNext}
 use Rattle.rules.specs.Bus.{busNext}
 use Rattle.rules.specs.Refusals.{goodPair, emptyBus, setupOf}
 use Rattle.rules.specs.Runs.{Bench, taken, rulingOn, ruledNext, next, after}
-use Rattle.rules.proofs.InStep.{InStep, slot-step}
+use Rattle.rules.proofs.Memory.InStep.{InStep, slot-step}
 
 -- all slots of a bench
 abbrev pub Everywhere : (Slot → Type 0) → Bench → Type 0

@@ -17,9 +17,9 @@ use Rattle.rules.specs.Open.{open-fields}
 use Rattle.rules.specs.Refusals.{keptIn, sensorInRange}
 use Rattle.rules.specs.Sensor.{configurationBits, limitBits, resolutionBits, timeoutBits, configured, written, shutDown, converted}
 use Rattle.rules.specs.Slot.{slotNext}
-use Rattle.rules.proofs.Masks.{within}
-use Rattle.rules.proofs.Locks.{locked, locked-within}
-use Rattle.rules.proofs.SensorSteps.{written-cases, Respected, step-respects}
+use Rattle.rules.proofs.Registers.Masks.{within}
+use Rattle.rules.proofs.Registers.Locks.{locked, locked-within}
+use Rattle.rules.proofs.Registers.SensorSteps.{written-cases, Respected, step-respects}
 
 -- the seven tests by name
 record InRange (x : Sensor) : Type 0 where

@@ -19,8 +19,8 @@ use Rattle.rules.specs.Fresh.{freshSlot, powered}
 use Rattle.rules.specs.Memory.{emptied, settled, lost, ended, ticked}
 use Rattle.rules.specs.Slot.{withSensorIn, standing, commanding, holds, letGo, byteIn, readIn, switched, slotNext}
 use Rattle.rules.specs.Exchanges.{slotAfter, partNext, partAfter, toldAlone, strayByte, strayRead, strayStop, timeout, tick, voltage, power, temperature, Item, exchange, between, gapAct, upToStop, itemActs, struckGap, struck, strike, own}
-use Rattle.rules.proofs.Classes.{struck-not-own}
-use Rattle.rules.proofs.Foreign.{struck-unheard, started-waits, as-it-was, same-part, ends-idle}
+use Rattle.rules.proofs.Clerks.Classes.{struck-not-own}
+use Rattle.rules.proofs.Clerks.Foreign.{struck-unheard, started-waits, as-it-was, same-part, ends-idle}
 
 -- between exchanges a slot is idle
 abbrev pub Idles : Slot → Type 0

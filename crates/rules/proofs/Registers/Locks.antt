@@ -18,8 +18,8 @@ use Rattle.rules.specs.Open.{open-fields}
 use Rattle.rules.specs.Sensor.{configurationBits, shutDown, criticalLocked, limitsLocked, lockedWrite, configured, written, converted}
 use Rattle.rules.specs.Slot.{slotNext}
 use Rattle.rules.specs.Exchanges.{slotAfter}
-use Rattle.rules.proofs.Masks.{and-assoc, and-or, and-bit, or-bit, same-bit}
-use Rattle.rules.proofs.SensorSteps.{written-cases, Respected, isPower, withoutPower, step-without-power, run-without-power}
+use Rattle.rules.proofs.Registers.Masks.{and-assoc, and-or, and-bit, or-bit, same-bit}
+use Rattle.rules.proofs.Registers.SensorSteps.{written-cases, Respected, isPower, withoutPower, step-without-power, run-without-power}
 
 -- a write under a lock, seen through a mask: at a literal mask the three masks compute
 locked-masked : (old v m : ℕ) → bitAnd (lockedWrite old v) m

@@ -25,7 +25,7 @@ use Rattle.rules.specs.Modelled.{slotBytes, addressOf, pageOf}
 use Rattle.rules.specs.Memory.{putUpTo, stored, tickedPart}
 use Rattle.rules.specs.Bus.{memoryNext}
 use Rattle.rules.specs.Runs.{Bench, taken, rulingOn, ruledNext, ruledAnswer, next, answered, after}
-use Rattle.rules.proofs.Unchanged.{same-next, same-after}
+use Rattle.rules.proofs.Run.Unchanged.{same-next, same-after}
 
 -- an event that is refused changes nothing, and its answer is the refusal
 pub refused-nothing : (e : Event) (x : Bench) (r : Refusal) → rulingOn e x ≡ Refused r → (next e x ≡ x) × (answered e x ≡ answer.Refused r)

@@ -17,7 +17,7 @@ use Rattle.rules.specs.Fields.{inPhase}
 use Rattle.rules.specs.Control.{selectOf, heardOf, acksHeard, acksControl, controlled}
 use Rattle.rules.specs.Slot.{standing, letGo, byteIn, acksIn, readIn, drivesIn, stopIn, slotNext, acks, drives}
 use Rattle.rules.specs.Exchanges.{slotAfter, partNext, partAfter, Inside, again, byte, read, exchange, insideAct, upToStop, controls, names, mute, someOf, addressed, toNone, toOther, struck}
-use Rattle.rules.proofs.Alone.{Silent, SilentOver}
+use Rattle.rules.proofs.Clerks.Alone.{Silent, SilentOver}
 
 -- slot n does not hear the control byte, whatever state it is in
 abbrev pub Unheard : ℕ → ℕ → Type 0

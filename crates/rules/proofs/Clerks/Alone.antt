@@ -18,7 +18,7 @@ use Rattle.rules.specs.Slot.{slotNext, acks, drives, driven}
 use Rattle.rules.specs.Bus.{busNext, memoryNext, anyAck, readByte, shown}
 use Rattle.rules.specs.Runs.{Bench, taken, given}
 use Rattle.rules.specs.Exchanges.{went, told, slotAfter, partNext, partAfter, shownAlone, toldAlone}
-use Rattle.rules.proofs.Stored.{length-tickedPart}
+use Rattle.rules.proofs.Memory.Stored.{length-tickedPart}
 
 -- a bench's slots and slot k's part of its memory
 abbrev pub slotsOf : Bench → List Slot

@@ -19,13 +19,13 @@ use Rattle.rules.specs.Fresh.{freshSlot, setupSlot, absentSlot}
 use Rattle.rules.specs.Refusals.{goodPair, kindsOf, inRange, emptyBus, setupOf}
 use Rattle.rules.specs.Runs.{Bench, after}
 use Rattle.rules.specs.Exchanges.{actsOf, went, Item, flatten, itemsOf, strike, ownTold}
-use Rattle.rules.proofs.Kept.{setup-in-range}
-use Rattle.rules.proofs.Everywhere.{setup-everywhere}
-use Rattle.rules.proofs.Alone.{slotsOf, partOf, slotAt}
-use Rattle.rules.proofs.Parse.{flatten-items}
-use Rattle.rules.proofs.RunAnswers.{after-kept}
-use Rattle.rules.proofs.Struck.{Idles}
-use Rattle.rules.proofs.Apart.{Agree, EndAlike, apart}
+use Rattle.rules.proofs.Range.Kept.{setup-in-range}
+use Rattle.rules.proofs.Run.Everywhere.{setup-everywhere}
+use Rattle.rules.proofs.Clerks.Alone.{slotsOf, partOf, slotAt}
+use Rattle.rules.proofs.Clerks.Parse.{flatten-items}
+use Rattle.rules.proofs.Clerks.RunAnswers.{after-kept}
+use Rattle.rules.proofs.Clerks.Struck.{Idles}
+use Rattle.rules.proofs.Clerks.Apart.{Agree, EndAlike, apart}
 
 -- a bench that no event refuses by row 1 or 6
 pub record Ready (x : Bench) : Type 0 where

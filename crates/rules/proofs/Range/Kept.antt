@@ -38,8 +38,8 @@ use Rattle.rules.specs.Slot.{standing, holds, commanding, letGo, pointer
 use Rattle.rules.specs.Bus.{busNext, shown, anyAck}
 use Rattle.rules.specs.Refusals.{outside, wrongValue, goodLength, goodPair, kindInRange, lengthInRange, sensorInRange, slotInRange, inRange, setupOf}
 use Rattle.rules.specs.Runs.{Bench, taken, given, rulingOn, ruledNext, ruledAnswer, next, answered, after, answers}
-use Rattle.rules.proofs.Judged.{Judged, row-1, row-6, row-2, row-3, row-4, no-row, judged}
-use Rattle.rules.proofs.SensorKept.{fresh-kept, written-kept, converted-kept, word-kept, pointing-kept}
+use Rattle.rules.proofs.Range.Judged.{Judged, row-1, row-6, row-2, row-3, row-4, no-row, judged}
+use Rattle.rules.proofs.Registers.SensorKept.{fresh-kept, written-kept, converted-kept, word-kept, pointing-kept}
 
 -- the test as facts about the numbers
 pub record Ranges (kind length left half counter place : ℕ) (x : sensor.Sensor) : Type 0 where

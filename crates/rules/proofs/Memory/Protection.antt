@@ -29,9 +29,9 @@ use Rattle.rules.specs.Bus.{busNext}
 use Rattle.rules.specs.Refusals.{kindsOf}
 use Rattle.rules.specs.Runs.{Bench, taken, next, after}
 use Rattle.rules.specs.Open.{open-fields, open-memory, open-slot}
-use Rattle.rules.proofs.Unchanged.{same-next, same-after}
-use Rattle.rules.proofs.Alone.{number-taken}
-use Rattle.rules.proofs.Stored.{isTick}
+use Rattle.rules.proofs.Run.Unchanged.{same-next, same-after}
+use Rattle.rules.proofs.Clerks.Alone.{number-taken}
+use Rattle.rules.proofs.Memory.Stored.{isTick}
 
 -- What decides the protection to come, when slot n is s and the act is a; after it `stands` is protected, and `comes` is to come.
 pub data Decided (n : ℕ) (a : Act) (s : Slot) (stands comes : List Bool) : Type 0 where

@@ -19,7 +19,7 @@ use Rattle.rules.specs.Fields.{inPhase}
 use Rattle.rules.specs.Control.{acksControl, heardOf, obeyed, controlled}
 use Rattle.rules.specs.Memory.{lost, loaded, guarded, latching, dataByte, fetched}
 use Rattle.rules.specs.Slot.{withSensorIn, standing, pointer, firstByte, secondByte, byteIn, readIn, slotNext}
-use Rattle.rules.proofs.Protection.{kind-next}
+use Rattle.rules.proofs.Memory.Protection.{kind-next}
 use Rattle.rules.specs.Exchanges.{Inside, again, byte, read, insideAct, controls}
 
 abbrev awaiting : Phase → Bool

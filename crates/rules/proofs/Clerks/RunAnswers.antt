@@ -15,11 +15,11 @@ use Rattle.rules.specs.Modelled.{memoryBytes}
 use Rattle.rules.specs.Refusals.{kindsOf, inRange, ruledBy}
 use Rattle.rules.specs.Runs.{Bench, taken, given, rulingOn, ruledNext, ruledAnswer, next, answered, after}
 use Rattle.rules.specs.Exchanges.{keptAnswer, keptAnswers, chunks, concat, ownOf, keptBy, actsOf, went, told, Inside, Item, exchange, between, insideAct, upToStop, itemActs, flatten, itemsOf, own, ownTold}
-use Rattle.rules.proofs.Kept.{next-in-range}
-use Rattle.rules.proofs.Protection.{kinds-next}
-use Rattle.rules.proofs.Rulings.{ruling-by-kinds}
-use Rattle.rules.proofs.Stored.{memory-length-next}
-use Rattle.rules.proofs.Parse.{flatten-items}
+use Rattle.rules.proofs.Range.Kept.{next-in-range}
+use Rattle.rules.proofs.Memory.Protection.{kinds-next}
+use Rattle.rules.proofs.Range.Rulings.{ruling-by-kinds}
+use Rattle.rules.proofs.Memory.Stored.{memory-length-next}
+use Rattle.rules.proofs.Clerks.Parse.{flatten-items}
 
 -- one event, however it is ruled: the bench, and the answer
 went-kept : (v : Ruling) (r : List Act) (x : Bench) → went r (ruledNext v x) ≡ went (keptBy v r) x

@@ -1,0 +1,4 @@
+-- The memory: when its bytes and its protection change, and to what.
+pub mod Stored
+pub mod InStep
+pub mod Protection

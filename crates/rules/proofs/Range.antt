@@ -1,0 +1,4 @@
+-- Refusals: each exactly when its row says so, the range that every event keeps, and what rulings go by.
+pub mod Judged
+pub mod Kept
+pub mod Rulings

@@ -1,0 +1,3 @@
+-- What no event changes, and what every event keeps: from one act of one slot to any run of the bench.
+pub mod Unchanged
+pub mod Everywhere
