@@ -8,47 +8,44 @@ use lib.ListN.{getD, set}
 use Rattle.lists.specs.Each.{anyFrom}
 use Rattle.rules.specs.declared.Phase.the-variants.{Deaf, MemoryData, MemoryRead}
 use Rattle.rules.specs.declared.Slot.{Slot}
-use Rattle.rules.specs.Modelled.{addressOf, blockOf, pageOf}
-use Rattle.rules.specs.Fields.{inPhase, atCounter, withLeft, protecting, expecting, latched, placed, holding}
+use Rattle.rules.specs.Modelled.{absent, addressOf, blockOf, pageOf}
+use Rattle.rules.specs.Fields.{inPhase, atCounter, withLeft, protecting, expecting, latched, placed}
 use Rattle.rules.specs.Fresh.{noBytes, noMarks}
 use Rattle.rules.specs.Control.{protects}
 
--- the latch with nothing in it; the protection that stands is the one to come
+-- the latch with nothing in it
 unfoldable pub emptied : Slot → Slot
 emptied s = latched noBytes noMarks s
 
-unfoldable pub steady : Slot → Slot
-steady s = expecting (s .protection) s
+-- "abandons the bytes; the counter stays where it then stands": nothing is latched, and there is no place for a next byte
+unfoldable pub abandoned : Slot → Slot
+abandoned s = placed 0 (emptied s)
 
--- no place for a next byte, and no register's bytes
-unfoldable pub cleared : Slot → Slot
-cleared s = placed 0 (holding 0x0000 s)
-
--- what an exchange held is let go, save what belongs to a write cycle that runs
-unfoldable pub settled : Slot → Slot
-settled s = cleared (cond (eqb (s .left) 0) (emptied (steady s)) s)
-
--- an exchange that "leaves the slot deaf"
-unfoldable pub lost : Slot → Slot
-lost s = inPhase Deaf (settled s)
+-- "cancels": the protection to come is the one that stands
+unfoldable pub cancelled : Slot → Slot
+cancelled s = expecting (s .protection) s
 
 -- "Write: the next byte loads the 8-bit counter and is acknowledged."
 unfoldable pub loaded : ℕ → Slot → Slot
-loaded b s = inPhase MemoryData (placed (b % 16) (emptied (atCounter b s)))
+loaded b s = inPhase MemoryData (placed (b % 16) (atCounter b s))
 
 -- "Each later byte: if the block is protected, NACK, deaf, counter still"
 unfoldable pub guarded : Slot → Bool
 guarded s = protects (blockOf (addressOf s)) s
 
+-- the counter with its low four bits one up, wrapping
+unfoldable pub upInPage : ℕ → ℕ
+upInPage c = c / 16 * 16 + (c % 16 + 1) % 16
+
 -- "else it is acknowledged and latched at the counter's offset in its 16-byte page, and the low four counter bits go up by one, wrapping.
--- A later byte at the same offset replaces the earlier." The place is the counter's offset, kept beside the latch (proofs/Memory/InStep).
+-- A later byte at the same offset replaces the earlier." The place for the next byte is the new counter's offset.
 unfoldable pub latching : ℕ → Slot → Slot
 latching b s =
-    atCounter (s .counter / 16 * 16 + (s .counter % 16 + 1) % 16)
-    (placed ((s .place + 1) % 16) (latched (set (s .latch) (s .place) b) (set (s .marks) (s .place) true) s))
+    atCounter (upInPage (s .counter))
+    (placed (upInPage (s .counter) % 16) (latched (set (s .latch) (s .counter % 16) b) (set (s .marks) (s .counter % 16) true) s))
 
 unfoldable pub dataByte : ℕ → Slot → Slot
-dataByte b s = cond (guarded s) (lost s) (latching b s)
+dataByte b s = cond (guarded s) (inPhase Deaf (abandoned s)) (latching b s)
 
 -- "Read: each read drives the byte at the address, and the counter goes up by one modulo 256, in the selected half. After a master NACK the slot is deaf."
 unfoldable pub fetched : Bool → Slot → Slot
@@ -58,15 +55,12 @@ fetched more s = inPhase (cond more MemoryRead Deaf) (atCounter ((s .counter + 1
 unfoldable pub anyMark : List Bool → Bool
 anyMark marks = anyFrom (λ n m. m) 0 marks
 
-unfoldable pub storing : Slot → Slot
-storing s = withLeft (s .length) (cleared (steady s))
+-- the write cycle begins, at its full length
+unfoldable pub begun : Slot → Slot
+begun s = withLeft (s .length) (placed 0 s)
 
 unfoldable pub dataStop : Slot → Slot
-dataStop s = cond (anyMark (s .marks)) (storing s) (settled s)
-
--- "Protect and clear take exactly one address byte and one data byte [..] and then a stop, which begins a write cycle; protection changes when it ends."
-unfoldable pub changing : Slot → Slot
-changing s = withLeft (s .length) (cleared (emptied s))
+dataStop s = cond (anyMark (s .marks)) (begun s) (abandoned s)
 
 -- "the tick that ends it (the slot's Nth after the stop)": what was latched is in memory, and the protection to come stands
 unfoldable pub ended : Slot → Slot
@@ -84,6 +78,6 @@ putUpTo latch marks at (suc n) m =
 unfoldable pub stored : Slot → List ℕ → List ℕ
 stored s m = putUpTo (s .latch) (s .marks) (pageOf (addressOf s) .0) 16 m
 
--- a tick, on the slot's 512 bytes
+-- a tick, on the slot's 512 bytes; an absent slot's are not touched
 unfoldable pub tickedPart : Slot → List ℕ → List ℕ
-tickedPart s m = cond (eqb (s .left) 1) (stored s m) m
+tickedPart s m = cond (absent s) m (cond (eqb (s .left) 1) (stored s m) m)

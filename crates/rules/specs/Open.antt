@@ -21,7 +21,7 @@ open-fields = tt
 
 -- the steps of memory exchanges and commands
 unfoldable pub open-memory : Unit {0}
-unfolding Memory.emptied Memory.steady Memory.cleared Memory.settled Memory.lost Memory.loaded Memory.latching Memory.dataByte Memory.fetched Memory.storing Memory.dataStop Memory.changing Memory.ended Memory.ticked
+unfolding Memory.emptied Memory.abandoned Memory.cancelled Memory.loaded Memory.upInPage Memory.latching Memory.dataByte Memory.fetched Memory.begun Memory.dataStop Memory.ended Memory.ticked
 open-memory = tt
 
 -- the sensor
@@ -36,7 +36,7 @@ open-control = tt
 
 -- the slot's step
 unfoldable pub open-slot : Unit {0}
-unfolding Slot.standing Slot.letGo Slot.pointer Slot.firstByte Slot.secondByte Slot.byteIn Slot.acksIn Slot.readIn Slot.drivenIn Slot.stopIn Slot.switched Slot.slotNext Slot.acks Slot.drives Slot.driven
+unfolding Slot.standing Slot.letGo Slot.lost Slot.pointer Slot.firstByte Slot.secondByte Slot.byteIn Slot.acksIn Slot.readIn Slot.drivenIn Slot.stopIn Slot.switched Slot.presentNext Slot.slotNext Slot.acks Slot.drives Slot.driven
 open-slot = tt
 
 -- the rows of refusals

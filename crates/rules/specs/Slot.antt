@@ -16,12 +16,12 @@ use Rattle.rules.specs.Fields.{inPhase, withVoltage, withSensor, pointin
 use Rattle.rules.specs.Fresh.{powered}
 use Rattle.rules.specs.Sensor.{written, converted}
 use Rattle.rules.specs.Control.{acksControl, controlled}
-use Rattle.rules.specs.Memory.{settled, lost, loaded, guarded, dataByte, fetched, dataStop, changing, ticked}
+use Rattle.rules.specs.Memory.{abandoned, cancelled, loaded, guarded, dataByte, fetched, begun, dataStop, ticked}
 
--- what each phase is: of an exchange with the sensor; of a protect or clear that its stop has not yet begun; one in which the exchange
--- holds something of the slot, latched bytes, a protection to come or a register's bytes; one in which a read is served
+-- what each phase is: of an exchange with the sensor; of a protect or clear that its stop has not yet begun; one in which data bytes are
+-- taken; one in which a read is served
 abbrev pub being : Bool → Bool → Bool → Bool → Traits
-being sensor command holds drives = record { sensor = sensor; command = command; holds = holds; drives = drives }
+being sensor command takes drives = record { sensor = sensor; command = command; takes = takes; drives = drives }
 
 abbrev pub traits : Phase → Traits
 traits Idle = being false false false false
@@ -31,14 +31,14 @@ traits MemoryCounter = being false false false false
 traits MemoryData = being false false true false
 traits MemoryRead = being false false false true
 traits HalfSelected = being false false false false
-traits CommandAddress = being false true true false
-traits CommandData = being false true true false
-traits CommandStop = being false true true false
+traits CommandAddress = being false true false false
+traits CommandData = being false true false false
+traits CommandStop = being false true false false
 traits SensorPointer = being true false false false
 traits SensorHigh = being true false false false
-traits SensorLow = being true false true false
-traits SensorReadHigh = being true false true true
-traits SensorReadLow = being true false true true
+traits SensorLow = being true false false false
+traits SensorReadHigh = being true false false true
+traits SensorReadLow = being true false false true
 
 abbrev pub withSensorIn : Phase → Bool
 withSensorIn p = traits p .sensor
@@ -46,8 +46,8 @@ withSensorIn p = traits p .sensor
 abbrev pub commanding : Phase → Bool
 commanding p = traits p .command
 
-abbrev pub holds : Phase → Bool
-holds p = traits p .holds
+abbrev pub taking : Phase → Bool
+taking p = traits p .takes
 
 abbrev pub drivesIn : Phase → Bool
 drivesIn p = traits p .drives
@@ -56,19 +56,24 @@ drivesIn p = traits p .drives
 unfoldable pub standing : Slot → Phase
 standing s = cond (absent s || (withSensorIn (s .phase) && not (sensing s))) Deaf (s .phase)
 
--- "A start, read, timeout or power cycle before the stop abandons the bytes; the counter stays where it then stands", and "cancels too"
-unfoldable pub letGo : Slot → Slot
-letGo s = cond (holds (standing s)) (settled s) s
+-- "A start, read, timeout or power cycle before the stop abandons the bytes", and "cancels too": what an exchange that is left in a phase
+-- lets go, a register's bytes, a command, or latched bytes
+unfoldable pub letGo : Phase → Slot → Slot
+letGo p s = cond (withSensorIn p) (holding 0x0000 s) (cond (commanding p) (cancelled s) (cond (taking p) (abandoned s) s))
+
+-- an exchange that is left so that the slot is deaf
+unfoldable pub lost : Phase → Slot → Slot
+lost p s = inPhase Deaf (letGo p s)
 
 -- sensor write: "pointer byte (above 09h: NACK, deaf, pointer kept), two bytes; the register changes at the ACK of the second. A third gets NACK."
 unfoldable pub pointer : ℕ → Slot → Slot
-pointer b s = cond (leb b 0x09) (inPhase SensorHigh (withSensor (pointing b (s .sensor)) s)) (lost s)
+pointer b s = cond (leb b 0x09) (inPhase SensorHigh (withSensor (pointing b (s .sensor)) s)) (lost SensorPointer s)
 
 unfoldable pub firstByte : ℕ → Slot → Slot
 firstByte b s = inPhase SensorLow (holding (b * 256) s)
 
 unfoldable pub secondByte : ℕ → Slot → Slot
-secondByte b s = lost (withSensor (written (s .sensor) (s .sensor .pointer) (s .sensor .word / 256 * 256 + b)) s)
+secondByte b s = lost SensorLow (withSensor (written (s .sensor) (s .sensor .pointer) (s .sensor .word / 256 * 256 + b)) s)
 
 -- a byte from the master, to slot n
 unfoldable pub byteIn : Phase → ℕ → ℕ → Slot → Slot
@@ -80,18 +85,18 @@ byteIn Deaf n b s = s
 byteIn MemoryCounter n b s = loaded b s
 byteIn MemoryData n b s = dataByte b s
 -- "A master's byte in a read, or a read in a write, is not served (NACK, FFh) and leaves the slot deaf; so with the sensor and with the commands."
-byteIn MemoryRead n b s = lost s
+byteIn MemoryRead n b s = lost MemoryRead s
 -- "later bytes are acknowledged and ignored (bench)"
 byteIn HalfSelected n b s = s
 -- "exactly one address byte and one data byte, contents ignored, both acknowledged [..] a third byte gets NACK and cancels, deaf"
 byteIn CommandAddress n b s = inPhase CommandData s
 byteIn CommandData n b s = inPhase CommandStop s
-byteIn CommandStop n b s = lost s
+byteIn CommandStop n b s = lost CommandStop s
 byteIn SensorPointer n b s = pointer b s
 byteIn SensorHigh n b s = firstByte b s
 byteIn SensorLow n b s = secondByte b s
-byteIn SensorReadHigh n b s = lost s
-byteIn SensorReadLow n b s = lost s
+byteIn SensorReadHigh n b s = lost SensorReadHigh s
+byteIn SensorReadLow n b s = lost SensorReadLow s
 
 -- whether slot n acknowledges it
 unfoldable pub acksIn : Phase → ℕ → ℕ → Slot → Bool
@@ -117,19 +122,19 @@ readIn Idle more s = s
 -- "A read before it gives FFh, leaves every slot deaf, and there is then no control byte until the next start."
 readIn Control more s = inPhase Deaf s
 readIn Deaf more s = s
-readIn MemoryCounter more s = lost s
-readIn MemoryData more s = lost s
+readIn MemoryCounter more s = lost MemoryCounter s
+readIn MemoryData more s = lost MemoryData s
 readIn MemoryRead more s = fetched more s
-readIn HalfSelected more s = lost s
-readIn CommandAddress more s = lost s
-readIn CommandData more s = lost s
-readIn CommandStop more s = lost s
-readIn SensorPointer more s = lost s
-readIn SensorHigh more s = lost s
-readIn SensorLow more s = lost s
+readIn HalfSelected more s = lost HalfSelected s
+readIn CommandAddress more s = lost CommandAddress s
+readIn CommandData more s = lost CommandData s
+readIn CommandStop more s = lost CommandStop s
+readIn SensorPointer more s = lost SensorPointer s
+readIn SensorHigh more s = lost SensorHigh s
+readIn SensorLow more s = lost SensorLow s
 -- "a third read, or one after a master NACK, gives FFh"
-readIn SensorReadHigh more s = cond more (inPhase SensorReadLow s) (lost s)
-readIn SensorReadLow more s = lost s
+readIn SensorReadHigh more s = cond more (inPhase SensorReadLow s) (lost SensorReadHigh s)
+readIn SensorReadLow more s = lost SensorReadLow s
 
 -- the byte that the slot drives at a read, with its 512 bytes m; FFh where it drives none
 unfoldable pub drivenIn : Phase → Slot → List ℕ → ℕ
@@ -150,7 +155,7 @@ drivenIn SensorLow s m = 0xFF
 drivenIn SensorReadHigh s m = s .sensor .word / 256
 drivenIn SensorReadLow s m = s .sensor .word % 256
 
--- "Stop and timeout make a slot idle; neither shortens a write cycle."
+-- a stop in each phase
 unfoldable pub stopIn : Phase → Slot → Slot
 stopIn Idle s = s
 stopIn Control s = s
@@ -160,30 +165,35 @@ stopIn MemoryData s = dataStop s
 stopIn MemoryRead s = s
 stopIn HalfSelected s = s
 -- "A stop after fewer bytes does nothing"
-stopIn CommandAddress s = settled s
-stopIn CommandData s = settled s
-stopIn CommandStop s = changing s
-stopIn SensorPointer s = s
-stopIn SensorHigh s = s
-stopIn SensorLow s = settled s
-stopIn SensorReadHigh s = settled s
-stopIn SensorReadLow s = settled s
+stopIn CommandAddress s = cancelled s
+stopIn CommandData s = cancelled s
+-- "Protect and clear take exactly one address byte and one data byte [..] and then a stop, which begins a write cycle"
+stopIn CommandStop s = begun s
+stopIn SensorPointer s = letGo SensorPointer s
+stopIn SensorHigh s = letGo SensorHigh s
+stopIn SensorLow s = letGo SensorLow s
+stopIn SensorReadHigh s = letGo SensorReadHigh s
+stopIn SensorReadLow s = letGo SensorReadLow s
 
 -- "High voltage going off before the stop cancels, deaf."
 unfoldable pub switched : Bool → Slot → Slot
-switched on s = withVoltage on (cond (commanding (standing s) && not on) (lost s) s)
+switched on s = withVoltage on (cond (commanding (standing s) && s .voltage && not on) (lost (standing s) s) s)
 
--- slot n after an event
+-- slot n, which is present, after an event; "Stop and timeout make a slot idle; neither shortens a write cycle."
+unfoldable pub presentNext : ℕ → Act → Slot → Slot
+presentNext n Start s = inPhase Control (letGo (standing s) s)
+presentNext n (Byte b) s = byteIn (standing s) n b s
+presentNext n (Read more) s = readIn (standing s) more s
+presentNext n Stop s = inPhase Idle (stopIn (standing s) s)
+presentNext n Timeout s = inPhase Idle (letGo (standing s) s)
+presentNext n Tick s = ticked s
+presentNext n (Voltage k on) s = cond (eqb (k .0) n) (switched on s) s
+presentNext n Power s = powered s
+presentNext n (Temperature k t) s = cond (eqb (k .0) n) (withSensor (converted (s .sensor) t) s) s
+
+-- slot n after an event: "absent slots [..] count as deaf", and no event touches one
 unfoldable pub slotNext : ℕ → Act → Slot → Slot
-slotNext n Start s = inPhase Control (letGo s)
-slotNext n (Byte b) s = byteIn (standing s) n b s
-slotNext n (Read more) s = readIn (standing s) more s
-slotNext n Stop s = inPhase Idle (stopIn (standing s) s)
-slotNext n Timeout s = inPhase Idle (letGo s)
-slotNext n Tick s = ticked s
-slotNext n (Voltage k on) s = cond (eqb (k .0) n) (switched on s) s
-slotNext n Power s = powered s
-slotNext n (Temperature k t) s = cond (eqb (k .0) n) (withSensor (converted (s .sensor) t) s) s
+slotNext n a s = cond (absent s) s (presentNext n a s)
 
 -- slot n acknowledges the byte b
 unfoldable pub acks : ℕ → ℕ → Slot → Bool

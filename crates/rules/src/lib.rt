@@ -103,7 +103,7 @@ pub enum Phase {
 pub struct Traits {
     pub sensor: bool,
     pub command: bool,
-    pub holds: bool,
+    pub takes: bool,
     pub drives: bool,
 }
 

@@ -15,7 +15,7 @@ use Rattle.rules.specs.Slot.{slotNext}
 use Rattle.rules.specs.Runs.{Bench, taken}
 use Rattle.rules.specs.Exchanges.{went, told, toldAlone, Inside, Item, exchange, between, insideAct, upToStop, itemActs, flatten, controls, names, someOf, addressed, own, ownTold, strike}
 use Rattle.rules.proofs.Clerks.Alone.{slotsOf, partOf, slotAt, number-taken, Silent, SilentOver, slot-went, part-went, told-one}
-use Rattle.rules.proofs.Clerks.Foreign.{all-named, started-waits, silent}
+use Rattle.rules.proofs.Clerks.Foreign.{all-named, silent}
 use Rattle.rules.proofs.Clerks.Struck.{Idles, itemSlot, itemPart, slotItems, partItems, ownAlone, strike-slot, strike-part, strike-own}
 
 -- a run, item by item
@@ -52,11 +52,11 @@ module _ (d : Slot) (k : ℕ) where
 
   -- in an exchange of k's own all others are silent, whatever state they were in, so the answers are k's
   told-own : (i : Item) (x : Bench) → k < length (slotsOf x) → own k i ≡ true → told (itemActs i []) x ≡ toldAlone k (itemActs i []) (slotAt d k x) (partOf k x)
-  unfolding itemActs own addressed SilentOver Silent slotNext
+  unfolding itemActs own addressed SilentOver Silent
   told-own (exchange xs) x h e =
       told-one d k (Start ∷ upToStop xs []) x h
       (λ i l ne.
-      (tt, silent i true xs _ (started-waits _) (all-named i k (λ q. ne (sym q)) (controls true xs) (and-right (someOf (controls true xs)) (allOf (names k) (controls true xs)) e))))
+      (tt, silent i xs _ (all-named i k (λ q. ne (sym q)) (controls true xs) (and-right (someOf (controls true xs)) (allOf (names k) (controls true xs)) e))))
   told-own (between g) x h e = absurd (false≢true e)
 
   own-items : (is : List Item) (x : Bench) → k < length (slotsOf x) → ownTold k is x ≡ ownAlone k is (slotAt d k x) (partOf k x)

@@ -17,9 +17,10 @@ use Rattle.rules.specs.Modelled.{absent, sensing}
 use Rattle.rules.specs.Open.{open-fields}
 use Rattle.rules.specs.Fields.{inPhase}
 use Rattle.rules.specs.Control.{acksControl, heardOf, obeyed, controlled}
-use Rattle.rules.specs.Memory.{lost, loaded, guarded, latching, dataByte, fetched}
-use Rattle.rules.specs.Slot.{withSensorIn, standing, pointer, firstByte, secondByte, byteIn, readIn, slotNext}
-use Rattle.rules.proofs.Memory.Protection.{kind-next}
+use Rattle.rules.specs.Memory.{loaded, guarded, latching, dataByte, fetched}
+use Rattle.rules.specs.Slot.{withSensorIn, standing, lost, pointer, firstByte, secondByte, byteIn, readIn, presentNext, slotNext}
+use Rattle.rules.proofs.Memory.Protection.{still-present}
+use Rattle.rules.proofs.Run.Cases.{present-next}
 use Rattle.rules.specs.Exchanges.{Inside, again, byte, read, insideAct, controls}
 
 abbrev awaiting : Phase → Bool
@@ -63,9 +64,9 @@ obeyed-served (SelectHalf h) s = refl
 obeyed-served ReadHalf s = refl
 obeyed-served Nothing s = refl
 
-lost-served : (s : Slot) → Served (lost s)
+lost-served : (p : Phase) (s : Slot) → Served (lost p s)
 unfolding lost open-fields
-lost-served s = refl
+lost-served p s = refl
 
 -- after a byte and after a read no control byte is awaited: the phase that stood was another, or is left
 byte-served : (p : Phase) (n b : ℕ) (s : Slot) → (awaiting p ≡ false → Served s) → Served (byteIn p n b s)
@@ -74,35 +75,35 @@ byte-served Idle n b s h = h refl
 byte-served Control n b s h = cond-cases Served (acksControl n b s) (λ e. obeyed-served (heardOf b) s) (λ e. refl)
 byte-served Deaf n b s h = h refl
 byte-served MemoryCounter n b s h = refl
-byte-served MemoryData n b s h = cond-cases Served (guarded s) (λ e. lost-served s) (λ e. h refl)
-byte-served MemoryRead n b s h = lost-served s
+byte-served MemoryData n b s h = cond-cases Served (guarded s) (λ e. refl) (λ e. h refl)
+byte-served MemoryRead n b s h = lost-served MemoryRead s
 byte-served HalfSelected n b s h = h refl
 byte-served CommandAddress n b s h = refl
 byte-served CommandData n b s h = refl
-byte-served CommandStop n b s h = lost-served s
-byte-served SensorPointer n b s h = cond-cases Served (leb b 0x09) (λ e. refl) (λ e. lost-served s)
+byte-served CommandStop n b s h = lost-served CommandStop s
+byte-served SensorPointer n b s h = cond-cases Served (leb b 0x09) (λ e. refl) (λ e. lost-served SensorPointer s)
 byte-served SensorHigh n b s h = refl
-byte-served SensorLow n b s h = lost-served _
-byte-served SensorReadHigh n b s h = lost-served s
-byte-served SensorReadLow n b s h = lost-served s
+byte-served SensorLow n b s h = lost-served SensorLow _
+byte-served SensorReadHigh n b s h = lost-served SensorReadHigh s
+byte-served SensorReadLow n b s h = lost-served SensorReadLow s
 
 read-served : (p : Phase) (m : Bool) (s : Slot) → (awaiting p ≡ false → Served s) → Served (readIn p m s)
 unfolding readIn fetched open-fields
 read-served Idle m s h = h refl
 read-served Control m s h = refl
 read-served Deaf m s h = h refl
-read-served MemoryCounter m s h = lost-served s
-read-served MemoryData m s h = lost-served s
+read-served MemoryCounter m s h = lost-served MemoryCounter s
+read-served MemoryData m s h = lost-served MemoryData s
 read-served MemoryRead m s h = cond-cases (λ (p : Phase). awaiting p ≡ false) m (λ e. refl) (λ e. refl)
-read-served HalfSelected m s h = lost-served s
-read-served CommandAddress m s h = lost-served s
-read-served CommandData m s h = lost-served s
-read-served CommandStop m s h = lost-served s
-read-served SensorPointer m s h = lost-served s
-read-served SensorHigh m s h = lost-served s
-read-served SensorLow m s h = lost-served s
-read-served SensorReadHigh m s h = cond-cases Served m (λ e. refl) (λ e. lost-served s)
-read-served SensorReadLow m s h = lost-served s
+read-served HalfSelected m s h = lost-served HalfSelected s
+read-served CommandAddress m s h = lost-served CommandAddress s
+read-served CommandData m s h = lost-served CommandData s
+read-served CommandStop m s h = lost-served CommandStop s
+read-served SensorPointer m s h = lost-served SensorPointer s
+read-served SensorHigh m s h = lost-served SensorHigh s
+read-served SensorLow m s h = lost-served SensorLow s
+read-served SensorReadHigh m s h = cond-cases Served m (λ e. refl) (λ e. lost-served SensorReadHigh s)
+read-served SensorReadLow m s h = lost-served SensorReadLow s
 
 -- a present slot stands before its control byte exactly if that is its phase
 awaits-phase : (p : Phase) (q : Bool) → awaiting (cond (withSensorIn p && q) Deaf p) ≡ awaiting p
@@ -126,22 +127,18 @@ present-awaits : (s : Slot) → absent s ≡ false → awaiting (standing s) ≡
 unfolding standing
 present-awaits s a = rw a (awaits-phase (s .phase) (not (sensing s)))
 
-still-present : (n : ℕ) (a : Act) (s : Slot) → absent s ≡ false → absent (slotNext n a s) ≡ false
-unfolding absent
-still-present n a s e = rw (kind-next n a s) e
-
 after-byte : (n b : ℕ) (s : Slot) → absent s ≡ false → Served (slotNext n (Byte b) s)
-unfolding slotNext
-after-byte n b s a = byte-served (standing s) n b s (λ e. sym (present-awaits s a) ∙ e)
+unfolding presentNext
+after-byte n b s a = rw (present-next n (Byte b) s a) (byte-served (standing s) n b s (λ e. sym (present-awaits s a) ∙ e))
 
 after-read : (n : ℕ) (m : Bool) (s : Slot) → absent s ≡ false → Served (slotNext n (Read m) s)
-unfolding slotNext
-after-read n m s a = read-served (standing s) m s (λ e. sym (present-awaits s a) ∙ e)
+unfolding presentNext
+after-read n m s a = rw (present-next n (Read m) s a) (read-served (standing s) m s (λ e. sym (present-awaits s a) ∙ e))
 
 pub controls-seen : (n : ℕ) (fresh : Bool) (xs : List Inside) (s : Slot) → absent s ≡ false → awaiting (s .phase) ≡ fresh → seen n xs s ≡ controls fresh xs
 unfolding seen controls insideAct
 controls-seen n fresh [] s a e = refl
-controls-seen n fresh (again ∷ xs) s a e = controls-seen n true xs (slotNext n Start s) (still-present n Start s a) (unfold slotNext inPhase in refl)
+controls-seen n fresh (again ∷ xs) s a e = controls-seen n true xs (slotNext n Start s) (still-present n Start s a) (unfold presentNext inPhase in ap (λ (t : Slot). awaiting (t .phase)) (present-next n Start s a))
 controls-seen n true (byte b ∷ xs) s a e = rw (present-awaits s a, e) (ap (b ∷_) (controls-seen n false xs (slotNext n (Byte b) s) (still-present n (Byte b) s a) (after-byte n b s a)))
 controls-seen n false (byte b ∷ xs) s a e = rw (present-awaits s a, e) (controls-seen n false xs (slotNext n (Byte b) s) (still-present n (Byte b) s a) (after-byte n b s a))
 controls-seen n fresh (read m ∷ xs) s a e = controls-seen n false xs (slotNext n (Read m) s) (still-present n (Read m) s a) (after-read n m s a)

@@ -9,14 +9,20 @@ use lib.Dec.{eqb}
 use borrow.Author.Tests.{eqb-true, eqb-false, ne-eqb, not-true}
 use Rattle.lists.specs.Each.{allOf}
 use Rattle.lists.specs.Tests.{cond-cases, by-test, and-left, and-right, or-cases}
+use Rattle.rules.specs.declared.Act.{Act}
+use Rattle.rules.specs.declared.Act.the-variants.{Start, Byte, Read, Stop, Timeout, Tick, Voltage, Power, Temperature}
 use Rattle.rules.specs.declared.Phase.{Phase}
 use Rattle.rules.specs.declared.Phase.the-variants.{Idle, Control, Deaf}
 use Rattle.rules.specs.declared.Slot.{Slot}
 use Rattle.rules.specs.Modelled.{absent}
 use Rattle.rules.specs.Fields.{inPhase}
 use Rattle.rules.specs.Control.{selectOf, heardOf, acksHeard, acksControl, controlled}
-use Rattle.rules.specs.Slot.{standing, letGo, byteIn, acksIn, readIn, drivesIn, stopIn, slotNext, acks, drives}
+use Rattle.rules.specs.Memory.{emptied, abandoned, cancelled}
+use Rattle.rules.specs.Open.{open-fields}
+use Rattle.rules.specs.Slot.{standing, letGo, byteIn, acksIn, readIn, drivesIn, stopIn, presentNext, slotNext, acks, drives}
 use Rattle.rules.specs.Exchanges.{slotAfter, partNext, partAfter, Inside, again, byte, read, exchange, insideAct, upToStop, controls, names, mute, someOf, addressed, toNone, toOther, struck}
+use Rattle.rules.proofs.Run.Cases.{let-go-cases, absent-next, present-next}
+use Rattle.rules.proofs.Memory.Protection.{still-present}
 use Rattle.rules.proofs.Clerks.Alone.{Silent, SilentOver}
 
 -- slot n does not hear the control byte, whatever state it is in
@@ -81,15 +87,9 @@ stands-deaf : (s : Slot) → standing (inPhase Deaf s) ≡ Deaf
 unfolding standing inPhase
 stands-deaf s = cond-cases (λ (p : Phase). p ≡ Deaf) (absent (inPhase Deaf s) || false) (λ e. refl) (λ e. refl)
 
-pub started-waits : (s : Slot) → Waits (inPhase Control s) true
-unfolding inPhase
-started-waits s = by-test (absent (inPhase Control s)) (λ e. deaf (absent-stands (inPhase Control s) e)) (λ e. awaits (present-stands e))
-  where
-    absent-stands : (t : Slot) → absent t ≡ true → standing t ≡ Deaf
-    absent-stands t e = unfold standing in rw e
-
-    present-stands : absent (inPhase Control s) ≡ false → standing (inPhase Control s) ≡ Control
-    present-stands e = unfold standing in rw e
+pub started-waits : (s : Slot) → absent s ≡ false → Waits (inPhase Control s) true
+unfolding absent standing inPhase
+started-waits s e = awaits (rw e)
 
 -- an unheard control byte gets no ACK, and leaves the slot deaf
 unheard-nack : (n c : ℕ) (s : Slot) → Unheard n c → acksControl n c s ≡ false
@@ -101,42 +101,95 @@ unfolding controlled
 unheard-deaf n c s u = rw (unheard-nack n c s u)
 
 -- a slot that waits holds nothing to let go
-let-go-none : (s : Slot) {fresh : Bool} → Waits s fresh → letGo s ≡ s
+let-go-none : (s : Slot) {fresh : Bool} → Waits s fresh → letGo (standing s) s ≡ s
 unfolding letGo
-let-go-none s (deaf e) = rw e
-let-go-none s (awaits e) = rw e
+let-go-none s (deaf e) = ap (λ p. letGo p s) e
+let-go-none s (awaits e) = ap (λ p. letGo p s) e
 
--- after the exchange the slot is idle, and otherwise as it was
-pub as-it-was : (n : ℕ) (fresh : Bool) (xs : List Inside) (s : Slot) → Waits s fresh → NoneHeard n (controls fresh xs)
+-- an absent slot is as it was after any run, and silent in it
+pub absent-after : (n : ℕ) (r : List Act) (s : Slot) → absent s ≡ true → slotAfter n r s ≡ s
+unfolding slotAfter
+absent-after n [] s e = refl
+absent-after n (a ∷ r) s e = ap (slotAfter n r) (absent-next n a s e) ∙ absent-after n r s e
+
+absent-once : (n : ℕ) (a : Act) (s : Slot) → standing s ≡ Deaf → Silent n a s
+unfolding Silent acks acksIn drives
+absent-once n Start s e = tt
+absent-once n (Byte b) s e = ap (λ p. acksIn p n b s) e
+absent-once n (Read m) s e = ap drivesIn e
+absent-once n Stop s e = tt
+absent-once n Timeout s e = tt
+absent-once n Tick s e = tt
+absent-once n (Voltage k on) s e = tt
+absent-once n Power s e = tt
+absent-once n (Temperature k t) s e = tt
+
+absent-silent : (n : ℕ) (r : List Act) (s : Slot) → absent s ≡ true → SilentOver n r s
+unfolding SilentOver
+absent-silent n [] s e = tt
+absent-silent n (a ∷ r) s e =
+    (absent-once n a s (unfold standing in rw e), subst (SilentOver n r) (sym (absent-next n a s e)) (absent-silent n r s e))
+
+-- after the exchange a present slot is idle, and otherwise as it was
+pub as-it-was : (n : ℕ) (fresh : Bool) (xs : List Inside) (s : Slot) → absent s ≡ false → Waits s fresh → NoneHeard n (controls fresh xs)
     → slotAfter n (upToStop xs []) s ≡ inPhase Idle s
-unfolding slotAfter upToStop insideAct slotNext controls byteIn readIn stopIn inPhase
-as-it-was n fresh [] s (deaf e) u = ap (λ p. inPhase Idle (stopIn p s)) e
-as-it-was n true [] s (awaits e) u = ap (λ p. inPhase Idle (stopIn p s)) e
-as-it-was n fresh (again ∷ xs) s w u =
-    ap (λ (t : Slot). slotAfter n (upToStop xs []) (inPhase Control t)) (let-go-none s w) ∙ as-it-was n true xs (inPhase Control s) (started-waits s) u
-as-it-was n true (byte c ∷ xs) s (deaf e) u = ap (λ p. slotAfter n (upToStop xs []) (byteIn p n c s)) e ∙ as-it-was n false xs s (deaf e) (u .1)
-as-it-was n true (byte c ∷ xs) s (awaits e) u =
-    ap (slotAfter n (upToStop xs [])) (ap (λ p. byteIn p n c s) e ∙ unheard-deaf n c s (u .0)) ∙ as-it-was n false xs (inPhase Deaf s) (deaf (stands-deaf s)) (u .1)
-as-it-was n false (byte c ∷ xs) s (deaf e) u = ap (λ p. slotAfter n (upToStop xs []) (byteIn p n c s)) e ∙ as-it-was n false xs s (deaf e) u
-as-it-was n true (read m ∷ xs) s (awaits e) u =
-    ap (λ p. slotAfter n (upToStop xs []) (readIn p m s)) e ∙ as-it-was n false xs (inPhase Deaf s) (deaf (stands-deaf s)) u
-as-it-was n fresh (read m ∷ xs) s (deaf e) u = ap (λ p. slotAfter n (upToStop xs []) (readIn p m s)) e ∙ as-it-was n false xs s (deaf e) u
+unfolding slotAfter upToStop insideAct presentNext controls byteIn readIn stopIn inPhase absent
+as-it-was n fresh [] s a (deaf e) u = present-next n Stop s a ∙ ap (λ p. inPhase Idle (stopIn p s)) e
+as-it-was n true [] s a (awaits e) u = present-next n Stop s a ∙ ap (λ p. inPhase Idle (stopIn p s)) e
+as-it-was n fresh (again ∷ xs) s a w u =
+    ap (slotAfter n (upToStop xs [])) (present-next n Start s a ∙ ap (inPhase Control) (let-go-none s w))
+    ∙ as-it-was n true xs (inPhase Control s) a (started-waits s a) u
+as-it-was n true (byte c ∷ xs) s a (deaf e) u =
+    ap (slotAfter n (upToStop xs [])) (present-next n (Byte c) s a ∙ ap (λ p. byteIn p n c s) e) ∙ as-it-was n false xs s a (deaf e) (u .1)
+as-it-was n true (byte c ∷ xs) s a (awaits e) u =
+    ap (slotAfter n (upToStop xs [])) (present-next n (Byte c) s a ∙ ap (λ p. byteIn p n c s) e ∙ unheard-deaf n c s (u .0))
+    ∙ as-it-was n false xs (inPhase Deaf s) a (deaf (stands-deaf s)) (u .1)
+as-it-was n false (byte c ∷ xs) s a (deaf e) u =
+    ap (slotAfter n (upToStop xs [])) (present-next n (Byte c) s a ∙ ap (λ p. byteIn p n c s) e) ∙ as-it-was n false xs s a (deaf e) u
+as-it-was n true (read m ∷ xs) s a (awaits e) u =
+    ap (slotAfter n (upToStop xs [])) (present-next n (Read m) s a ∙ ap (λ p. readIn p m s) e)
+    ∙ as-it-was n false xs (inPhase Deaf s) a (deaf (stands-deaf s)) u
+as-it-was n fresh (read m ∷ xs) s a (deaf e) u =
+    ap (slotAfter n (upToStop xs [])) (present-next n (Read m) s a ∙ ap (λ p. readIn p m s) e) ∙ as-it-was n false xs s a (deaf e) u
+
+-- a start does not make a present slot absent
+let-go-present : (s : Slot) → absent s ≡ false → absent (letGo (standing s) s) ≡ false
+unfolding absent cancelled abandoned emptied open-fields
+let-go-present s a = let-go-cases (λ (r : Slot). absent r ≡ false) (standing s) s a a a a
+
+started-present : (s : Slot) → absent s ≡ false → absent (inPhase Control (letGo (standing s) s)) ≡ false
+unfolding absent inPhase
+started-present s a = let-go-present s a
 
 -- and it said nothing
-pub silent : (n : ℕ) (fresh : Bool) (xs : List Inside) (s : Slot) → Waits s fresh → NoneHeard n (controls fresh xs) → SilentOver n (upToStop xs []) s
-unfolding SilentOver Silent upToStop insideAct slotNext controls acks acksIn byteIn drives readIn
-silent n fresh [] s w u = (tt, tt)
-silent n fresh (again ∷ xs) s w u = (tt, silent n true xs _ (started-waits (letGo s)) u)
-silent n true (byte c ∷ xs) s (deaf e) u =
-    (ap (λ p. acksIn p n c s) e, subst (SilentOver n (upToStop xs [])) (sym (ap (λ p. byteIn p n c s) e)) (silent n false xs s (deaf e) (u .1)))
-silent n true (byte c ∷ xs) s (awaits e) u =
-    (ap (λ p. acksIn p n c s) e ∙ unheard-nack n c s (u .0), subst (SilentOver n (upToStop xs [])) (sym (ap (λ p. byteIn p n c s) e ∙ unheard-deaf n c s (u .0))) (silent n false xs (inPhase Deaf s) (deaf (stands-deaf s)) (u .1)))
-silent n false (byte c ∷ xs) s (deaf e) u =
-    (ap (λ p. acksIn p n c s) e, subst (SilentOver n (upToStop xs [])) (sym (ap (λ p. byteIn p n c s) e)) (silent n false xs s (deaf e) u))
-silent n true (read m ∷ xs) s (awaits e) u =
-    (ap drivesIn e, subst (SilentOver n (upToStop xs [])) (sym (ap (λ p. readIn p m s) e)) (silent n false xs (inPhase Deaf s) (deaf (stands-deaf s)) u))
-silent n fresh (read m ∷ xs) s (deaf e) u =
-    (ap drivesIn e, subst (SilentOver n (upToStop xs [])) (sym (ap (λ p. readIn p m s) e)) (silent n false xs s (deaf e) u))
+module _ (n : ℕ) where
+  -- one step on, to a slot that is known
+  on : (xs : List Inside) {s t : Slot} → s ≡ t → SilentOver n (upToStop xs []) t → SilentOver n (upToStop xs []) s
+  on xs e h = subst (SilentOver n (upToStop xs [])) (sym e) h
+
+  present-silent : (fresh : Bool) (xs : List Inside) (s : Slot) → absent s ≡ false → Waits s fresh → NoneHeard n (controls fresh xs) → SilentOver n (upToStop xs []) s
+  unfolding SilentOver Silent upToStop insideAct presentNext controls acks acksIn byteIn drives readIn inPhase absent
+  present-silent fresh [] s a w u = (tt, tt)
+  present-silent fresh (again ∷ xs) s a w u =
+      (tt, on xs (present-next n Start s a ∙ ap (inPhase Control) (let-go-none s w)) (present-silent true xs (inPhase Control s) a (started-waits s a) u))
+  present-silent true (byte c ∷ xs) s a (deaf e) u =
+      (ap (λ p. acksIn p n c s) e, on xs (present-next n (Byte c) s a ∙ ap (λ p. byteIn p n c s) e) (present-silent false xs s a (deaf e) (u .1)))
+  present-silent true (byte c ∷ xs) s a (awaits e) u =
+      (ap (λ p. acksIn p n c s) e ∙ unheard-nack n c s (u .0),
+      on xs (present-next n (Byte c) s a ∙ ap (λ p. byteIn p n c s) e ∙ unheard-deaf n c s (u .0)) (present-silent false xs (inPhase Deaf s) a (deaf (stands-deaf s)) (u .1)))
+  present-silent false (byte c ∷ xs) s a (deaf e) u =
+      (ap (λ p. acksIn p n c s) e, on xs (present-next n (Byte c) s a ∙ ap (λ p. byteIn p n c s) e) (present-silent false xs s a (deaf e) u))
+  present-silent true (read m ∷ xs) s a (awaits e) u =
+      (ap drivesIn e, on xs (present-next n (Read m) s a ∙ ap (λ p. readIn p m s) e) (present-silent false xs (inPhase Deaf s) a (deaf (stands-deaf s)) u))
+  present-silent fresh (read m ∷ xs) s a (deaf e) u =
+      (ap drivesIn e, on xs (present-next n (Read m) s a ∙ ap (λ p. readIn p m s) e) (present-silent false xs s a (deaf e) u))
+
+  -- from a start on, whatever the slot was in
+  pub silent : (xs : List Inside) (s : Slot) → NoneHeard n (controls true xs) → SilentOver n (upToStop xs []) (slotNext n Start s)
+  unfolding presentNext
+  silent xs s u = by-test (absent s)
+      (λ a. on xs (absent-next n Start s a) (absent-silent n (upToStop xs []) s a))
+      (λ a. on xs (present-next n Start s a) (present-silent true xs (inPhase Control (letGo (standing s) s)) (started-present s a) (started-waits (letGo (standing s) s) (let-go-present s a)) u))
 
 -- no exchange touches the memory, and every exchange ends idle
 pub same-part : (n : ℕ) (xs : List Inside) (s : Slot) (m : List ℕ) → partAfter n (upToStop xs []) s m ≡ m
@@ -146,9 +199,9 @@ same-part n (again ∷ xs) s m = same-part n xs _ m
 same-part n (byte c ∷ xs) s m = same-part n xs _ m
 same-part n (read b ∷ xs) s m = same-part n xs _ m
 
-pub ends-idle : (n : ℕ) (xs : List Inside) (s : Slot) → (slotAfter n (upToStop xs []) s) .phase ≡ Idle
-unfolding slotAfter upToStop insideAct slotNext inPhase
-ends-idle n [] s = refl
-ends-idle n (again ∷ xs) s = ends-idle n xs _
-ends-idle n (byte c ∷ xs) s = ends-idle n xs _
-ends-idle n (read b ∷ xs) s = ends-idle n xs _
+pub ends-idle : (n : ℕ) (xs : List Inside) (s : Slot) → absent s ≡ false → (slotAfter n (upToStop xs []) s) .phase ≡ Idle
+unfolding slotAfter upToStop insideAct presentNext inPhase
+ends-idle n [] s a = ap (λ (t : Slot). t .phase) (present-next n Stop s a)
+ends-idle n (again ∷ xs) s a = ends-idle n xs _ (still-present n Start s a)
+ends-idle n (byte c ∷ xs) s a = ends-idle n xs _ (still-present n (Byte c) s a)
+ends-idle n (read b ∷ xs) s a = ends-idle n xs _ (still-present n (Read b) s a)

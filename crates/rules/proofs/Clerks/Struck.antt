@@ -7,6 +7,8 @@ use mathlib.Core.List.{List, [], _∷_}
 use lib.Dec.{eqb}
 use borrow.Author.Tests.{not-true}
 use Rattle.lists.specs.Tests.{cond-cases, by-test}
+use Rattle.rules.specs.declared.Act.{Act}
+use Rattle.rules.specs.declared.Act.the-variants.{Start, Byte, Read, Stop, Timeout, Tick, Voltage, Power, Temperature}
 use Rattle.rules.specs.declared.Answer.{Answer}
 use Rattle.rules.specs.declared.Phase.{Phase}
 use Rattle.rules.specs.declared.Phase.the-variants.{Idle, Control, Deaf}
@@ -16,11 +18,13 @@ use Rattle.rules.specs.Open.{open-fields}
 use Rattle.rules.specs.Fields as Fields
 use Rattle.rules.specs.Fields.{inPhase}
 use Rattle.rules.specs.Fresh.{freshSlot, powered}
-use Rattle.rules.specs.Memory.{emptied, settled, lost, ended, ticked}
-use Rattle.rules.specs.Slot.{withSensorIn, standing, commanding, holds, letGo, byteIn, readIn, switched, slotNext}
+use Rattle.rules.specs.Memory.{emptied, ended, ticked}
+use Rattle.rules.specs.Slot.{withSensorIn, standing, commanding, letGo, lost, byteIn, readIn, switched, presentNext, slotNext}
 use Rattle.rules.specs.Exchanges.{slotAfter, partNext, partAfter, toldAlone, strayByte, strayRead, strayStop, timeout, tick, voltage, power, temperature, Item, exchange, between, gapAct, upToStop, itemActs, struckGap, struck, strike, own}
 use Rattle.rules.proofs.Clerks.Classes.{struck-not-own}
-use Rattle.rules.proofs.Clerks.Foreign.{struck-unheard, started-waits, as-it-was, same-part, ends-idle}
+use Rattle.rules.proofs.Clerks.Foreign.{struck-unheard, started-waits, absent-after, as-it-was, same-part, ends-idle}
+use Rattle.rules.proofs.Memory.Protection.{still-present}
+use Rattle.rules.proofs.Run.Cases.{next-cases, present-next}
 
 -- between exchanges a slot is idle
 abbrev pub Idles : Slot → Type 0
@@ -35,9 +39,9 @@ idle-same : (s : Slot) → Idles s → inPhase Idle s ≡ s
 unfolding inPhase
 idle-same s e = ap (λ (p : Phase). inPhase p s) (sym e)
 
-idle-let-go : (s : Slot) → Idles s → letGo s ≡ s
+idle-let-go : (s : Slot) → Idles s → letGo (standing s) s ≡ s
 unfolding letGo
-idle-let-go s e = idle-stands (λ p. cond (holds p) (settled s) s ≡ s) s e refl refl
+idle-let-go s e = idle-stands (λ p. letGo p s ≡ s) s e refl refl
 
 idle-byte : (n b : ℕ) (s : Slot) → Idles s → byteIn (standing s) n b s ≡ s
 unfolding byteIn
@@ -58,31 +62,35 @@ itemPart n i s m = partAfter n (itemActs i []) s m
 idle-switched : (on : Bool) (s : Slot) → Idles s → Idles (switched on s)
 unfolding switched open-fields
 idle-switched on s e =
-    idle-stands (λ p. Idles (Fields.withVoltage on (cond (commanding p && not on) (lost s) s))) s e e e
+    idle-stands (λ p. Idles (Fields.withVoltage on (cond (commanding p && s .voltage && not on) (lost p s) s))) s e e e
 
 idle-ticked : (s : Slot) → Idles s → Idles (ticked s)
 unfolding ticked ended emptied open-fields
 idle-ticked s e = cond-cases Idles (eqb (s .left) 1) (λ f. e) (λ f. e)
 
+idle-next : (n : ℕ) (a : Act) (s : Slot) → Idles s → Idles (presentNext n a s) → Idles (slotNext n a s)
+idle-next n a s e f = next-cases Idles n a s (λ h. e) (λ h. f)
+
 pub idle-item : (n : ℕ) (i : Item) (s : Slot) → Idles s → Idles (itemSlot n i s)
-unfolding itemSlot itemActs slotAfter gapAct slotNext powered freshSlot open-fields
-idle-item n (exchange xs) s e = ends-idle n xs _
-idle-item n (between (strayByte b)) s e = ap (λ (t : Slot). t .phase) (idle-byte n b s e) ∙ e
-idle-item n (between (strayRead m)) s e = ap (λ (t : Slot). t .phase) (idle-read m s e) ∙ e
-idle-item n (between strayStop) s e = refl
-idle-item n (between timeout) s e = refl
-idle-item n (between tick) s e = idle-ticked s e
-idle-item n (between (voltage k on)) s e = cond-cases Idles (eqb (k .0) n) (λ f. idle-switched on s e) (λ f. e)
-idle-item n (between power) s e = refl
-idle-item n (between (temperature k t)) s e = cond-cases Idles (eqb (k .0) n) (λ f. e) (λ f. e)
+unfolding itemSlot itemActs slotAfter gapAct presentNext powered freshSlot open-fields
+idle-item n (exchange xs) s e = by-test (absent s)
+    (λ a. ap (λ (t : Slot). t .phase) (absent-after n (Start ∷ upToStop xs []) s a) ∙ e) (λ a. ends-idle n xs _ (still-present n Start s a))
+idle-item n (between (strayByte b)) s e = idle-next n (Byte b) s e (ap (λ (t : Slot). t .phase) (idle-byte n b s e) ∙ e)
+idle-item n (between (strayRead m)) s e = idle-next n (Read m) s e (ap (λ (t : Slot). t .phase) (idle-read m s e) ∙ e)
+idle-item n (between strayStop) s e = idle-next n Stop s e refl
+idle-item n (between timeout) s e = idle-next n Timeout s e refl
+idle-item n (between tick) s e = idle-next n Tick s e (idle-ticked s e)
+idle-item n (between (voltage k on)) s e = idle-next n (Voltage k on) s e (cond-cases Idles (eqb (k .0) n) (λ f. idle-switched on s e) (λ f. e))
+idle-item n (between power) s e = idle-next n Power s e refl
+idle-item n (between (temperature k t)) s e = idle-next n (Temperature k t) s e (cond-cases Idles (eqb (k .0) n) (λ f. e) (λ f. e))
 
 -- what is struck out leaves an idle slot and its bytes as they are
 struck-slot : (n : ℕ) (i : Item) (s : Slot) → Idles s → struck n i ≡ true → itemSlot n i s ≡ s
-unfolding itemSlot itemActs slotAfter gapAct slotNext struck struckGap
-struck-slot n (exchange xs) s e p =
-    ap (λ (t : Slot). slotAfter n (upToStop xs []) (inPhase Control t)) (idle-let-go s e)
-    ∙ as-it-was n true xs (inPhase Control s) (started-waits s) (struck-unheard n xs p)
-    ∙ again-idle
+unfolding itemSlot itemActs slotAfter gapAct presentNext struck struckGap
+struck-slot n (exchange xs) s e p = by-test (absent s) (λ a. absent-after n (Start ∷ upToStop xs []) s a)
+    (λ a. ap (slotAfter n (upToStop xs [])) (present-next n Start s a ∙ ap (inPhase Control) (idle-let-go s e))
+    ∙ as-it-was n true xs (inPhase Control s) (unfold absent inPhase in a) (started-waits s a) (struck-unheard n xs p)
+    ∙ again-idle)
   where
     again-idle : inPhase Idle (inPhase Control s) ≡ s
     again-idle = unfold inPhase in idle-same s e
@@ -91,9 +99,11 @@ struck-slot n (between (strayRead m)) s e p = absurd (false≢true p)
 struck-slot n (between strayStop) s e p = absurd (false≢true p)
 struck-slot n (between timeout) s e p = absurd (false≢true p)
 struck-slot n (between tick) s e p = absurd (false≢true p)
-struck-slot n (between (voltage k on)) s e p = rw (not-true (eqb (k .0) n) p)
+struck-slot n (between (voltage k on)) s e p =
+    next-cases (λ (r : Slot). r ≡ s) n (Voltage k on) s (λ a. refl) (λ a. rw (not-true (eqb (k .0) n) p))
 struck-slot n (between power) s e p = absurd (false≢true p)
-struck-slot n (between (temperature k t)) s e p = rw (not-true (eqb (k .0) n) p)
+struck-slot n (between (temperature k t)) s e p =
+    next-cases (λ (r : Slot). r ≡ s) n (Temperature k t) s (λ a. refl) (λ a. rw (not-true (eqb (k .0) n) p))
 
 struck-part : (n : ℕ) (i : Item) (s : Slot) (m : List ℕ) → struck n i ≡ true → itemPart n i s m ≡ m
 unfolding itemPart itemActs partAfter gapAct partNext struck struckGap

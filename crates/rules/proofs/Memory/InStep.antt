@@ -17,8 +17,9 @@ use Rattle.rules.specs.Modelled.{absent, sensing}
 use Rattle.rules.specs.Open.{open-fields}
 use Rattle.rules.specs.Fresh.{freshSlot, powered}
 use Rattle.rules.specs.Control.{acksControl, heardOf, obeyed, controlled}
-use Rattle.rules.specs.Memory.{emptied, ended, ticked, lost, loaded, guarded, latching, dataByte, fetched}
-use Rattle.rules.specs.Slot.{standing, withSensorIn, commanding, pointer, firstByte, secondByte, byteIn, readIn, switched, slotNext}
+use Rattle.rules.specs.Memory.{emptied, abandoned, ended, ticked, loaded, upInPage, guarded, latching, dataByte, fetched}
+use Rattle.rules.specs.Slot.{standing, lost, commanding, pointer, firstByte, secondByte, byteIn, readIn, switched, presentNext, slotNext}
+use Rattle.rules.proofs.Run.Cases.{next-cases}
 
 -- in step, by the phase: it matters where data bytes are taken
 abbrev pub inStepAt : Phase → ℕ → ℕ → Type 0
@@ -59,14 +60,9 @@ agree SensorLow place counter e = tt
 agree SensorReadHigh place counter e = tt
 agree SensorReadLow place counter e = tt
 
--- a slot stands in its own phase, or counts as deaf
-stands : (P : Phase → Type 0) (s : Slot) → P Deaf → P (s .phase) → P (standing s)
-unfolding standing
-stands P s d p = cond-cases P (absent s || (withSensorIn (s .phase) && not (sensing s))) (λ e. d) (λ e. p)
-
-lost-step : (s : Slot) → InStep (lost s)
+lost-step : (p : Phase) (s : Slot) → InStep (lost p s)
 unfolding lost open-fields
-lost-step s = tt
+lost-step p s = tt
 
 obeyed-step : (h : Heard) (s : Slot) → InStep (obeyed h s)
 unfolding obeyed open-fields
@@ -81,58 +77,60 @@ obeyed-step (SelectHalf h) s = tt
 obeyed-step ReadHalf s = tt
 obeyed-step Nothing s = tt
 
--- a latched byte moves both on
-on-in-step : (place counter : ℕ) → place ≡ counter % 16 → (place + 1) % 16 ≡ (counter / 16 * 16 + (counter % 16 + 1) % 16) % 16
-on-in-step place counter e = omega arith
+-- a latched byte puts the place at the new counter's offset, whatever it was before
+data-step : (b : ℕ) (s : Slot) → InStep (dataByte b s)
+unfolding dataByte latching abandoned open-fields
+data-step b s = cond-cases InStep (guarded s) (λ e. tt) (λ e. agree (s .phase) _ _ refl)
 
-data-step : (b : ℕ) (s : Slot) → s .place ≡ s .counter % 16 → InStep (dataByte b s)
-unfolding dataByte latching open-fields
-data-step b s q = cond-cases InStep (guarded s) (λ e. lost-step _) (λ e. agree (s .phase) _ _ (on-in-step (s .place) (s .counter) q))
-
-byte-step : (p : Phase) (n b : ℕ) (s : Slot) → inStepAt p (s .place) (s .counter) → InStep s → InStep (byteIn p n b s)
+byte-step : (p : Phase) (n b : ℕ) (s : Slot) → InStep s → InStep (byteIn p n b s)
 unfolding byteIn controlled loaded emptied pointer firstByte secondByte open-fields
-byte-step Idle n b s q h = h
-byte-step Control n b s q h = cond-cases InStep (acksControl n b s) (λ e. obeyed-step (heardOf b) s) (λ e. tt)
-byte-step Deaf n b s q h = h
-byte-step MemoryCounter n b s q h = refl
-byte-step MemoryData n b s q h = data-step b s q
-byte-step MemoryRead n b s q h = lost-step s
-byte-step HalfSelected n b s q h = h
-byte-step CommandAddress n b s q h = tt
-byte-step CommandData n b s q h = tt
-byte-step CommandStop n b s q h = lost-step s
-byte-step SensorPointer n b s q h = cond-cases InStep (leb b 0x09) (λ e. tt) (λ e. lost-step s)
-byte-step SensorHigh n b s q h = tt
-byte-step SensorLow n b s q h = lost-step _
-byte-step SensorReadHigh n b s q h = lost-step s
-byte-step SensorReadLow n b s q h = lost-step s
+byte-step Idle n b s h = h
+byte-step Control n b s h = cond-cases InStep (acksControl n b s) (λ e. obeyed-step (heardOf b) s) (λ e. tt)
+byte-step Deaf n b s h = h
+byte-step MemoryCounter n b s h = refl
+byte-step MemoryData n b s h = data-step b s
+byte-step MemoryRead n b s h = lost-step MemoryRead s
+byte-step HalfSelected n b s h = h
+byte-step CommandAddress n b s h = tt
+byte-step CommandData n b s h = tt
+byte-step CommandStop n b s h = lost-step CommandStop s
+byte-step SensorPointer n b s h = cond-cases InStep (leb b 0x09) (λ e. tt) (λ e. lost-step SensorPointer s)
+byte-step SensorHigh n b s h = tt
+byte-step SensorLow n b s h = lost-step SensorLow _
+byte-step SensorReadHigh n b s h = lost-step SensorReadHigh s
+byte-step SensorReadLow n b s h = lost-step SensorReadLow s
 
 read-step : (p : Phase) (more : Bool) (s : Slot) → InStep s → InStep (readIn p more s)
 unfolding readIn fetched open-fields
 read-step Idle more s h = h
 read-step Control more s h = tt
 read-step Deaf more s h = h
-read-step MemoryCounter more s h = lost-step s
-read-step MemoryData more s h = lost-step s
+read-step MemoryCounter more s h = lost-step MemoryCounter s
+read-step MemoryData more s h = lost-step MemoryData s
 read-step MemoryRead more s h = cond-cases (λ (p : Phase). inStepAt p (s .place) ((s .counter + 1) % 256)) more (λ e. tt) (λ e. tt)
-read-step HalfSelected more s h = lost-step s
-read-step CommandAddress more s h = lost-step s
-read-step CommandData more s h = lost-step s
-read-step CommandStop more s h = lost-step s
-read-step SensorPointer more s h = lost-step s
-read-step SensorHigh more s h = lost-step s
-read-step SensorLow more s h = lost-step s
-read-step SensorReadHigh more s h = cond-cases InStep more (λ e. tt) (λ e. lost-step s)
-read-step SensorReadLow more s h = lost-step s
+read-step HalfSelected more s h = lost-step HalfSelected s
+read-step CommandAddress more s h = lost-step CommandAddress s
+read-step CommandData more s h = lost-step CommandData s
+read-step CommandStop more s h = lost-step CommandStop s
+read-step SensorPointer more s h = lost-step SensorPointer s
+read-step SensorHigh more s h = lost-step SensorHigh s
+read-step SensorLow more s h = lost-step SensorLow s
+read-step SensorReadHigh more s h = cond-cases InStep more (λ e. tt) (λ e. lost-step SensorReadHigh s)
+read-step SensorReadLow more s h = lost-step SensorReadLow s
+
+present-step : (n : ℕ) (a : Act) (s : Slot) → InStep s → InStep (presentNext n a s)
+unfolding presentNext ticked ended emptied switched powered freshSlot open-fields
+present-step n Start s h = tt
+present-step n (Byte b) s h = byte-step (standing s) n b s h
+present-step n (Read more) s h = read-step (standing s) more s h
+present-step n Stop s h = tt
+present-step n Timeout s h = tt
+present-step n Tick s h = cond-cases InStep (eqb (s .left) 1) (λ e. h) (λ e. h)
+present-step n (Voltage k on) s h =
+    cond-cases InStep (eqb (k .0) n)
+    (λ e. cond-cases (λ (r : Slot). InStep r) (commanding (standing s) && s .voltage && not on) (λ e. lost-step (standing s) s) (λ e. h)) (λ e. h)
+present-step n Power s h = tt
+present-step n (Temperature k t) s h = cond-cases InStep (eqb (k .0) n) (λ e. h) (λ e. h)
 
 pub slot-step : (n : ℕ) (a : Act) (s : Slot) → InStep s → InStep (slotNext n a s)
-unfolding slotNext ticked ended emptied switched powered freshSlot open-fields
-slot-step n Start s h = tt
-slot-step n (Byte b) s h = byte-step (standing s) n b s (stands (λ p. inStepAt p (s .place) (s .counter)) s tt h) h
-slot-step n (Read more) s h = read-step (standing s) more s h
-slot-step n Stop s h = tt
-slot-step n Timeout s h = tt
-slot-step n Tick s h = cond-cases InStep (eqb (s .left) 1) (λ e. h) (λ e. h)
-slot-step n (Voltage k on) s h = cond-cases InStep (eqb (k .0) n) (λ e. cond-cases (λ (r : Slot). InStep r) (commanding (standing s) && not on) (λ e. lost-step s) (λ e. h)) (λ e. h)
-slot-step n Power s h = tt
-slot-step n (Temperature k t) s h = cond-cases InStep (eqb (k .0) n) (λ e. h) (λ e. h)
+slot-step n a s h = next-cases InStep n a s (λ e. h) (λ e. present-step n a s h)

@@ -7,7 +7,7 @@ use mathlib.Core.Bool.{Bool, true, false, not, cond, _&&_}
 use mathlib.Core.List.{List, map}
 use lib.Dec.{eqb, leb}
 use lib.ListN.{length, set}
-use Rattle.lists.specs.Tests.{cond-cases}
+use Rattle.lists.specs.Tests.{cond-cases, by-test}
 use Rattle.lists.specs.Each.{map-mapFrom}
 use Rattle.rules.specs.declared.Act.{Act}
 use Rattle.rules.specs.declared.Act.the-variants.{Start, Byte, Read, Stop, Timeout, Tick, Voltage, Power, Temperature}
@@ -23,12 +23,14 @@ use Rattle.rules.specs.Fields.{withVoltage, withSensor}
 use Rattle.rules.specs.Fresh.{noBlocks, freshSlot, powered}
 use Rattle.rules.specs.Sensor.{written}
 use Rattle.rules.specs.Control.{heardOf, acksControl, obeyed, controlled}
-use Rattle.rules.specs.Memory.{steady, cleared, settled, guarded, anyMark, ticked}
-use Rattle.rules.specs.Slot.{standing, commanding, holds, letGo, byteIn, readIn, stopIn, slotNext, acksIn, acks}
+use Rattle.rules.specs.Modelled.{absent}
+use Rattle.rules.specs.Memory.{cancelled, guarded, anyMark, ticked}
+use Rattle.rules.specs.Slot.{standing, commanding, letGo, byteIn, readIn, stopIn, presentNext, slotNext, acksIn, acks}
 use Rattle.rules.specs.Bus.{busNext}
 use Rattle.rules.specs.Refusals.{kindsOf}
 use Rattle.rules.specs.Runs.{Bench, taken, next, after}
 use Rattle.rules.specs.Open.{open-fields, open-memory, open-slot}
+use Rattle.rules.proofs.Run.Cases.{next-cases, let-go-cases}
 use Rattle.rules.proofs.Run.Unchanged.{same-next, same-after}
 use Rattle.rules.proofs.Clerks.Alone.{number-taken}
 use Rattle.rules.proofs.Memory.Stored.{isTick}
@@ -45,7 +47,7 @@ pub data Decided (n : ℕ) (a : Act) (s : Slot) (stands comes : List Bool) : Typ
 record Step (n : ℕ) (a : Act) (s r : Slot) : Type 0 where
   kind : r .kind ≡ s .kind
   length : r .length ≡ s .length
-  protection : r .protection ≡ cond (isTick a && eqb (s .left) 1) (s .coming) (s .protection)
+  protection : r .protection ≡ cond (isTick a && not (absent s) && eqb (s .left) 1) (s .coming) (s .protection)
   coming : Decided n a s (r .protection) (r .coming)
 
 -- nothing decided: what is to come stays, or is dropped. As fields alone, so that a step which replaces others needs no word.
@@ -55,18 +57,14 @@ Calm s r = (r .kind ≡ s .kind) × (r .length ≡ s .length) × (r .protection 
 kept : (s : Slot) → Calm s s
 kept s = (refl, refl, refl, inl refl)
 
-dropped : (s : Slot) → Calm s (steady s)
+dropped : (s : Slot) → Calm s (cancelled s)
 unfolding open-fields open-memory
 dropped s = (refl, refl, refl, inr refl)
 
-gone : (s : Slot) → Calm s (settled s)
-unfolding open-fields open-memory
-gone s = cond-cases (λ (r : Slot). Calm s (cleared r)) (eqb (s .left) 0) (λ e. dropped s) (λ e. kept s)
-
 -- an exchange that ends early
-let-go : (s : Slot) → Calm s (letGo s)
-unfolding letGo
-let-go s = cond-cases (Calm s) (holds (standing s)) (λ e. gone s) (λ e. kept s)
+gone : (p : Phase) (s : Slot) → Calm s (letGo p s)
+unfolding open-fields open-memory
+gone p s = let-go-cases (Calm s) p s (kept s) (dropped s) (kept s) (kept s)
 
 -- a read and a stop in each phase
 read-calm : (p : Phase) (more : Bool) (s : Slot) → Calm s (readIn p more s)
@@ -74,18 +72,18 @@ unfolding open-fields open-memory open-slot
 read-calm Idle more s = kept s
 read-calm Control more s = kept s
 read-calm Deaf more s = kept s
-read-calm MemoryCounter more s = gone s
-read-calm MemoryData more s = gone s
+read-calm MemoryCounter more s = gone MemoryCounter s
+read-calm MemoryData more s = gone MemoryData s
 read-calm MemoryRead more s = kept s
-read-calm HalfSelected more s = gone s
-read-calm CommandAddress more s = gone s
-read-calm CommandData more s = gone s
-read-calm CommandStop more s = gone s
-read-calm SensorPointer more s = gone s
-read-calm SensorHigh more s = gone s
-read-calm SensorLow more s = gone s
-read-calm SensorReadHigh more s = cond-cases (Calm s) more (λ e. kept s) (λ e. gone s)
-read-calm SensorReadLow more s = gone s
+read-calm HalfSelected more s = gone HalfSelected s
+read-calm CommandAddress more s = gone CommandAddress s
+read-calm CommandData more s = gone CommandData s
+read-calm CommandStop more s = gone CommandStop s
+read-calm SensorPointer more s = gone SensorPointer s
+read-calm SensorHigh more s = gone SensorHigh s
+read-calm SensorLow more s = gone SensorLow s
+read-calm SensorReadHigh more s = cond-cases (Calm s) more (λ e. kept s) (λ e. gone SensorReadHigh s)
+read-calm SensorReadLow more s = gone SensorReadLow s
 
 stop-calm : (p : Phase) (s : Slot) → Calm s (stopIn p s)
 unfolding open-fields open-memory open-slot
@@ -93,17 +91,17 @@ stop-calm Idle s = kept s
 stop-calm Control s = kept s
 stop-calm Deaf s = kept s
 stop-calm MemoryCounter s = kept s
-stop-calm MemoryData s = cond-cases (Calm s) (anyMark (s .marks)) (λ e. dropped s) (λ e. gone s)
+stop-calm MemoryData s = cond-cases (Calm s) (anyMark (s .marks)) (λ e. kept s) (λ e. kept s)
 stop-calm MemoryRead s = kept s
 stop-calm HalfSelected s = kept s
-stop-calm CommandAddress s = gone s
-stop-calm CommandData s = gone s
+stop-calm CommandAddress s = dropped s
+stop-calm CommandData s = dropped s
 stop-calm CommandStop s = kept s
-stop-calm SensorPointer s = kept s
-stop-calm SensorHigh s = kept s
-stop-calm SensorLow s = gone s
-stop-calm SensorReadHigh s = gone s
-stop-calm SensorReadLow s = gone s
+stop-calm SensorPointer s = gone SensorPointer s
+stop-calm SensorHigh s = gone SensorHigh s
+stop-calm SensorLow s = gone SensorLow s
+stop-calm SensorReadHigh s = gone SensorReadHigh s
+stop-calm SensorReadLow s = gone SensorReadLow s
 
 -- a calm step is as it should be, unless it is a tick's
 calm : {n : ℕ} (a : Act) {s r : Slot} → isTick a ≡ false → Calm s r → Step n a s r
@@ -136,39 +134,45 @@ module _ (n b : ℕ) (s : Slot) where
       cond-cases (Step n (Byte b) s) (acksControl n b s) (λ a. heard-step (heardOf b) p (ap (λ (q : Phase). acksIn q n b s) p ∙ a) refl) (λ a. quiet (kept s))
   byte-step Deaf p = quiet (kept s)
   byte-step MemoryCounter p = quiet (kept s)
-  byte-step MemoryData p = quiet (cond-cases (Calm s) (guarded s) (λ e. gone s) (λ e. kept s))
-  byte-step MemoryRead p = quiet (gone s)
+  byte-step MemoryData p = quiet (cond-cases (Calm s) (guarded s) (λ e. kept s) (λ e. kept s))
+  byte-step MemoryRead p = quiet (gone MemoryRead s)
   byte-step HalfSelected p = quiet (kept s)
   byte-step CommandAddress p = quiet (kept s)
   byte-step CommandData p = quiet (kept s)
-  byte-step CommandStop p = quiet (gone s)
-  byte-step SensorPointer p = quiet (cond-cases (Calm s) (leb b 0x09) (λ e. kept s) (λ e. gone s))
+  byte-step CommandStop p = quiet (gone CommandStop s)
+  byte-step SensorPointer p = quiet (cond-cases (Calm s) (leb b 0x09) (λ e. kept s) (λ e. gone SensorPointer s))
   byte-step SensorHigh p = quiet (kept s)
-  byte-step SensorLow p = quiet (gone (withSensor (written (s .sensor) (s .sensor .pointer) (s .sensor .word / 256 * 256 + b)) s))
-  byte-step SensorReadHigh p = quiet (gone s)
-  byte-step SensorReadLow p = quiet (gone s)
+  byte-step SensorLow p = quiet (gone SensorLow (withSensor (written (s .sensor) (s .sensor .pointer) (s .sensor .word / 256 * 256 + b)) s))
+  byte-step SensorReadHigh p = quiet (gone SensorReadHigh s)
+  byte-step SensorReadLow p = quiet (gone SensorReadLow s)
 
-tick-step : (n : ℕ) (s : Slot) → Step n Tick s (ticked s)
+tick-step : (n : ℕ) (s : Slot) → absent s ≡ false → Step n Tick s (ticked s)
 unfolding open-fields open-memory isTick
-tick-step n s = cond-cases (Step n Tick s) (eqb (s .left) 1)
-    (λ e. record { kind = refl; length = refl; protection = rw e; coming = asBefore refl })
-    (λ e. record { kind = refl; length = refl; protection = rw e; coming = asBefore refl })
+tick-step n s a = cond-cases (Step n Tick s) (eqb (s .left) 1)
+    (λ e. record { kind = refl; length = refl; protection = rw (a, e); coming = asBefore refl })
+    (λ e. record { kind = refl; length = refl; protection = rw (a, e); coming = asBefore refl })
+
+present-step : (n : ℕ) (a : Act) (s : Slot) → absent s ≡ false → Step n a s (presentNext n a s)
+unfolding open-fields open-memory open-slot powered freshSlot isTick
+present-step n Start s h = calm Start refl (gone (standing s) s)
+present-step n (Byte b) s h = byte-step n b s (standing s) refl
+present-step n (Read more) s h = calm (Read more) refl (read-calm (standing s) more s)
+present-step n Stop s h = calm Stop refl (stop-calm (standing s) s)
+present-step n Timeout s h = calm Timeout refl (gone (standing s) s)
+present-step n Tick s h = tick-step n s h
+present-step n (Voltage k on) s h = calm (Voltage k on) refl (cond-cases (Calm s) (eqb (k .0) n)
+    (λ e. cond-cases (λ (r : Slot). Calm s (withVoltage on r)) (commanding (standing s) && s .voltage && not on) (λ e. gone (standing s) s) (λ e. kept s)) (λ e. kept s))
+present-step n Power s h = calm Power refl (dropped s)
+present-step n (Temperature k t) s h = calm (Temperature k t) refl (cond-cases (Calm s) (eqb (k .0) n) (λ e. kept s) (λ e. kept s))
+
+untouched : (n : ℕ) (a : Act) (s : Slot) → absent s ≡ true → Step n a s s
+untouched n a s e = record { kind = refl; length = refl; protection = rw e (by-test (isTick a) (λ t. rw t) (λ t. rw t)); coming = asBefore refl }
 
 slot-step : (n : ℕ) (a : Act) (s : Slot) → Step n a s (slotNext n a s)
-unfolding open-fields open-memory open-slot powered freshSlot isTick
-slot-step n Start s = calm Start refl (let-go s)
-slot-step n (Byte b) s = byte-step n b s (standing s) refl
-slot-step n (Read more) s = calm (Read more) refl (read-calm (standing s) more s)
-slot-step n Stop s = calm Stop refl (stop-calm (standing s) s)
-slot-step n Timeout s = calm Timeout refl (let-go s)
-slot-step n Tick s = tick-step n s
-slot-step n (Voltage k on) s = calm (Voltage k on) refl (cond-cases (Calm s) (eqb (k .0) n)
-    (λ e. cond-cases (λ (r : Slot). Calm s (withVoltage on r)) (commanding (standing s) && not on) (λ e. gone s) (λ e. kept s)) (λ e. kept s))
-slot-step n Power s = calm Power refl (dropped s)
-slot-step n (Temperature k t) s = calm (Temperature k t) refl (cond-cases (Calm s) (eqb (k .0) n) (λ e. kept s) (λ e. kept s))
+slot-step n a s = next-cases (Step n a s) n a s (untouched n a s) (present-step n a s)
 
 -- protection changes only at the tick that ends a cycle, and then to what was to come
-pub protection-next : (n : ℕ) (a : Act) (s : Slot) → (slotNext n a s) .protection ≡ cond (isTick a && eqb (s .left) 1) (s .coming) (s .protection)
+pub protection-next : (n : ℕ) (a : Act) (s : Slot) → (slotNext n a s) .protection ≡ cond (isTick a && not (absent s) && eqb (s .left) 1) (s .coming) (s .protection)
 protection-next n a s = slot-step n a s .protection
 
 -- what is to come is decided by protect and clear alone
@@ -177,6 +181,10 @@ coming-next n a s = slot-step n a s .coming
 
 pub kind-next : (n : ℕ) (a : Act) (s : Slot) → (slotNext n a s) .kind ≡ s .kind
 kind-next n a s = slot-step n a s .kind
+
+pub still-present : (n : ℕ) (a : Act) (s : Slot) → absent s ≡ false → absent (slotNext n a s) ≡ false
+unfolding absent
+still-present n a s e = rw (kind-next n a s) e
 
 pub length-next : (n : ℕ) (a : Act) (s : Slot) → (slotNext n a s) .length ≡ s .length
 length-next n a s = slot-step n a s .length

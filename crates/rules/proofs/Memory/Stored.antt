@@ -4,7 +4,7 @@ use Prim.Native.Nat.{ℕ, zero, suc, _+_, _-_, _*_, _<_, _≤_}
 use native.Mathlib.Omega.{arith}
 use mathlib.Core.Path.{_≡_, refl, sym, ap, ap₂, _∙_}
 use mathlib.Core.Logic.{_⊎_, inl, inr, ⊎-elim}
-use mathlib.Core.Bool.{Bool, true, false, false≢true, cond, _&&_}
+use mathlib.Core.Bool.{Bool, true, false, false≢true, not, cond, _&&_}
 use mathlib.Core.List.{List}
 use lib.Dec.{eqb, leb, ltb}
 use lib.ListN.{length, getD, set, length-set}
@@ -21,7 +21,7 @@ use Rattle.rules.specs.declared.Refusal.{Refusal}
 use Rattle.rules.specs.declared.Ruling.{Ruling}
 use Rattle.rules.specs.declared.Ruling.the-variants.{Taken, Refused}
 use Rattle.rules.specs.declared.Slot.{Slot}
-use Rattle.rules.specs.Modelled.{slotBytes, addressOf, pageOf}
+use Rattle.rules.specs.Modelled.{absent, slotBytes, addressOf, pageOf}
 use Rattle.rules.specs.Memory.{putUpTo, stored, tickedPart}
 use Rattle.rules.specs.Bus.{memoryNext}
 use Rattle.rules.specs.Runs.{Bench, taken, rulingOn, ruledNext, ruledAnswer, next, answered, after}
@@ -82,6 +82,7 @@ length-putUpTo latch marks at (suc n) m =
 pub length-tickedPart : (s : Slot) (m : List ℕ) → length (tickedPart s m) ≡ length m
 unfolding tickedPart stored
 length-tickedPart s m =
+    cond-cases (λ (l : List ℕ). length l ≡ length m) (absent s) (λ e. refl) λ e.
     cond-cases (λ (l : List ℕ). length l ≡ length m) (eqb (s .left) 1)
     (λ e. length-putUpTo (s .latch) (s .marks) (pageOf (addressOf s) .0) 16 m) (λ e. refl)
 
@@ -144,9 +145,9 @@ module _ (latch : List ℕ) (marks : List Bool) (at : ℕ) (m : List ℕ) (a d :
 abbrev pub pageStart : Slot → ℕ
 pageStart s = pageOf (addressOf s) .0
 
--- a tick puts a byte at the slot's place i: a write cycle ends, i is in the page, and its byte was latched
+-- a tick puts a byte at the slot's place i: the slot is there, its write cycle ends, i is in the page, and its byte was latched
 unfoldable pub landsAt : Slot → ℕ → Bool
-landsAt s i = eqb (s .left) 1 && within (pageStart s) 16 i && getD (s .marks) (i - pageStart s) false
+landsAt s i = not (absent s) && eqb (s .left) 1 && within (pageStart s) 16 i && getD (s .marks) (i - pageStart s) false
 
 -- the byte at the slot's place i after a tick, where `old` stood
 unfoldable pub byteAfter : Slot → ℕ → ℕ → ℕ
@@ -154,7 +155,8 @@ byteAfter s i old = cond (landsAt s i) (getD (s .latch) (i - pageStart s) 0) old
 
 pub ticked-byte : (s : Slot) (m : List ℕ) (i d : ℕ) → i < length m → getD (tickedPart s m) i d ≡ byteAfter s i (getD m i d)
 unfolding tickedPart stored byteAfter landsAt
-ticked-byte s m i d h = by-test (eqb (s .left) 1) (λ e. rw e (put-at (s .latch) (s .marks) (pageStart s) m i d 16 h)) (λ e. rw e)
+ticked-byte s m i d h = by-test (absent s) (λ e. rw e) λ e.
+    by-test (eqb (s .left) 1) (λ f. rw (e, f) (put-at (s .latch) (s .marks) (pageStart s) m i d 16 h)) (λ f. rw (e, f))
 
 -- place i of slot k in the bus's memory
 pub tick-byte : (b : Bus) (m : List ℕ) (k i d : ℕ) (z : Slot) → k < length (b .slots) → i < slotBytes → slotBytes * k + i < length m

@@ -3,7 +3,7 @@
 use Prim.Native.Nat.{ℕ, _+_, _*_, _/_, _%_, _<_, _≤_}
 use native.Mathlib.Omega.{arith}
 use mathlib.Core.Path.{_≡_, refl, sym, _∙_, ap}
-use mathlib.Core.Bool.{Bool, true, false, false≢true, not, _||_, or-true}
+use mathlib.Core.Bool.{Bool, true, false, false≢true, not, cond, _&&_, _||_, or-true}
 use mathlib.Core.List.{List}
 use lib.Dec.{eqb, ltb}
 use lib.IntN.{ℤ, pos, negsuc}
@@ -11,7 +11,7 @@ use lib.ListN.{length, getD, drop, length-take, length-drop}
 use lib.Seq.{getD-take, getD-drop}
 use lib.Signed.{ltZ, leZ}
 use borrow.Author.Tests.{eq-eqb, ne-eqb, eqb-true, not-false, ltb-true, leb-true, ltb-false, lt-leb, le-ltb}
-use Rattle.lists.specs.Tests.{cond-cases, or-left-false, or-right-false}
+use Rattle.lists.specs.Tests.{cond-cases, both, or-left-false, or-right-false}
 use Rattle.rules.specs.declared.Act.the-variants.{Byte, Read, Power, Temperature}
 use Rattle.rules.specs.declared.BlockNo.{BlockNo}
 use Rattle.rules.specs.declared.Bus.{Bus}
@@ -24,12 +24,13 @@ use Rattle.rules.specs.declared.Slot.{Slot}
 use Rattle.rules.specs.declared.SlotNo.{SlotNo}
 use Rattle.rules.specs.Modelled.{absent, sensing, addressOf}
 use Rattle.rules.specs.Open.{open-fields}
-use Rattle.rules.specs.Fields.{inPhase, withSensor, withTemperature}
+use Rattle.rules.specs.Fields.{inPhase, withVoltage, withSensor, withTemperature}
 use Rattle.rules.specs.Fresh.{freshSlot, freshSensor, powered}
 use Rattle.rules.specs.Sensor.{signedOf, loweredOf, flagOf, criticalFlag, highFlag, lowFlag, shutDown, converted}
 use Rattle.rules.specs.Control.{commandOf, heardOf, acksHeard, acksControl, controlled}
-use Rattle.rules.specs.Memory.{emptied, steady, cleared, settled, lost, guarded, dataByte}
-use Rattle.rules.specs.Slot.{standing, withSensorIn, commanding, switched, byteIn, acksIn, readIn, drivesIn, drivenIn, slotNext, acks, drives, driven}
+use Rattle.rules.specs.Memory.{emptied, abandoned, cancelled, guarded, dataByte}
+use Rattle.rules.specs.Slot.{standing, withSensorIn, commanding, letGo, lost, switched, byteIn, acksIn, readIn, drivesIn, drivenIn, presentNext, slotNext, acks, drives, driven}
+use Rattle.rules.proofs.Run.Cases.{next-cases}
 use Rattle.rules.specs.Refusals.{wrongLength, inRange, kindsOf}
 use Rattle.rules.specs.Reader.{noBlock, blockBytes}
 
@@ -74,12 +75,12 @@ pub record Silent (n : ℕ) (s : Slot) : Type 0 where
   pub at-reads : (more : Bool) → slotNext n (Read more) s ≡ s
 
 pub deaf-silent : (n : ℕ) (s : Slot) → standing s ≡ Deaf → Silent n s
-unfolding acks acksIn drives slotNext byteIn readIn
+unfolding acks acksIn drives presentNext byteIn readIn
 deaf-silent n s e = record {
   no-ack = λ b. ap (λ p. acksIn p n b s) e;
   no-byte = ap drivesIn e;
-  at-bytes = λ b. ap (λ p. byteIn p n b s) e;
-  at-reads = λ more. ap (λ p. readIn p more s) e;
+  at-bytes = λ b. next-cases (λ (r : Slot). r ≡ s) n (Byte b) s (λ a. refl) (λ a. ap (λ p. byteIn p n b s) e);
+  at-reads = λ more. next-cases (λ (r : Slot). r ≡ s) n (Read more) s (λ a. refl) (λ a. ap (λ p. readIn p more s) e);
 }
 
 -- "absent slots, and sensor exchanges without a sensor, count as deaf"
@@ -104,21 +105,44 @@ without-voltage n s e = (λ k. rw e, e)
 -- "if the block is protected, NACK, deaf, counter still"
 pub protected-byte : (n b : ℕ) (s : Slot) → guarded s ≡ true
     → (acksIn MemoryData n b s ≡ false) × ((dataByte b s) .phase ≡ Deaf) × ((dataByte b s) .counter ≡ s .counter)
-unfolding acksIn dataByte lost settled cleared emptied steady open-fields
-protected-byte n b s e = (rw e, rw e, rw e (cond-cases (λ (r : Slot). r .counter ≡ s .counter) (eqb (s .left) 0) (λ f. refl) (λ f. refl)))
+unfolding acksIn dataByte abandoned emptied open-fields
+protected-byte n b s e = (rw e, rw e, rw e)
 
--- "High voltage going off before the stop cancels, deaf": what was to come is the protection that stands, unless a cycle runs
-pub voltage-off-cancels : (s : Slot) → commanding (standing s) ≡ true → s .left ≡ 0
-    → ((switched false s) .phase ≡ Deaf) × ((switched false s) .coming ≡ s .protection)
-unfolding switched lost settled cleared emptied steady open-fields
-voltage-off-cancels s c e = (rw c, rw (c, eq-eqb (s .left) 0 e))
+-- "High voltage going off before the stop cancels, deaf": what was to come is the protection that stands
+off-cancels : (p : Phase) (s : Slot) → commanding p ≡ true
+    → ((lost p s) .phase ≡ Deaf) × ((lost p s) .coming ≡ s .protection) × ((lost p s) .protection ≡ s .protection)
+unfolding lost letGo cancelled open-fields
+off-cancels CommandAddress s c = (refl, refl, refl)
+off-cancels CommandData s c = (refl, refl, refl)
+off-cancels CommandStop s c = (refl, refl, refl)
+off-cancels Idle s c = absurd (false≢true c)
+off-cancels Control s c = absurd (false≢true c)
+off-cancels Deaf s c = absurd (false≢true c)
+off-cancels MemoryCounter s c = absurd (false≢true c)
+off-cancels MemoryData s c = absurd (false≢true c)
+off-cancels MemoryRead s c = absurd (false≢true c)
+off-cancels HalfSelected s c = absurd (false≢true c)
+off-cancels SensorPointer s c = absurd (false≢true c)
+off-cancels SensorHigh s c = absurd (false≢true c)
+off-cancels SensorLow s c = absurd (false≢true c)
+off-cancels SensorReadHigh s c = absurd (false≢true c)
+off-cancels SensorReadLow s c = absurd (false≢true c)
+
+pub voltage-off-cancels : (s : Slot) → commanding (standing s) ≡ true → s .voltage ≡ true
+    → ((switched false s) .phase ≡ Deaf) × ((switched false s) .coming ≡ s .protection) × ((switched false s) .protection ≡ s .protection)
+unfolding switched withVoltage
+voltage-off-cancels s c v =
+    let h = off-cancels (standing s) s c in
+    let going = both (commanding (standing s) && s .voltage) true (both (commanding (standing s)) (s .voltage) c v) refl in
+    let e = ap (λ (b : Bool). withVoltage false (cond b (lost (standing s) s) s)) going in
+    (ap (λ (r : Slot). r .phase) e ∙ h .0, ap (λ (r : Slot). r .coming) e ∙ h .1, ap (λ (r : Slot). r .protection) e ∙ h .2)
 
 -- "A power cycle does the same, but keeps memory, protection and the high-voltage levels."
-pub power-cycle : (n : ℕ) (s : Slot)
-    → let r : Slot = slotNext n Power s in
+pub power-cycle : (s : Slot)
+    → let r : Slot = powered s in
     (r .protection ≡ s .protection) × (r .voltage ≡ s .voltage) × (r .left ≡ 0) × (r .half ≡ 0) × (r .counter ≡ 0) × (r .phase ≡ Idle) × (r .sensor ≡ freshSensor)
-unfolding slotNext powered freshSlot open-fields
-power-cycle n s = (refl, refl, refl, refl, refl, refl, refl)
+unfolding powered freshSlot open-fields
+power-cycle s = (refl, refl, refl, refl, refl, refl, refl)
 
 -- "both bytes are fixed at the control byte's ACK": no temperature changes what a slot drives
 word-fixed : (x : sensor.Sensor) (t : ℤ) → (converted x t) .word ≡ x .word
@@ -144,8 +168,9 @@ driven-fixed SensorReadHigh x s m e = rw e
 driven-fixed SensorReadLow x s m e = rw e
 
 pub sensor-bytes-fixed : (n : ℕ) (k : SlotNo) (t : ℤ) (s : Slot) (m : List ℕ) → driven m (slotNext n (Temperature k t) s) ≡ driven m s
-unfolding driven slotNext standing absent sensing withSensor
+unfolding driven presentNext standing absent sensing withSensor
 sensor-bytes-fixed n k t s m =
+    next-cases (λ (r : Slot). driven m r ≡ driven m s) n (Temperature k t) s (λ e. refl) λ e.
     cond-cases (λ (r : Slot). driven m r ≡ driven m s) (eqb (k .0) n)
     (λ e. driven-fixed (standing s) (converted (s .sensor) t) s m (word-fixed (s .sensor) t)) (λ e. refl)
 

@@ -33,11 +33,12 @@ use Rattle.rules.specs.Fields.{inPhase, withLeft}
 use Rattle.rules.specs.Events.{actOf, refusalNumber}
 use Rattle.rules.specs.Fresh.{freshSlot, setupSlot, powered}
 use Rattle.rules.specs.Control.{commandOf, heardOf, acksControl, obeyed, controlled}
-use Rattle.rules.specs.Memory.{emptied, steady, cleared, settled, lost, loaded, guarded, latching, dataByte, fetched, anyMark, storing, dataStop, changing, ended, ticked}
-use Rattle.rules.specs.Slot.{standing, holds, commanding, letGo, pointer, firstByte, secondByte, byteIn, readIn, stopIn, switched, slotNext}
+use Rattle.rules.specs.Memory.{emptied, abandoned, cancelled, loaded, guarded, upInPage, latching, dataByte, fetched, anyMark, begun, dataStop, ended, ticked}
+use Rattle.rules.specs.Slot.{standing, commanding, letGo, lost, pointer, firstByte, secondByte, byteIn, readIn, stopIn, switched, presentNext, slotNext}
 use Rattle.rules.specs.Bus.{busNext, shown, anyAck}
 use Rattle.rules.specs.Refusals.{outside, wrongValue, goodLength, goodPair, kindInRange, lengthInRange, sensorInRange, slotInRange, inRange, setupOf}
 use Rattle.rules.specs.Runs.{Bench, taken, given, rulingOn, ruledNext, ruledAnswer, next, answered, after, answers}
+use Rattle.rules.proofs.Run.Cases.{next-cases, let-go-cases}
 use Rattle.rules.proofs.Range.Judged.{Judged, row-1, row-6, row-2, row-3, row-4, no-row, judged}
 use Rattle.rules.proofs.Registers.SensorKept.{fresh-kept, written-kept, converted-kept, word-kept, pointing-kept}
 
@@ -119,29 +120,24 @@ emptied-kept : (s : Slot) → InRange s → InRange (emptied s)
 unfolding emptied open-fields
 emptied-kept s v = v
 
-steady-kept : (s : Slot) → InRange s → InRange (steady s)
-unfolding steady open-fields
-steady-kept s v = v
+abandoned-kept : (s : Slot) → InRange s → InRange (abandoned s)
+unfolding abandoned
+abandoned-kept s v = place-kept 0 _ (omega arith) (emptied-kept s v)
+
+cancelled-kept : (s : Slot) → InRange s → InRange (cancelled s)
+unfolding cancelled open-fields
+cancelled-kept s v = v
 
 holding-kept : (w : ℕ) (s : Slot) → InRange s → InRange (Fields.holding w s)
 unfolding Fields.holding
 holding-kept w s v = sensor-kept _ s (word-kept w (s .sensor) (v .sensors)) v
 
-cleared-kept : (s : Slot) → InRange s → InRange (cleared s)
-unfolding cleared
-cleared-kept s v = place-kept 0 _ (omega arith) (holding-kept 0 s v)
+letGo-kept : (p : Phase) (s : Slot) → InRange s → InRange (letGo p s)
+letGo-kept p s v = let-go-cases InRange p s (holding-kept 0x0000 s v) (cancelled-kept s v) (abandoned-kept s v) v
 
-settled-kept : (s : Slot) → InRange s → InRange (settled s)
-unfolding settled
-settled-kept s v = cleared-kept _ (cond-cases InRange (eqb (s .left) 0) (λ e. emptied-kept (steady s) (steady-kept s v)) (λ e. v))
-
-lost-kept : (s : Slot) → InRange s → InRange (lost s)
+lost-kept : (p : Phase) (s : Slot) → InRange s → InRange (lost p s)
 unfolding lost
-lost-kept s v = phase-kept Deaf _ (settled-kept s v)
-
-letGo-kept : (s : Slot) → InRange s → InRange (letGo s)
-unfolding letGo
-letGo-kept s v = cond-cases InRange (holds (standing s)) (λ e. settled-kept s v) (λ e. v)
+lost-kept p s v = phase-kept Deaf _ (letGo-kept p s v)
 
 -- the control byte: a half that is selected is 0 or 1
 halfIn : Heard → Bool
@@ -199,28 +195,28 @@ controlled-kept n b s v =
 -- bytes
 loaded-kept : (b : ℕ) (s : Slot) → b ≤ 255 → InRange s → InRange (loaded b s)
 unfolding loaded
-loaded-kept b s h v = phase-kept MemoryData _ (place-kept _ _ (omega arith) (emptied-kept _ (counter-kept b s h v)))
+loaded-kept b s h v = phase-kept MemoryData _ (place-kept _ _ (omega arith) (counter-kept b s h v))
 
 latched-kept : (l : List ℕ) (m : List Bool) (s : Slot) → InRange s → InRange (Fields.latched l m s)
 unfolding open-fields
 latched-kept l m s v = v
 
 latching-kept : (b : ℕ) (s : Slot) → InRange s → InRange (latching b s)
-unfolding latching
+unfolding latching upInPage
 latching-kept b s v = counter-kept _ _ (omega (arith, v .counters)) (place-kept _ _ (omega arith) (latched-kept _ _ s v))
 
 data-kept : (b : ℕ) (s : Slot) → InRange s → InRange (dataByte b s)
 unfolding dataByte
-data-kept b s v = cond-cases InRange (guarded s) (λ e. lost-kept s v) (λ e. latching-kept b s v)
+data-kept b s v = cond-cases InRange (guarded s) (λ e. phase-kept Deaf _ (abandoned-kept s v)) (λ e. latching-kept b s v)
 
 pointer-kept : (b : ℕ) (s : Slot) → InRange s → InRange (pointer b s)
 unfolding pointer
 pointer-kept b s v =
-    cond-cases InRange (leb b 0x09) (λ e. phase-kept SensorHigh _ (sensor-kept _ s (pointing-kept b (s .sensor) e (v .sensors)) v)) (λ e. lost-kept s v)
+    cond-cases InRange (leb b 0x09) (λ e. phase-kept SensorHigh _ (sensor-kept _ s (pointing-kept b (s .sensor) e (v .sensors)) v)) (λ e. lost-kept SensorPointer s v)
 
 second-kept : (b : ℕ) (s : Slot) → InRange s → InRange (secondByte b s)
 unfolding secondByte
-second-kept b s v = lost-kept _ (sensor-kept _ s (written-kept (s .sensor) _ _ (v .sensors)) v)
+second-kept b s v = lost-kept SensorLow _ (sensor-kept _ s (written-kept (s .sensor) _ _ (v .sensors)) v)
 
 byte-kept : (p : Phase) (n b : ℕ) (s : Slot) → b ≤ 255 → InRange s → InRange (byteIn p n b s)
 unfolding byteIn firstByte
@@ -229,16 +225,16 @@ byte-kept Control n b s h v = controlled-kept n b s v
 byte-kept Deaf n b s h v = v
 byte-kept MemoryCounter n b s h v = loaded-kept b s h v
 byte-kept MemoryData n b s h v = data-kept b s v
-byte-kept MemoryRead n b s h v = lost-kept s v
+byte-kept MemoryRead n b s h v = lost-kept MemoryRead s v
 byte-kept HalfSelected n b s h v = v
 byte-kept CommandAddress n b s h v = phase-kept CommandData s v
 byte-kept CommandData n b s h v = phase-kept CommandStop s v
-byte-kept CommandStop n b s h v = lost-kept s v
+byte-kept CommandStop n b s h v = lost-kept CommandStop s v
 byte-kept SensorPointer n b s h v = pointer-kept b s v
 byte-kept SensorHigh n b s h v = phase-kept SensorLow _ (holding-kept _ s v)
 byte-kept SensorLow n b s h v = second-kept b s v
-byte-kept SensorReadHigh n b s h v = lost-kept s v
-byte-kept SensorReadLow n b s h v = lost-kept s v
+byte-kept SensorReadHigh n b s h v = lost-kept SensorReadHigh s v
+byte-kept SensorReadLow n b s h v = lost-kept SensorReadLow s v
 
 fetched-kept : (more : Bool) (s : Slot) → InRange s → InRange (fetched more s)
 unfolding fetched
@@ -249,26 +245,22 @@ unfolding readIn
 read-kept Idle more s v = v
 read-kept Control more s v = phase-kept Deaf s v
 read-kept Deaf more s v = v
-read-kept MemoryCounter more s v = lost-kept s v
-read-kept MemoryData more s v = lost-kept s v
+read-kept MemoryCounter more s v = lost-kept MemoryCounter s v
+read-kept MemoryData more s v = lost-kept MemoryData s v
 read-kept MemoryRead more s v = fetched-kept more s v
-read-kept HalfSelected more s v = lost-kept s v
-read-kept CommandAddress more s v = lost-kept s v
-read-kept CommandData more s v = lost-kept s v
-read-kept CommandStop more s v = lost-kept s v
-read-kept SensorPointer more s v = lost-kept s v
-read-kept SensorHigh more s v = lost-kept s v
-read-kept SensorLow more s v = lost-kept s v
-read-kept SensorReadHigh more s v = cond-cases InRange more (λ e. phase-kept SensorReadLow s v) (λ e. lost-kept s v)
-read-kept SensorReadLow more s v = lost-kept s v
+read-kept HalfSelected more s v = lost-kept HalfSelected s v
+read-kept CommandAddress more s v = lost-kept CommandAddress s v
+read-kept CommandData more s v = lost-kept CommandData s v
+read-kept CommandStop more s v = lost-kept CommandStop s v
+read-kept SensorPointer more s v = lost-kept SensorPointer s v
+read-kept SensorHigh more s v = lost-kept SensorHigh s v
+read-kept SensorLow more s v = lost-kept SensorLow s v
+read-kept SensorReadHigh more s v = cond-cases InRange more (λ e. phase-kept SensorReadLow s v) (λ e. lost-kept SensorReadHigh s v)
+read-kept SensorReadLow more s v = lost-kept SensorReadLow s v
 
-storing-kept : (s : Slot) → InRange s → InRange (storing s)
-unfolding storing cleared steady open-fields
-storing-kept s v = left-kept (s .length) (cleared (steady s)) (omega arith) (cleared-kept (steady s) (steady-kept s v))
-
-changing-kept : (s : Slot) → InRange s → InRange (changing s)
-unfolding changing cleared emptied open-fields
-changing-kept s v = left-kept (s .length) (cleared (emptied s)) (omega arith) (cleared-kept (emptied s) (emptied-kept s v))
+begun-kept : (s : Slot) → InRange s → InRange (begun s)
+unfolding begun open-fields
+begun-kept s v = left-kept (s .length) (Fields.placed 0 s) (omega arith) (place-kept 0 s (omega arith) v)
 
 stop-kept : (p : Phase) (s : Slot) → InRange s → InRange (stopIn p s)
 unfolding stopIn dataStop
@@ -276,17 +268,17 @@ stop-kept Idle s v = v
 stop-kept Control s v = v
 stop-kept Deaf s v = v
 stop-kept MemoryCounter s v = v
-stop-kept MemoryData s v = cond-cases InRange (anyMark (s .marks)) (λ e. storing-kept s v) (λ e. settled-kept s v)
+stop-kept MemoryData s v = cond-cases InRange (anyMark (s .marks)) (λ e. begun-kept s v) (λ e. abandoned-kept s v)
 stop-kept MemoryRead s v = v
 stop-kept HalfSelected s v = v
-stop-kept CommandAddress s v = settled-kept s v
-stop-kept CommandData s v = settled-kept s v
-stop-kept CommandStop s v = changing-kept s v
-stop-kept SensorPointer s v = v
-stop-kept SensorHigh s v = v
-stop-kept SensorLow s v = settled-kept s v
-stop-kept SensorReadHigh s v = settled-kept s v
-stop-kept SensorReadLow s v = settled-kept s v
+stop-kept CommandAddress s v = cancelled-kept s v
+stop-kept CommandData s v = cancelled-kept s v
+stop-kept CommandStop s v = begun-kept s v
+stop-kept SensorPointer s v = letGo-kept SensorPointer s v
+stop-kept SensorHigh s v = letGo-kept SensorHigh s v
+stop-kept SensorLow s v = letGo-kept SensorLow s v
+stop-kept SensorReadHigh s v = letGo-kept SensorReadHigh s v
+stop-kept SensorReadLow s v = letGo-kept SensorReadLow s v
 
 ended-kept : (s : Slot) → InRange s → InRange (ended s)
 unfolding ended emptied open-fields
@@ -302,7 +294,7 @@ voltage-kept on s v = v
 
 switched-kept : (on : Bool) (s : Slot) → InRange s → InRange (switched on s)
 unfolding switched
-switched-kept on s v = voltage-kept on _ (cond-cases InRange (commanding (standing s) && not on) (λ e. lost-kept s v) (λ e. v))
+switched-kept on s v = voltage-kept on _ (cond-cases InRange (commanding (standing s) && s .voltage && not on) (λ e. lost-kept (standing s) s v) (λ e. v))
 
 powered-kept : (s : Slot) → InRange s → InRange (powered s)
 unfolding powered freshSlot open-fields
@@ -320,18 +312,21 @@ byteFits (Voltage k on) = true
 byteFits Power = true
 byteFits (Temperature k t) = true
 
-pub slot-kept : (n : ℕ) (a : Act) (s : Slot) → byteFits a ≡ true → InRange s → InRange (slotNext n a s)
-unfolding slotNext byteFits
-slot-kept n Start s f v = phase-kept Control _ (letGo-kept s v)
-slot-kept n (Byte b) s f v = byte-kept (standing s) n b s (leb-true _ _ f) v
-slot-kept n (Read more) s f v = read-kept (standing s) more s v
-slot-kept n Stop s f v = phase-kept Idle _ (stop-kept (standing s) s v)
-slot-kept n Timeout s f v = phase-kept Idle _ (letGo-kept s v)
-slot-kept n Tick s f v = ticked-kept s v
-slot-kept n (Voltage k on) s f v = cond-cases InRange (eqb (k .0) n) (λ e. switched-kept on s v) (λ e. v)
-slot-kept n Power s f v = powered-kept s v
-slot-kept n (Temperature k t) s f v =
+present-kept : (n : ℕ) (a : Act) (s : Slot) → byteFits a ≡ true → InRange s → InRange (presentNext n a s)
+unfolding presentNext byteFits
+present-kept n Start s f v = phase-kept Control _ (letGo-kept (standing s) s v)
+present-kept n (Byte b) s f v = byte-kept (standing s) n b s (leb-true _ _ f) v
+present-kept n (Read more) s f v = read-kept (standing s) more s v
+present-kept n Stop s f v = phase-kept Idle _ (stop-kept (standing s) s v)
+present-kept n Timeout s f v = phase-kept Idle _ (letGo-kept (standing s) s v)
+present-kept n Tick s f v = ticked-kept s v
+present-kept n (Voltage k on) s f v = cond-cases InRange (eqb (k .0) n) (λ e. switched-kept on s v) (λ e. v)
+present-kept n Power s f v = powered-kept s v
+present-kept n (Temperature k t) s f v =
     cond-cases InRange (eqb (k .0) n) (λ e. sensor-kept _ s (converted-kept (s .sensor) t (v .sensors)) v) (λ e. v)
+
+pub slot-kept : (n : ℕ) (a : Act) (s : Slot) → byteFits a ≡ true → InRange s → InRange (slotNext n a s)
+slot-kept n a s f v = next-cases InRange n a s (λ e. v) (λ e. present-kept n a s f v)
 
 -- the bus
 pub bus-kept : (a : Act) (b : Bus) → byteFits a ≡ true → inRange b ≡ true → inRange (busNext a b) ≡ true

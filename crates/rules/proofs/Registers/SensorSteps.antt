@@ -21,11 +21,12 @@ use Rattle.rules.specs.declared.Slot.{Slot}
 use Rattle.rules.specs.Control.{acksControl, heardOf, obeyed}
 use Rattle.rules.specs.Fields.{withSensor, pointing, withWord, withConfiguration, withHigh, withLow, withCritical, withResolution, withTimeout}
 use Rattle.rules.specs.Fresh.{freshSensor, freshSlot, powered}
-use Rattle.rules.specs.Memory.{cleared, settled, guarded, anyMark}
+use Rattle.rules.specs.Memory.{guarded, anyMark}
 use Rattle.rules.specs.Open.{open-fields, open-memory, open-control, open-slot}
 use Rattle.rules.specs.Sensor.{limitBits, resolutionBits, timeoutBits, criticalLocked, limitsLocked, configured, written, converted}
 use Rattle.rules.specs.Exchanges.{slotAfter}
-use Rattle.rules.specs.Slot.{standing, commanding, holds, byteIn, readIn, stopIn, slotNext, letGo, switched}
+use Rattle.rules.specs.Slot.{standing, commanding, letGo, lost, byteIn, readIn, stopIn, presentNext, slotNext, switched}
+use Rattle.rules.proofs.Run.Cases.{next-cases, let-go-cases}
 
 -- a write replaces one register, no locked one, or changes nothing
 pub written-cases : (P : Sensor → Type 0) (x : Sensor) (p v : ℕ)
@@ -78,17 +79,10 @@ module _ (R : Sensor → Sensor → Type 0) (every : Respected R) where
   still : (s : Slot) → Goes s s
   still s = every .same (s .sensor)
 
-  -- the word of an exchange is let go
-  wordless : (s : Slot) → R (s .sensor) (withWord 0x0000 (s .sensor))
-  wordless s = every .worded 0x0000 (s .sensor)
-
-  settled-goes : (s : Slot) → Goes s (settled s)
+  -- what an exchange lets go of the sensor is the word it held
+  gone : (p : Phase) (s : Slot) → Goes s (letGo p s)
   unfolding open-fields open-memory
-  settled-goes s = cond-cases (λ (t : Slot). Goes s (cleared t)) (eqb (s .left) 0) (λ e. wordless s) (λ e. wordless s)
-
-  letGo-goes : (s : Slot) → Goes s (letGo s)
-  unfolding letGo
-  letGo-goes s = cond-cases (Goes s) (holds (standing s)) (λ e. settled-goes s) (λ e. still s)
+  gone p s = let-go-cases (Goes s) p s (every .worded 0x0000 (s .sensor)) (still s) (still s) (still s)
 
   obeyed-goes : (h : Heard) (s : Slot) → Goes s (obeyed h s)
   unfolding open-fields obeyed
@@ -109,40 +103,40 @@ module _ (R : Sensor → Sensor → Type 0) (every : Respected R) where
   byte-goes Control n b s = cond-cases (Goes s) (acksControl n b s) (λ e. obeyed-goes (heardOf b) s) (λ e. still s)
   byte-goes Deaf n b s = still s
   byte-goes MemoryCounter n b s = still s
-  byte-goes MemoryData n b s = cond-cases (Goes s) (guarded s) (λ e. settled-goes s) (λ e. still s)
-  byte-goes MemoryRead n b s = settled-goes s
+  byte-goes MemoryData n b s = cond-cases (Goes s) (guarded s) (λ e. still s) (λ e. still s)
+  byte-goes MemoryRead n b s = gone MemoryRead s
   byte-goes HalfSelected n b s = still s
   byte-goes CommandAddress n b s = still s
   byte-goes CommandData n b s = still s
-  byte-goes CommandStop n b s = settled-goes s
+  byte-goes CommandStop n b s = gone CommandStop s
   byte-goes SensorPointer n b s =
-      cond-cases (Goes s) (leb b 0x09) (λ e. every .pointed b (s .sensor) e) (λ e. settled-goes s)
+      cond-cases (Goes s) (leb b 0x09) (λ e. every .pointed b (s .sensor) e) (λ e. gone SensorPointer s)
   byte-goes SensorHigh n b s = every .worded (b * 256) (s .sensor)
   byte-goes SensorLow n b s =
       let p = s .sensor .pointer in
       let v = s .sensor .word / 256 * 256 + b in
       let x = written (s .sensor) p v in
-      every .joined (s .sensor) x _ (every .writes (s .sensor) p v) (settled-goes (withSensor x s))
-  byte-goes SensorReadHigh n b s = settled-goes s
-  byte-goes SensorReadLow n b s = settled-goes s
+      every .joined (s .sensor) x _ (every .writes (s .sensor) p v) (gone SensorLow (withSensor x s))
+  byte-goes SensorReadHigh n b s = gone SensorReadHigh s
+  byte-goes SensorReadLow n b s = gone SensorReadLow s
 
   read-goes : (p : Phase) (more : Bool) (s : Slot) → Goes s (readIn p more s)
   unfolding open-fields open-memory open-slot
   read-goes Idle more s = still s
   read-goes Control more s = still s
   read-goes Deaf more s = still s
-  read-goes MemoryCounter more s = settled-goes s
-  read-goes MemoryData more s = settled-goes s
+  read-goes MemoryCounter more s = gone MemoryCounter s
+  read-goes MemoryData more s = gone MemoryData s
   read-goes MemoryRead more s = still s
-  read-goes HalfSelected more s = settled-goes s
-  read-goes CommandAddress more s = settled-goes s
-  read-goes CommandData more s = settled-goes s
-  read-goes CommandStop more s = settled-goes s
-  read-goes SensorPointer more s = settled-goes s
-  read-goes SensorHigh more s = settled-goes s
-  read-goes SensorLow more s = settled-goes s
-  read-goes SensorReadHigh more s = cond-cases (Goes s) more (λ e. still s) (λ e. settled-goes s)
-  read-goes SensorReadLow more s = settled-goes s
+  read-goes HalfSelected more s = gone HalfSelected s
+  read-goes CommandAddress more s = gone CommandAddress s
+  read-goes CommandData more s = gone CommandData s
+  read-goes CommandStop more s = gone CommandStop s
+  read-goes SensorPointer more s = gone SensorPointer s
+  read-goes SensorHigh more s = gone SensorHigh s
+  read-goes SensorLow more s = gone SensorLow s
+  read-goes SensorReadHigh more s = cond-cases (Goes s) more (λ e. still s) (λ e. gone SensorReadHigh s)
+  read-goes SensorReadLow more s = gone SensorReadLow s
 
   stop-goes : (p : Phase) (s : Slot) → Goes s (stopIn p s)
   unfolding open-fields open-memory open-slot
@@ -150,34 +144,37 @@ module _ (R : Sensor → Sensor → Type 0) (every : Respected R) where
   stop-goes Control s = still s
   stop-goes Deaf s = still s
   stop-goes MemoryCounter s = still s
-  stop-goes MemoryData s = cond-cases (Goes s) (anyMark (s .marks)) (λ e. wordless s) (λ e. settled-goes s)
+  stop-goes MemoryData s = cond-cases (Goes s) (anyMark (s .marks)) (λ e. still s) (λ e. still s)
   stop-goes MemoryRead s = still s
   stop-goes HalfSelected s = still s
-  stop-goes CommandAddress s = settled-goes s
-  stop-goes CommandData s = settled-goes s
-  stop-goes CommandStop s = wordless s
-  stop-goes SensorPointer s = still s
-  stop-goes SensorHigh s = still s
-  stop-goes SensorLow s = settled-goes s
-  stop-goes SensorReadHigh s = settled-goes s
-  stop-goes SensorReadLow s = settled-goes s
+  stop-goes CommandAddress s = gone CommandAddress s
+  stop-goes CommandData s = gone CommandData s
+  stop-goes CommandStop s = still s
+  stop-goes SensorPointer s = gone SensorPointer s
+  stop-goes SensorHigh s = gone SensorHigh s
+  stop-goes SensorLow s = gone SensorLow s
+  stop-goes SensorReadHigh s = gone SensorReadHigh s
+  stop-goes SensorReadLow s = gone SensorReadLow s
+
+  present-goes : (n : ℕ) (a : Act) (s : Slot) → (isPower a ≡ true → R (s .sensor) freshSensor) → Goes s (presentNext n a s)
+  unfolding isPower presentNext switched powered freshSlot lost open-fields open-memory
+  present-goes n Start s fresh = gone (standing s) s
+  present-goes n (Byte b) s fresh = byte-goes (standing s) n b s
+  present-goes n (Read more) s fresh = read-goes (standing s) more s
+  present-goes n Stop s fresh = stop-goes (standing s) s
+  present-goes n Timeout s fresh = gone (standing s) s
+  present-goes n Tick s fresh = cond-cases (Goes s) (eqb (s .left) 1) (λ e. still s) (λ e. still s)
+  present-goes n (Voltage k on) s fresh =
+      cond-cases (Goes s) (eqb (k .0) n)
+      (λ e. cond-cases (Goes s) (commanding (standing s) && s .voltage && not on) (λ e. gone (standing s) s) (λ e. still s))
+      (λ e. still s)
+  present-goes n Power s fresh = fresh refl
+  present-goes n (Temperature k t) s fresh =
+      cond-cases (Goes s) (eqb (k .0) n) (λ e. every .converts (s .sensor) t) (λ e. still s)
 
   -- power puts the sensor at its defaults: what that must respect is asked of the caller
   pub step-respects : (n : ℕ) (a : Act) (s : Slot) → (isPower a ≡ true → R (s .sensor) freshSensor) → R (s .sensor) ((slotNext n a s) .sensor)
-  unfolding isPower slotNext switched powered freshSlot open-fields open-memory
-  step-respects n Start s fresh = letGo-goes s
-  step-respects n (Byte b) s fresh = byte-goes (standing s) n b s
-  step-respects n (Read more) s fresh = read-goes (standing s) more s
-  step-respects n Stop s fresh = stop-goes (standing s) s
-  step-respects n Timeout s fresh = letGo-goes s
-  step-respects n Tick s fresh = cond-cases (Goes s) (eqb (s .left) 1) (λ e. still s) (λ e. still s)
-  step-respects n (Voltage k on) s fresh =
-      cond-cases (Goes s) (eqb (k .0) n)
-      (λ e. cond-cases (Goes s) (commanding (standing s) && not on) (λ e. settled-goes s) (λ e. still s))
-      (λ e. still s)
-  step-respects n Power s fresh = fresh refl
-  step-respects n (Temperature k t) s fresh =
-      cond-cases (Goes s) (eqb (k .0) n) (λ e. every .converts (s .sensor) t) (λ e. still s)
+  step-respects n a s fresh = next-cases (Goes s) n a s (λ e. still s) (λ e. present-goes n a s fresh)
 
   pub step-without-power : (n : ℕ) (a : Act) (s : Slot) → isPower a ≡ false → R (s .sensor) ((slotNext n a s) .sensor)
   step-without-power n a s h = step-respects n a s (λ e. absurd (false≢true (sym h ∙ e)))

@@ -1,0 +1,41 @@
+-- Case analysis on the law's own choices: an absent slot and a present one, what an exchange lets go, the phase that a slot stands in.
+-- Assumes nothing.
+use Prim.Native.Nat.{ℕ}
+use mathlib.Core.Path.{_≡_, refl}
+use mathlib.Core.Bool.{Bool, true, false, not, _&&_, _||_}
+use Rattle.lists.specs.Tests.{cond-cases}
+use Rattle.rules.specs.declared.Act.{Act}
+use Rattle.rules.specs.declared.Phase.{Phase}
+use Rattle.rules.specs.declared.Phase.the-variants.{Deaf}
+use Rattle.rules.specs.declared.Slot.{Slot}
+use Rattle.rules.specs.Modelled.{absent, sensing}
+use Rattle.rules.specs.Fields.{inPhase, holding}
+use Rattle.rules.specs.Memory.{abandoned, cancelled}
+use Rattle.rules.specs.Slot.{withSensorIn, commanding, taking, standing, letGo, lost, presentNext, slotNext}
+
+-- an absent slot stays as it is
+pub next-cases : (P : Slot → Type 0) (n : ℕ) (a : Act) (s : Slot) → (absent s ≡ true → P s) → (absent s ≡ false → P (presentNext n a s)) → P (slotNext n a s)
+unfolding slotNext
+next-cases P n a s still moves = cond-cases P (absent s) still moves
+
+pub absent-next : (n : ℕ) (a : Act) (s : Slot) → absent s ≡ true → slotNext n a s ≡ s
+unfolding slotNext
+absent-next n a s e = rw e
+
+pub present-next : (n : ℕ) (a : Act) (s : Slot) → absent s ≡ false → slotNext n a s ≡ presentNext n a s
+unfolding slotNext
+present-next n a s e = rw e
+
+-- what is let go is a register's bytes, a command, latched bytes, or nothing
+module _ (P : Slot → Type 0) (p : Phase) (s : Slot) where
+  pub let-go-cases : P (holding 0x0000 s) → P (cancelled s) → P (abandoned s) → P s → P (letGo p s)
+  unfolding letGo
+  let-go-cases word command bytes none =
+      cond-cases P (withSensorIn p) (λ e. word) λ e.
+      cond-cases P (commanding p) (λ e. command) λ e.
+      cond-cases P (taking p) (λ e. bytes) (λ e. none)
+
+-- a slot stands in its own phase, or counts as deaf
+pub stands : (P : Phase → Type 0) (s : Slot) → P Deaf → P (s .phase) → P (standing s)
+unfolding standing
+stands P s d p = cond-cases P (absent s || (withSensorIn (s .phase) && not (sensing s))) (λ e. d) (λ e. p)
