@@ -29,6 +29,13 @@ pub cond-same {ℓ} : {A : Type ℓ} (b : Bool) (x : A) → cond b x x ≡ x
 cond-same true x = refl
 cond-same false x = refl
 
+-- of two tests that keep a value, either may come first
+pub cond-swap {ℓ} : {A : Type ℓ} (a b : Bool) (x y : A) → cond a x (cond b y x) ≡ cond b (cond a x y) x
+cond-swap true true x y = refl
+cond-swap true false x y = refl
+cond-swap false true x y = refl
+cond-swap false false x y = refl
+
 pub and-left : (a b : Bool) → a && b ≡ true → a ≡ true
 and-left true b e = refl
 and-left false b e = e

@@ -10,7 +10,9 @@ use lib.ListN.{getD, set}
 use borrow.Author.Tests.{eq-eqb, ne-eqb}
 use Rattle.rules.specs.declared.Address.{Address}
 use Rattle.rules.specs.declared.Slot.{Slot}
-use Rattle.rules.specs.Modelled.{addressOf, pageOf}
+use Rattle.rules.specs.declared.Act.the-variants.{Tick}
+use Rattle.rules.specs.Modelled.{absent, addressOf, pageOf}
+use Rattle.rules.specs.Slot.{presentNext, slotNext}
 use Rattle.rules.specs.Fields.{withLeft}
 use Rattle.rules.specs.Memory.{ended, ticked, putUpTo, stored, tickedPart}
 
@@ -24,24 +26,30 @@ pub put-step : (latch : List ℕ) (marks : List Bool) (at k : ℕ) (m : List ℕ
 unfolding putUpTo
 put-step latch marks at k m = rw add-one
 
--- a tick, by the ticks left
-pub ticked-ends : (r s : Slot) → s .left ≡ 1 → r ≡ ended s → r ≡ ticked s
-unfolding ticked
-ticked-ends r s e g = rw (eq-eqb _ _ e) g
+-- a tick: the slot after it, and its bytes
+abbrev pub AfterTick : Slot → List ℕ → Slot → List ℕ → Type 0
+AfterTick s m r q = (r ≡ slotNext 0 Tick s) × (q ≡ tickedPart s m)
 
-pub ticked-waits : (r s : Slot) → (s .left ≡ 1 → ⊥) → r ≡ withLeft (s .left - 1) s → r ≡ ticked s
-unfolding ticked
-ticked-waits r s e g = rw (ne-eqb _ _ e) g
+module _ (s r : Slot) (m q : List ℕ) where
+  -- no slot, so nothing is touched
+  pub tick-absent : s .kind ≡ 0 → r ≡ s → q ≡ m → AfterTick s m r q
+  unfolding slotNext tickedPart absent
+  tick-absent k e f = (rw (eq-eqb _ _ k) e, rw (eq-eqb _ _ k) f)
 
-pub ticked-rests : (r s : Slot) → s .left ≡ 0 → r ≡ s → r ≡ ticked s
-unfolding withLeft
-ticked-rests r s e g = ticked-waits r s (omega arith) (g ∙ ap (λ (n : ℕ). withLeft n s) (omega arith))
+  -- the cycle ends
+  pub tick-ends : (a : Address) (at : ℕ) → (s .kind ≡ 0 → ⊥) → s .left ≡ 1 → a ≡ addressOf s → at ≡ a .0 / 16 * 16
+      → r ≡ ended s → q ≡ putUpTo (s .latch) (s .marks) at 16 m → AfterTick s m r q
+  unfolding slotNext presentNext ticked tickedPart stored pageOf absent
+  tick-ends a at k l e f g h =
+      (rw (ne-eqb _ _ k, eq-eqb _ _ l) g,
+      rw (ne-eqb _ _ k, eq-eqb _ _ l) (h ∙ ap (λ (n : ℕ). putUpTo (s .latch) (s .marks) n 16 m) (f ∙ ap (λ (x : Address). x .0 / 16 * 16) e)))
 
-pub part-ends : (s : Slot) (r m : List ℕ) (a : Address) (at : ℕ) → s .left ≡ 1 → a ≡ addressOf s → at ≡ a .0 / 16 * 16 → r ≡ putUpTo (s .latch) (s .marks) at 16 m → r ≡ tickedPart s m
-unfolding tickedPart stored pageOf
-part-ends s r m a at e f g h =
-    rw (eq-eqb _ _ e) (h ∙ ap (λ (n : ℕ). putUpTo (s .latch) (s .marks) n 16 m) (g ∙ ap (λ (x : Address). x .0 / 16 * 16) f))
+  -- it goes on
+  pub tick-waits : (s .kind ≡ 0 → ⊥) → (s .left ≡ 1 → ⊥) → r ≡ withLeft (s .left - 1) s → q ≡ m → AfterTick s m r q
+  unfolding slotNext presentNext ticked tickedPart absent
+  tick-waits k l e f = (rw (ne-eqb _ _ k, ne-eqb _ _ l) e, rw (ne-eqb _ _ k, ne-eqb _ _ l) f)
 
-pub part-waits : (s : Slot) (r m : List ℕ) → (s .left ≡ 1 → ⊥) → r ≡ m → r ≡ tickedPart s m
-unfolding tickedPart
-part-waits s r m e g = rw (ne-eqb _ _ e) g
+  -- there is none
+  pub tick-rests : (s .kind ≡ 0 → ⊥) → s .left ≡ 0 → r ≡ s → q ≡ m → AfterTick s m r q
+  unfolding withLeft
+  tick-rests k l e f = tick-waits k (omega arith) (e ∙ ap (λ (n : ℕ). withLeft n s) (omega arith)) f

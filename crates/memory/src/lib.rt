@@ -5,12 +5,13 @@ ghost use Prim.Native.Nat.{_+_, _≤_};
 ghost use lib.ListN.{length, getD, set};
 ghost use Rattle.rules.specs.Modelled.{addressOf, slotBytes};
 ghost use Rattle.rules.specs.Control.{protects};
-ghost use Rattle.rules.specs.Memory.{loaded, guarded, latching, fetched, anyMark, dataStop, changing, ticked, putUpTo, tickedPart};
+ghost use Rattle.rules.specs.Memory.{loaded, guarded, latching, fetched, anyMark, begun, dataStop, putUpTo, tickedPart};
+ghost use Rattle.rules.specs.Slot.{slotNext};
 ghost use Rattle.rules.specs.Refusals.{slotInRange};
+use rules::Act;
 use rules::Address;
 use rules::BlockNo;
 use rules::Phase;
-use rules::Sensor;
 use rules::Slot;
 
 // The address that the counter points to in the selected half.
@@ -68,28 +69,26 @@ pub fn loaded(b: u8, s: Slot) -> Slot
     Slot {
         counter: b,
         phase: Phase::MemoryData,
-        latch: [0u8; 16],
-        marks: [false; 16],
         place: b % 16,
         ..s
     }
 }
 
-// A data byte goes into the latch at the place for it, and counter and place go on, wrapping in their page.
+// A data byte goes into the latch at the counter's offset; the counter goes on, wrapping in its page, and the place with it.
 pub fn latching(b: u8, s: Slot) -> Slot
-    requires { ⌜ slotInRange s ≡ true ⌝ }
     ensures { λ r. ⌜ r ≡ latching b s ⌝ }
 {
-    let at = s.place as usize;
+    let at = (s.counter % 16) as usize;
     let mut latch = s.latch;
     let mut marks = s.marks;
     latch[at] = b;
     marks[at] = true;
+    let counter = s.counter / 16 * 16 + (s.counter % 16 + 1) % 16;
     Slot {
-        counter: s.counter / 16 * 16 + (s.counter % 16 + 1) % 16,
+        counter,
         latch,
         marks,
-        place: (s.place + 1) % 16,
+        place: counter % 16,
         ..s
     }
 }
@@ -134,40 +133,26 @@ fn any_mark(marks: [bool; 16]) -> bool
     any
 }
 
+// A stop that begins the write cycle, at its full length.
+pub fn begun(s: Slot) -> Slot
+    ensures { λ r. ⌜ r ≡ begun s ⌝ }
+{
+    Slot {
+        left: s.length,
+        place: 0,
+        ..s
+    }
+}
+
 // A stop after data bytes: the write cycle begins if at least one is latched.
 pub fn data_stop(s: Slot) -> Slot
     ensures { λ r. ⌜ r ≡ dataStop s ⌝ }
 {
     let marks = s.marks;
     if any_mark(marks) {
-        let x = s.sensor;
-        let sensor = Sensor { word: 0, ..x };
-        let coming = s.protection;
-        return Slot {
-            left: s.length,
-            coming,
-            place: 0,
-            sensor,
-            ..s
-        };
+        return begun(s);
     }
-    phase::settled(s)
-}
-
-// A stop after a protect or clear with both its bytes: the write cycle begins.
-pub fn changing(s: Slot) -> Slot
-    ensures { λ r. ⌜ r ≡ changing s ⌝ }
-{
-    let x = s.sensor;
-    let sensor = Sensor { word: 0, ..x };
-    Slot {
-        left: s.length,
-        latch: [0u8; 16],
-        marks: [false; 16],
-        place: 0,
-        sensor,
-        ..s
-    }
+    phase::abandoned(s)
 }
 
 // The marked bytes of the latch go to their page, which begins at `at`.
@@ -182,11 +167,14 @@ fn put(part: &mut [u8], at: usize, latch: [u8; 16], marks: [bool; 16])
     }
 }
 
-// A tick; part is the slot's own 512 bytes, which change where a write cycle ends.
+// A tick; part is the slot's own 512 bytes, which change where a write cycle ends. An absent slot is left alone.
 pub fn tick(s: Slot, part: &mut [u8]) -> Slot
     requires { ⌜ (slotInRange s ≡ true) × (length (now part) ≡ slotBytes) ⌝ }
-    ensures { λ r. ⌜ (r ≡ ticked s) × (now (part .exit) ≡ tickedPart s (now (part .entry))) ⌝ }
+    ensures { λ r. ⌜ (r ≡ slotNext 0 Act.Tick s) × (now (part .exit) ≡ tickedPart s (now (part .entry))) ⌝ }
 {
+    if s.kind == 0 {
+        return s;
+    }
     let left = s.left;
     if left == 1 {
         let a = address_of(s);

@@ -3,13 +3,13 @@
 use mathlib.Core.Path.{_≡_, sym, ap}
 use mathlib.Core.Bool.{Bool, true, false, not, cond, _&&_, _||_}
 use lib.Dec.{eqb}
-use borrow.Author.Tests.{eq-eqb, ne-eqb}
 use Rattle.rules.specs.declared.Phase.{Phase}
 use Rattle.rules.specs.declared.Phase.the-variants.{Deaf}
 use Rattle.rules.specs.declared.Slot.{Slot}
 use Rattle.rules.specs.declared.Traits.{Traits}
 use Rattle.rules.specs.Modelled.{absent, sensing}
-use Rattle.rules.specs.Memory.{emptied, steady, cleared, settled}
+use Rattle.rules.specs.Fields.{holding}
+use Rattle.rules.specs.Memory.{abandoned, cancelled}
 use Rattle.rules.specs.Slot.{traits, standing, letGo}
 
 pub standing-by : (r : Phase) (s : Slot) (q : Traits) (t : Bool) → q ≡ traits (s .phase) → (eqb (s .kind) 0 || (q .sensor && not (eqb (s .kind) 2))) ≡ t
@@ -17,18 +17,20 @@ pub standing-by : (r : Phase) (s : Slot) (q : Traits) (t : Bool) → q ≡ trait
 unfolding standing absent sensing
 standing-by r s q t e f g = rw (sym (ap (λ (x : Traits). x .sensor) e), f) g
 
-pub settled-free : (r s : Slot) → s .left ≡ 0 → r ≡ cleared (emptied (steady s)) → r ≡ settled s
-unfolding settled
-settled-free r s e g = rw (eq-eqb _ _ e) g
+-- what is let go, by the phase's traits
+module _ (r s : Slot) (p : Phase) (t : Traits) (known : t ≡ traits p) where
+  pub lets-word : t .sensor ≡ true → r ≡ holding 0x0000 s → r ≡ letGo p s
+  unfolding letGo
+  lets-word e g = rw (sym (ap (λ (x : Traits). x .sensor) known), e) g
 
-pub settled-busy : (r s : Slot) → (s .left ≡ 0 → ⊥) → r ≡ cleared s → r ≡ settled s
-unfolding settled
-settled-busy r s e g = rw (ne-eqb _ _ e) g
+  pub lets-command : t .sensor ≡ false → t .command ≡ true → r ≡ cancelled s → r ≡ letGo p s
+  unfolding letGo
+  lets-command e f g = rw (sym (ap (λ (x : Traits). x .sensor) known), e, sym (ap (λ (x : Traits). x .command) known), f) g
 
-pub let-go-held : (r s : Slot) (q : Phase) (t : Traits) → q ≡ standing s → t ≡ traits q → t .holds ≡ true → r ≡ settled s → r ≡ letGo s
-unfolding letGo
-let-go-held r s q t e f g h = rw (← e, sym (ap (λ (x : Traits). x .holds) f), g) h
+  pub lets-bytes : t .sensor ≡ false → t .command ≡ false → t .takes ≡ true → r ≡ abandoned s → r ≡ letGo p s
+  unfolding letGo
+  lets-bytes e f h g = rw (sym (ap (λ (x : Traits). x .sensor) known), e, sym (ap (λ (x : Traits). x .command) known), f, sym (ap (λ (x : Traits). x .takes) known), h) g
 
-pub let-go-free : (r s : Slot) (q : Phase) (t : Traits) → q ≡ standing s → t ≡ traits q → t .holds ≡ false → r ≡ s → r ≡ letGo s
-unfolding letGo
-let-go-free r s q t e f g h = rw (← e, sym (ap (λ (x : Traits). x .holds) f), g) h
+  pub lets-nothing : t .sensor ≡ false → t .command ≡ false → t .takes ≡ false → r ≡ s → r ≡ letGo p s
+  unfolding letGo
+  lets-nothing e f h g = rw (sym (ap (λ (x : Traits). x .sensor) known), e, sym (ap (λ (x : Traits). x .command) known), f, sym (ap (λ (x : Traits). x .takes) known), h) g

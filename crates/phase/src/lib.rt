@@ -1,8 +1,8 @@
 // Where a slot stands in an exchange, and what is left of the exchange when it is left.
 ghost use mathlib.Core.Path.{_≡_};
 ghost use Rattle.rules.specs.Fields.{inPhase};
-ghost use Rattle.rules.specs.Memory.{settled, lost};
-ghost use Rattle.rules.specs.Slot.{being, traits, standing, letGo};
+ghost use Rattle.rules.specs.Memory.{abandoned, cancelled};
+ghost use Rattle.rules.specs.Slot.{being, traits, standing, letGo, lost};
 use rules::Phase;
 use rules::Sensor;
 use rules::Slot;
@@ -15,19 +15,19 @@ pub fn in_phase(phase: Phase, s: Slot) -> Slot
     Slot { phase, ..s }
 }
 
-fn being(sensor: bool, command: bool, holds: bool, drives: bool) -> Traits
-    ensures { λ r. ⌜ r ≡ being sensor command holds drives ⌝ }
+fn being(sensor: bool, command: bool, takes: bool, drives: bool) -> Traits
+    ensures { λ r. ⌜ r ≡ being sensor command takes drives ⌝ }
 {
     Traits {
         sensor,
         command,
-        holds,
+        takes,
         drives,
     }
 }
 
-// What a phase is: of an exchange with the sensor, of a protect or clear before its stop, one that holds something of the slot, one
-// that serves reads.
+// What a phase is: of an exchange with the sensor, of a protect or clear before its stop, one that takes data bytes, one that serves
+// reads.
 pub fn traits(p: Phase) -> Traits
     ensures { λ r. ⌜ r ≡ traits p ⌝ }
 {
@@ -39,14 +39,14 @@ pub fn traits(p: Phase) -> Traits
         Phase::MemoryData => being(false, false, true, false),
         Phase::MemoryRead => being(false, false, false, true),
         Phase::HalfSelected => being(false, false, false, false),
-        Phase::CommandAddress => being(false, true, true, false),
-        Phase::CommandData => being(false, true, true, false),
-        Phase::CommandStop => being(false, true, true, false),
+        Phase::CommandAddress => being(false, true, false, false),
+        Phase::CommandData => being(false, true, false, false),
+        Phase::CommandStop => being(false, true, false, false),
         Phase::SensorPointer => being(true, false, false, false),
         Phase::SensorHigh => being(true, false, false, false),
-        Phase::SensorLow => being(true, false, true, false),
-        Phase::SensorReadHigh => being(true, false, true, true),
-        Phase::SensorReadLow => being(true, false, true, true),
+        Phase::SensorLow => being(true, false, false, false),
+        Phase::SensorReadHigh => being(true, false, false, true),
+        Phase::SensorReadLow => being(true, false, false, true),
     }
 }
 
@@ -62,44 +62,48 @@ pub fn standing(s: Slot) -> Phase
     phase
 }
 
-// What an exchange held is let go, save what belongs to a write cycle that runs.
-pub fn settled(s: Slot) -> Slot
-    ensures { λ r. ⌜ r ≡ settled s ⌝ }
+// The latched bytes are abandoned; the counter stays where it stands.
+pub fn abandoned(s: Slot) -> Slot
+    ensures { λ r. ⌜ r ≡ abandoned s ⌝ }
 {
-    let x = s.sensor;
-    let sensor = Sensor { word: 0, ..x };
-    if s.left == 0 {
-        let coming = s.protection;
-        return Slot {
-            coming,
-            latch: [0u8; 16],
-            marks: [false; 16],
-            place: 0,
-            sensor,
-            ..s
-        };
-    }
     Slot {
+        latch: [0u8; 16],
+        marks: [false; 16],
         place: 0,
-        sensor,
         ..s
     }
 }
 
-// An exchange that leaves the slot deaf.
-pub fn lost(s: Slot) -> Slot
-    ensures { λ r. ⌜ r ≡ lost s ⌝ }
+// A protect or clear is cancelled: the protection to come is the one that stands.
+pub fn cancelled(s: Slot) -> Slot
+    ensures { λ r. ⌜ r ≡ cancelled s ⌝ }
 {
-    in_phase(Phase::Deaf, settled(s))
+    let coming = s.protection;
+    Slot { coming, ..s }
 }
 
-// What the exchange held is let go, if it held anything.
-pub fn let_go(s: Slot) -> Slot
-    ensures { λ r. ⌜ r ≡ letGo s ⌝ }
+// The slot without what an exchange that is left in this phase held of it.
+pub fn let_go(p: Phase, s: Slot) -> Slot
+    ensures { λ r. ⌜ r ≡ letGo p s ⌝ }
 {
-    let t = traits(standing(s));
-    if t.holds {
-        return settled(s);
+    let t = traits(p);
+    if t.sensor {
+        let x = s.sensor;
+        let sensor = Sensor { word: 0, ..x };
+        return Slot { sensor, ..s };
+    }
+    if t.command {
+        return cancelled(s);
+    }
+    if t.takes {
+        return abandoned(s);
     }
     s
+}
+
+// An exchange that is left in this phase, so that the slot is deaf.
+pub fn lost(p: Phase, s: Slot) -> Slot
+    ensures { λ r. ⌜ r ≡ lost p s ⌝ }
+{
+    in_phase(Phase::Deaf, let_go(p, s))
 }

@@ -6,17 +6,17 @@ use mathlib.Core.List.{List}
 use Rattle.rules.specs.declared.Act.{Act}
 use Rattle.rules.specs.declared.Act.the-variants as act
 use Rattle.rules.specs.declared.Slot.{Slot}
-use Rattle.rules.specs.Slot.{standing, byteIn, acksIn, readIn, drivesIn, drivenIn, slotNext}
+use Rattle.rules.specs.Slot.{slotNext, acks, drives, driven}
 use Rattle.slot.specs.declared.Heed.{Heed}
 use Rattle.slot.specs.declared.Drive.{Drive}
 use Rattle.slot.specs.declared.Signal.{Signal}
 use Rattle.slot.specs.declared.Signal.the-variants as signal
 
 unfoldable pub heeded : ℕ → ℕ → Slot → Heed
-heeded n b s = record { slot = byteIn (standing s) n b s; ack = acksIn (standing s) n b s }
+heeded n b s = record { slot = slotNext n (act.Byte b) s; ack = acks n b s }
 
 unfoldable pub readOut : Bool → List ℕ → Slot → Drive
-readOut more m s = record { slot = readIn (standing s) more s; drives = drivesIn (standing s); byte = drivenIn (standing s) s m }
+readOut more m s = record { slot = slotNext 0 (act.Read more) s; drives = drives s; byte = driven m s }
 
 -- the act of a signal, and the slot's step at it, which does not go by its number
 unfoldable pub actFor : Signal → Act

@@ -10,8 +10,9 @@ ghost use Rattle.rules.specs.Fields.{inPhase, expecting, withSensor, holding};
 ghost use Rattle.rules.specs.Fresh.{powered};
 ghost use Rattle.rules.specs.Sensor.{registerOf, converted};
 ghost use Rattle.rules.specs.Control.{heardOf, acksHeard, obeyed};
-ghost use Rattle.rules.specs.Memory.{lost, guarded, dataByte, fetched};
-ghost use Rattle.rules.specs.Slot.{standing, letGo, pointer, firstByte, secondByte, readIn, stopIn, switched};
+ghost use Rattle.rules.specs.Modelled.{absent};
+ghost use Rattle.rules.specs.Memory.{guarded, dataByte, fetched};
+ghost use Rattle.rules.specs.Slot.{standing, letGo, lost, pointer, firstByte, secondByte, readIn, stopIn, switched, slotNext};
 ghost use Rattle.rules.specs.Refusals.{slotInRange, lengthInRange};
 ghost use Rattle.slot.specs.Shown.{heeded, readOut, signalled};
 use rules::BlockNo;
@@ -139,7 +140,7 @@ fn data_byte(b: u8, s: Slot) -> Heed
     ensures { λ r. ⌜ r ≡ record { slot = dataByte b s; ack = not (guarded s) } ⌝ }
 {
     if memory::guarded(s) {
-        return nack(phase::lost(s));
+        return nack(phase::in_phase(Phase::Deaf, phase::abandoned(s)));
     }
     ack(memory::latching(b, s))
 }
@@ -157,7 +158,7 @@ fn pointed(b: u8, s: Slot) -> Heed
             ..s
         });
     }
-    nack(phase::lost(s))
+    nack(phase::lost(Phase::SensorPointer, s))
 }
 
 // A sensor write's first byte is held.
@@ -182,7 +183,7 @@ fn second_byte(b: u8, s: Slot) -> Slot
 {
     let x = s.sensor;
     let sensor = sensor::written(x, x.pointer, x.word / 256 * 256 + (b as u16));
-    phase::lost(Slot { sensor, ..s })
+    phase::lost(Phase::SensorLow, Slot { sensor, ..s })
 }
 
 // A byte from the master at slot n; h is what it asks for as a control byte.
@@ -197,16 +198,16 @@ pub fn byte(s: Slot, n: SlotNo, b: u8, h: Heard) -> Heed
         Phase::Deaf => nack(s),
         Phase::MemoryCounter => ack(memory::loaded(b, s)),
         Phase::MemoryData => data_byte(b, s),
-        Phase::MemoryRead => nack(phase::lost(s)),
+        Phase::MemoryRead => nack(phase::lost(Phase::MemoryRead, s)),
         Phase::HalfSelected => ack(s),
         Phase::CommandAddress => ack(phase::in_phase(Phase::CommandData, s)),
         Phase::CommandData => ack(phase::in_phase(Phase::CommandStop, s)),
-        Phase::CommandStop => nack(phase::lost(s)),
+        Phase::CommandStop => nack(phase::lost(Phase::CommandStop, s)),
         Phase::SensorPointer => pointed(b, s),
         Phase::SensorHigh => ack(first_byte(b, s)),
         Phase::SensorLow => ack(second_byte(b, s)),
-        Phase::SensorReadHigh => nack(phase::lost(s)),
-        Phase::SensorReadLow => nack(phase::lost(s)),
+        Phase::SensorReadHigh => nack(phase::lost(Phase::SensorReadHigh, s)),
+        Phase::SensorReadLow => nack(phase::lost(Phase::SensorReadLow, s)),
     }
 }
 
@@ -247,7 +248,7 @@ fn high_byte(s: Slot, more: bool) -> Drive
             byte,
         };
     }
-    let slot = phase::lost(s);
+    let slot = phase::lost(Phase::SensorReadHigh, s);
     Drive {
         slot,
         drives: true,
@@ -257,10 +258,10 @@ fn high_byte(s: Slot, more: bool) -> Drive
 
 // A sensor read's low byte; nothing more is driven.
 fn low_byte(s: Slot) -> Drive
-    ensures { λ r. ⌜ r ≡ record { slot = lost s; drives = true; byte = s .sensor .word % 256 } ⌝ }
+    ensures { λ r. ⌜ r ≡ record { slot = lost Phase.SensorReadLow s; drives = true; byte = s .sensor .word % 256 } ⌝ }
 {
     let byte = (s.sensor.word % 256) as u8;
-    let slot = phase::lost(s);
+    let slot = phase::lost(Phase::SensorReadLow, s);
     Drive {
         slot,
         drives: true,
@@ -278,16 +279,16 @@ pub fn read(s: Slot, part: &[u8], more: bool) -> Drive
         Phase::Idle => silent(s),
         Phase::Control => silent(phase::in_phase(Phase::Deaf, s)),
         Phase::Deaf => silent(s),
-        Phase::MemoryCounter => silent(phase::lost(s)),
-        Phase::MemoryData => silent(phase::lost(s)),
+        Phase::MemoryCounter => silent(phase::lost(Phase::MemoryCounter, s)),
+        Phase::MemoryData => silent(phase::lost(Phase::MemoryData, s)),
         Phase::MemoryRead => memory_byte(s, part, more),
-        Phase::HalfSelected => silent(phase::lost(s)),
-        Phase::CommandAddress => silent(phase::lost(s)),
-        Phase::CommandData => silent(phase::lost(s)),
-        Phase::CommandStop => silent(phase::lost(s)),
-        Phase::SensorPointer => silent(phase::lost(s)),
-        Phase::SensorHigh => silent(phase::lost(s)),
-        Phase::SensorLow => silent(phase::lost(s)),
+        Phase::HalfSelected => silent(phase::lost(Phase::HalfSelected, s)),
+        Phase::CommandAddress => silent(phase::lost(Phase::CommandAddress, s)),
+        Phase::CommandData => silent(phase::lost(Phase::CommandData, s)),
+        Phase::CommandStop => silent(phase::lost(Phase::CommandStop, s)),
+        Phase::SensorPointer => silent(phase::lost(Phase::SensorPointer, s)),
+        Phase::SensorHigh => silent(phase::lost(Phase::SensorHigh, s)),
+        Phase::SensorLow => silent(phase::lost(Phase::SensorLow, s)),
         Phase::SensorReadHigh => high_byte(s, more),
         Phase::SensorReadLow => low_byte(s),
     }
@@ -305,14 +306,14 @@ fn stop_in(p: Phase, s: Slot) -> Slot
         Phase::MemoryData => memory::data_stop(s),
         Phase::MemoryRead => s,
         Phase::HalfSelected => s,
-        Phase::CommandAddress => phase::settled(s),
-        Phase::CommandData => phase::settled(s),
-        Phase::CommandStop => memory::changing(s),
-        Phase::SensorPointer => s,
-        Phase::SensorHigh => s,
-        Phase::SensorLow => phase::settled(s),
-        Phase::SensorReadHigh => phase::settled(s),
-        Phase::SensorReadLow => phase::settled(s),
+        Phase::CommandAddress => phase::cancelled(s),
+        Phase::CommandData => phase::cancelled(s),
+        Phase::CommandStop => memory::begun(s),
+        Phase::SensorPointer => phase::let_go(Phase::SensorPointer, s),
+        Phase::SensorHigh => phase::let_go(Phase::SensorHigh, s),
+        Phase::SensorLow => phase::let_go(Phase::SensorLow, s),
+        Phase::SensorReadHigh => phase::let_go(Phase::SensorReadHigh, s),
+        Phase::SensorReadLow => phase::let_go(Phase::SensorReadLow, s),
     }
 }
 
@@ -325,9 +326,9 @@ pub enum Signal {
 }
 
 fn start(s: Slot) -> Slot
-    ensures { λ r. ⌜ r ≡ inPhase Phase.Control (letGo s) ⌝ }
+    ensures { λ r. ⌜ r ≡ inPhase Phase.Control (letGo (standing s) s) ⌝ }
 {
-    phase::in_phase(Phase::Control, phase::let_go(s))
+    phase::in_phase(Phase::Control, phase::let_go(phase::standing(s), s))
 }
 
 fn stop(s: Slot) -> Slot
@@ -337,9 +338,9 @@ fn stop(s: Slot) -> Slot
 }
 
 fn timeout(s: Slot) -> Slot
-    ensures { λ r. ⌜ r ≡ inPhase Phase.Idle (letGo s) ⌝ }
+    ensures { λ r. ⌜ r ≡ inPhase Phase.Idle (letGo (standing s) s) ⌝ }
 {
-    phase::in_phase(Phase::Idle, phase::let_go(s))
+    phase::in_phase(Phase::Idle, phase::let_go(phase::standing(s), s))
 }
 
 // A power cycle keeps protection and voltage.
@@ -356,10 +357,13 @@ fn powered(s: Slot) -> Slot
     }
 }
 
-// A start, stop, timeout or power cycle.
+// A start, stop, timeout or power cycle; an absent slot is left alone, as by every event.
 pub fn signalled(x: Signal, s: Slot) -> Slot
     ensures { λ r. ⌜ r ≡ signalled x s ⌝ }
 {
+    if s.kind == 0 {
+        return s;
+    }
     match x {
         Signal::Start => start(s),
         Signal::Stop => stop(s),
@@ -368,13 +372,17 @@ pub fn signalled(x: Signal, s: Slot) -> Slot
     }
 }
 
-// High voltage on or off: a protect or clear that its stop has not begun is cancelled by off.
+// High voltage on or off: a protect or clear that its stop has not begun is cancelled when it goes off.
 pub fn switched(on: bool, s: Slot) -> Slot
-    ensures { λ r. ⌜ r ≡ switched on s ⌝ }
+    ensures { λ r. ⌜ r ≡ cond (absent s) s (switched on s) ⌝ }
 {
-    let t = phase::traits(phase::standing(s));
-    if t.command & !on {
-        let gone = phase::lost(s);
+    if s.kind == 0 {
+        return s;
+    }
+    let p = phase::standing(s);
+    let t = phase::traits(p);
+    if t.command & s.voltage & !on {
+        let gone = phase::lost(p, s);
         return Slot {
             voltage: on,
             ..gone
@@ -385,8 +393,11 @@ pub fn switched(on: bool, s: Slot) -> Slot
 
 // A temperature.
 pub fn heated(t: i16, s: Slot) -> Slot
-    ensures { λ r. ⌜ r ≡ withSensor (converted (s .sensor) t) s ⌝ }
+    ensures { λ r. ⌜ r ≡ cond (absent s) s (withSensor (converted (s .sensor) t) s) ⌝ }
 {
+    if s.kind == 0 {
+        return s;
+    }
     let x = s.sensor;
     let sensor = sensor::converted(x, t);
     Slot { sensor, ..s }

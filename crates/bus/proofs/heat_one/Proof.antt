@@ -1,16 +1,15 @@
 -- One slot replaced is a change of all that looks for its number.
 -- Assumes nothing.
+use mathlib.Core.Path.{_∙_}
 use native.Mathlib.Omega.{arith}
 use borrow.Author.Needs.{needs}
 use Rattle.lists.specs.Each.{mapFrom-one, mapFrom-past}
-use Rattle.rules.specs.Slot.{slotNext}
-use Rattle.bus.proofs.Laws.{noSlot, heat}
+use Rattle.bus.proofs.Laws.{noSlot, heat, heat-each}
 use Rattle.sensor.proofs.Signed.{back}
 use Rattle.bus.proofs.heat_one.Statement.{statement}
 use Rattle.bus.proofs.heat_one.Tie as tie
 
 pub heat-one-spec : {M : Type 1} → statement M
-unfolding slotNext
 heat-one-spec =
     tie.close
     (tie.spec
@@ -20,5 +19,5 @@ heat-one-spec =
     (λ c κs. search needs)
     (λ c. search needs)
     (λ c. search needs)
-    (λ c. rw (c .heated .ensures, back (c .before .before .before .before .args .t) (c .before .before .before .before .fits .t .sfits)) (mapFrom-one (heat (c .before .before .before .before .args .t)) (c .before .before .before .before .args .n .0) (c .before .before .before .before .args .slots) noSlot (omega arith)))
-    (λ c. mapFrom-past (heat (c .before .before .args .t)) (c .before .before .args .n .0) (c .before .before .args .slots) (omega arith)))
+    (λ c. let a = c .before .before .before .before .args in rw (c .heated .ensures, back (a .t) (c .before .before .before .before .fits .t .sfits)) (mapFrom-one (heat (a .t)) (a .n .0) (a .slots) noSlot (omega arith) ∙ heat-each (a .n) (a .slots) (a .t)))
+    (λ c. let a = c .before .before .args in mapFrom-past (heat (a .t)) (a .n .0) (a .slots) (omega arith) ∙ heat-each (a .n) (a .slots) (a .t)))

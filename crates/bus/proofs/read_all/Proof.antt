@@ -9,7 +9,7 @@ use lib.ListN.{length, drop, length-take, length-drop}
 use Rattle.lists.specs.Each.{mapFrom, mapTo, allOf, mapTo-none, mapTo-next, mapTo-step, firstFrom, firstFrom-step, firstFrom-none, mapTo-full, allOf-at}
 use Rattle.lists.specs.Parts.{part}
 use Rattle.rules.specs.Refusals.{slotInRange}
-use Rattle.rules.specs.Slot.{slotNext, drives, driven}
+use Rattle.rules.specs.Slot.{presentNext, slotNext, drives, driven}
 use Rattle.slot.specs.Shown.{readOut}
 use Rattle.bus.specs.Taken.{readThen}
 use Rattle.bus.proofs.Laws.{noSlot, afterRead, drove, byteOf, byte-of-part}
@@ -25,7 +25,7 @@ abbrev μ-loop : tie.MeasureT-loop
 μ-loop mem more all₀ driven₀ byte₀ i₀ all driven byte i = 8 - i
 
 pub read-all-spec : {M : Type 1} → statement M
-unfolding readThen readOut slotNext drives driven
+unfolding readThen readOut slotNext presentNext drives driven
 read-all-spec =
     tie.close
     (tie.spec

@@ -1,15 +1,14 @@
 -- One slot replaced is a change of all that looks for its number.
 -- Assumes nothing.
+use mathlib.Core.Path.{_∙_}
 use native.Mathlib.Omega.{arith}
 use borrow.Author.Needs.{needs}
 use Rattle.lists.specs.Each.{mapFrom-one, mapFrom-past}
-use Rattle.rules.specs.Slot.{switched, slotNext}
-use Rattle.bus.proofs.Laws.{noSlot}
+use Rattle.bus.proofs.Laws.{noSlot, switch, switch-each}
 use Rattle.bus.proofs.switch_one.Statement.{statement}
 use Rattle.bus.proofs.switch_one.Tie as tie
 
 pub switch-one-spec : {M : Type 1} → statement M
-unfolding slotNext
 switch-one-spec =
     tie.close
     (tie.spec
@@ -19,5 +18,5 @@ switch-one-spec =
     (λ c κs. search needs)
     (λ c. search needs)
     (λ c. search needs)
-    (λ c. rw (c .switched .ensures) (mapFrom-one (switched (c .before .before .before .before .args .on)) (c .before .before .before .before .args .n .0) (c .before .before .before .before .args .slots) noSlot (omega arith)))
-    (λ c. mapFrom-past (switched (c .before .before .args .on)) (c .before .before .args .n .0) (c .before .before .args .slots) (omega arith)))
+    (λ c. let a = c .before .before .before .before .args in rw (c .switched .ensures) (mapFrom-one (switch (a .on)) (a .n .0) (a .slots) noSlot (omega arith) ∙ switch-each (a .n) (a .slots) (a .on)))
+    (λ c. let a = c .before .before .args in mapFrom-past (switch (a .on)) (a .n .0) (a .slots) (omega arith) ∙ switch-each (a .n) (a .slots) (a .on)))

@@ -4,7 +4,7 @@ use native.Mathlib.Omega.{arith}
 use borrow.Author.Needs.{needs}
 use Rattle.rules.specs.Bus.{busNext, memoryNext, anyAck, readByte, shown}
 use Rattle.rules.specs.Refusals.{inRange}
-use Rattle.rules.specs.Slot.{slotNext}
+use Rattle.rules.specs.Slot.{presentNext, slotNext}
 use Rattle.bus.specs.Taken.{takenThen, byteThen, readThen}
 use Rattle.sensor.proofs.Signed.{back}
 use Rattle.slot.specs.Shown.{signalled, actFor}
@@ -12,7 +12,7 @@ use Rattle.bus.proofs.taken.Statement.{statement}
 use Rattle.bus.proofs.taken.Tie as tie
 
 pub taken-spec : {M : Type 1} → statement M
-unfolding inRange takenThen busNext memoryNext shown anyAck readByte byteThen readThen signalled actFor slotNext
+unfolding inRange takenThen busNext memoryNext shown anyAck readByte byteThen readThen signalled actFor slotNext presentNext
 taken-spec =
     tie.close
     (tie.spec

@@ -10,7 +10,7 @@ use Rattle.lists.specs.Each.{mapTo, allOf, mapTo-none, mapTo-next, mapTo-step, 
 use Rattle.lists.specs.Parts.{partsTo, partsTo-none, partsTo-all, partsTo-step}
 use Rattle.rules.specs.Memory.{tickedPart}
 use Rattle.rules.specs.Refusals.{slotInRange}
-use Rattle.rules.specs.Slot.{slotNext}
+use Rattle.rules.specs.Slot.{presentNext, slotNext}
 use Rattle.rules.proofs.Memory.Stored.{length-tickedPart}
 use Rattle.bus.proofs.Laws.{noSlot, afterTick}
 use Rattle.bus.proofs.tick_all.Statement.{statement}
@@ -27,7 +27,7 @@ abbrev μ-loop : tie.MeasureT-loop
 μ-loop mem₀ all₀ i₀ mem all i = 8 - i
 
 pub tick-all-spec : {M : Type 1} → statement M
-unfolding slotNext
+unfolding slotNext presentNext
 tick-all-spec =
     tie.close
     (tie.spec

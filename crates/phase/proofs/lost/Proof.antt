@@ -1,7 +1,7 @@
--- What is settled, in another phase.
+-- What is let go, in another phase.
 -- Assumes nothing.
 use borrow.Author.Needs.{needs}
-use Rattle.rules.specs.Memory.{lost}
+use Rattle.rules.specs.Slot.{lost}
 use Rattle.phase.proofs.lost.Statement.{statement}
 use Rattle.phase.proofs.lost.Tie as tie
 

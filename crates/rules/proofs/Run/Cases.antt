@@ -1,17 +1,18 @@
 -- Case analysis on the law's own choices: an absent slot and a present one, what an exchange lets go, the phase that a slot stands in.
 -- Assumes nothing.
 use Prim.Native.Nat.{ℕ}
-use mathlib.Core.Path.{_≡_, refl}
+use mathlib.Core.Path.{_≡_, refl, sym, ap}
 use mathlib.Core.Bool.{Bool, true, false, not, _&&_, _||_}
 use Rattle.lists.specs.Tests.{cond-cases}
 use Rattle.rules.specs.declared.Act.{Act}
+use Rattle.rules.specs.declared.Act.the-variants.{Byte, Read}
 use Rattle.rules.specs.declared.Phase.{Phase}
 use Rattle.rules.specs.declared.Phase.the-variants.{Deaf}
 use Rattle.rules.specs.declared.Slot.{Slot}
 use Rattle.rules.specs.Modelled.{absent, sensing}
-use Rattle.rules.specs.Fields.{inPhase, holding}
+use Rattle.rules.specs.Fields.{holding}
 use Rattle.rules.specs.Memory.{abandoned, cancelled}
-use Rattle.rules.specs.Slot.{withSensorIn, commanding, taking, standing, letGo, lost, presentNext, slotNext}
+use Rattle.rules.specs.Slot.{withSensorIn, commanding, taking, standing, letGo, byteIn, readIn, presentNext, slotNext}
 
 -- an absent slot stays as it is
 pub next-cases : (P : Slot → Type 0) (n : ℕ) (a : Act) (s : Slot) → (absent s ≡ true → P s) → (absent s ≡ false → P (presentNext n a s)) → P (slotNext n a s)
@@ -39,3 +40,16 @@ module _ (P : Slot → Type 0) (p : Phase) (s : Slot) where
 pub stands : (P : Phase → Type 0) (s : Slot) → P Deaf → P (s .phase) → P (standing s)
 unfolding standing
 stands P s d p = cond-cases P (absent s || (withSensorIn (s .phase) && not (sensing s))) (λ e. d) (λ e. p)
+
+pub absent-stands : (s : Slot) → absent s ≡ true → standing s ≡ Deaf
+unfolding standing
+absent-stands s e = rw e
+
+-- so bytes and reads go by the phase that the slot stands in, absent or not
+pub byte-next : (n b : ℕ) (s : Slot) → slotNext n (Byte b) s ≡ byteIn (standing s) n b s
+unfolding presentNext byteIn
+byte-next n b s = next-cases (λ (r : Slot). r ≡ byteIn (standing s) n b s) n (Byte b) s (λ a. sym (ap (λ (p : Phase). byteIn p n b s) (absent-stands s a))) (λ a. refl)
+
+pub read-next : (n : ℕ) (more : Bool) (s : Slot) → slotNext n (Read more) s ≡ readIn (standing s) more s
+unfolding presentNext readIn
+read-next n more s = next-cases (λ (r : Slot). r ≡ readIn (standing s) more s) n (Read more) s (λ a. sym (ap (λ (p : Phase). readIn p more s) (absent-stands s a))) (λ a. refl)

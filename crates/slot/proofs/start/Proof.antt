@@ -10,4 +10,5 @@ start-spec =
     (tie.spec
     (λ c κs. search needs)
     (λ c κs. search needs)
-    (λ c. rw (c .in-phase .ensures, c .before .let-go .ensures)))
+    (λ c κs. search needs)
+    (λ c. rw (c .in-phase .ensures, c .before .let-go .ensures, c .before .before .standing .ensures)))
