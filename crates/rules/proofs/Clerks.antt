@@ -9,4 +9,6 @@ pub mod Sharp
 pub mod Controls
 pub mod RunAnswers
 pub mod Demand3
+pub mod Joined
 pub mod Swap
+pub mod Stretches
