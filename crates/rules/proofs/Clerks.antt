@@ -1,4 +1,5 @@
 -- Demand 3: two clerks at one bench.
+pub mod Addressed
 pub mod Alone
 pub mod Parse
 pub mod Classes
@@ -12,3 +13,4 @@ pub mod Demand3
 pub mod Joined
 pub mod Swap
 pub mod Stretches
+pub mod Instances

@@ -5,7 +5,8 @@
 use Prim.Native.Nat.{ℕ}
 use mathlib.Core.Path.{_≡_, refl, sym, _∙_, ap, ap₂, subst}
 use mathlib.Core.Bool.{true}
-use mathlib.Core.List.{List, [], _∷_, _++_}
+use mathlib.Core.List.{List, [], _∷_, _++_, append-assoc}
+use mathlib.Core.Option.{some}
 use lib.ListN.{length}
 use Rattle.rules.specs.declared.Act.{Act}
 use Rattle.rules.specs.declared.Answer.{Answer}
@@ -47,6 +48,14 @@ unmoved-answers r q x i j z p o e =
     ∙ ap₂ (λ kinds (y : Bench). woven kinds r (says i y)) (kinds-after q x) (one-after q x j z o)
     ∙ ap (woven (kindsOf (x .bus)) r) e
     ∙ sym (one-answers r x i z p)
+
+-- four stretches that parse, joined, two of them being one item each
+four-parts : (x : Bench) (before later : List Item) {i j : Item} (v w r q : List Event) → Parts x v before → Parts x w (i ∷ []) → Parts x r (j ∷ []) → Parts x q later
+    → Parts x (v ++ w ++ r ++ q) (before ++ i ∷ j ∷ later)
+four-parts x before later {i} {j} v w r q pv pw pr pq =
+    let p : Parts x (v ++ w ++ r ++ q) (before ++ (i ∷ []) ++ (j ∷ []) ++ later)
+    = parts-joined x _ q _ later (parts-joined x _ r _ (j ∷ []) (parts-joined x v w before (i ∷ []) pv pw) pr) pq in
+    p ∙ ap some (simp append-assoc)
 
 -- A run of the stretches e, f, s and l, in which f is the exchange a and s the exchange b, and the run with f and s the other way round.
 pub record Moved (x : Bench) (e f s l : List Event) (before : List Item) (a b : Item) (later : List Item) : Type 0 where
@@ -101,13 +110,42 @@ module _
         ∙ ap₂ (λ (c : List Answer) (k : Bench). c ++ answers l k)
         (answers-joined (e ++ v) w x ∙ ap₂ (λ (c : List Answer) (k : Bench). c ++ answers w k) (answers-joined e v x) (after-joined e v x)) (three v w) in
         record {
-          parts = whole e f s l pe pf ps pl;
-          parts-swapped = whole e s f l pe ps pf pl;
+          parts = four-parts x before later e f s l pe pf ps pl;
+          parts-swapped = four-parts x before later e s f l pe ps pf pl;
           bench = four s f ∙ ap (after l) same ∙ sym (four f s);
           shows = shown f s ∙ ap₂ (λ (c : List Answer) (k : Bench). answers e x ++ answers f y ++ c ++ answers l k) second (sym (three f s));
           shows-swapped = shown s f ∙ ap₂ (λ (c : List Answer) (k : Bench). answers e x ++ answers s y ++ c ++ answers l k) first (same ∙ sym (three f s));
         }
-      where
-        whole : {i j : Item} (v w r q : List Event) → Parts x v before → Parts x w (i ∷ []) → Parts x r (j ∷ []) → Parts x q later
-            → Parts x (v ++ w ++ r ++ q) (before ++ i ∷ j ∷ later)
-        whole v w r q pv pw pr pq = ?
+
+    -- Every run that parses so has such stretches: for a run r of raw events made of the items before, a, b and later, there are stretches e, f, s
+    -- and l of which r is made, and with f and s the other way round all is as `Moved` says.
+    pub record Movable (r : List Event) : Type 0 where
+      pub early : List Event
+      pub first : List Event
+      pub second : List Event
+      pub late : List Event
+      pub whole : early ++ first ++ second ++ late ≡ r
+      pub moved : Moved x early first second late before (exchange a) (exchange b) later
+
+    pub swap-run : (r : List Event) → Parts x r (before ++ exchange a ∷ exchange b ∷ later) → Movable r
+    swap-run r p =
+        let c : Halves x r before (exchange a ∷ exchange b ∷ later) = halves x r before (exchange a ∷ exchange b ∷ later) p in
+        let d : Halves x (c .right) (exchange a ∷ []) (exchange b ∷ later) = halves x (c .right) (exchange a ∷ []) (exchange b ∷ later) (c .rights) in
+        let g : Halves x (d .right) (exchange b ∷ []) later = halves x (d .right) (exchange b ∷ []) later (d .rights) in
+        record {
+          early = c .left;
+          first = d .left;
+          second = g .left;
+          late = g .right;
+          whole =
+              simp append-assoc (ap (λ v. c .left ++ (d .left ++ v)) (g .whole) ∙ ap (λ v. c .left ++ v) (d .whole) ∙ c .whole);
+          moved = swap-stretches (c .left) (d .left) (g .left) (g .right) (c .lefts) (d .lefts) (g .lefts) (g .rights);
+        }
+
+-- from setup: eight pairs, good or refused, and 4,096 bytes
+pub swap-from-setup : (ps : List Pair) (m : List ℕ) → length ps ≡ slotCount → length m ≡ memoryBytes
+    → (t u : ℕ) (a b : List Inside) → (t ≡ u → ⊥) → addressed t (controls true a) ≡ true → addressed u (controls true b) ≡ true
+    → (before later : List Item) (e f s l : List Event)
+    → Parts (begun ps m) e before → Parts (begun ps m) f (exchange a ∷ []) → Parts (begun ps m) s (exchange b ∷ []) → Parts (begun ps m) l later
+    → Moved (begun ps m) e f s l before (exchange a) (exchange b) later
+swap-from-setup ps m lp lm = swap-stretches (begun ps m) (setup-ready ps m lm) (setup-rest ps m lp)
