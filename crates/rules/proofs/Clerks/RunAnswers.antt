@@ -1,4 +1,4 @@
--- The answers of a run are those of its events one by one: an event that is refused does nothing, so the others go and answer as their acts do without it; and those answers fall into the items of the parse.
+-- The answers of a run are those of its events one by one: an event that is refused does nothing, so the others go and answer as their acts do without it; and those answers fall into the items of the parse. A refused one is answered with its refusal.
 -- Assumes nothing.
 use Prim.Native.Nat.{ℕ}
 use mathlib.Core.Path.{_≡_, refl, sym, _∙_, ap}

@@ -3,19 +3,18 @@
 -- got the answer that it got before.
 -- Assumes nothing.
 use Prim.Native.Nat.{ℕ}
-use mathlib.Core.Path.{_≡_, refl, sym, _∙_, ap, ap₂, subst}
+use mathlib.Core.Path.{_≡_, sym, _∙_, ap, ap₂}
 use mathlib.Core.Bool.{true}
 use mathlib.Core.List.{List, [], _∷_, _++_, append-assoc}
 use mathlib.Core.Option.{some}
 use lib.ListN.{length}
-use Rattle.rules.specs.declared.Act.{Act}
 use Rattle.rules.specs.declared.Answer.{Answer}
 use Rattle.rules.specs.declared.Event.{Event}
 use Rattle.rules.specs.declared.Pair.{Pair}
 use Rattle.rules.specs.Modelled.{slotCount, memoryBytes}
 use Rattle.rules.specs.Refusals.{kindsOf}
 use Rattle.rules.specs.Runs.{Bench, after, answers}
-use Rattle.rules.specs.Exchanges.{actsOf, went, told, Inside, Item, exchange, itemActs, flatten, itemsOf, controls, addressed, keptAnswers, chunks, concat}
+use Rattle.rules.specs.Exchanges.{went, told, Inside, Item, exchange, controls, addressed, keptAnswers, concat}
 use Rattle.rules.proofs.Range.Kept.{after-in-range}
 use Rattle.rules.proofs.Memory.Stored.{memory-length-after}
 use Rattle.rules.proofs.Memory.Protection.{kinds-after}
@@ -68,6 +67,24 @@ pub record Moved (x : Bench) (e f s l : List Event) (before : List Item) (a b : 
   pub shows : answers (e ++ f ++ s ++ l) x ≡ answers e x ++ answers f (after e x) ++ answers s (after e x) ++ answers l (after (e ++ f ++ s) x)
   pub shows-swapped : answers (e ++ s ++ f ++ l) x ≡ answers e x ++ answers s (after e x) ++ answers f (after e x) ++ answers l (after (e ++ f ++ s) x)
 
+-- A run r made of the items before, a, b and later has stretches e, f, s and l for which all that is so.
+pub record Movable (x : Bench) (r : List Event) (before : List Item) (a b : Item) (later : List Item) : Type 0 where
+  pub early : List Event
+  pub first : List Event
+  pub second : List Event
+  pub late : List Event
+  pub whole : early ++ first ++ second ++ late ≡ r
+  pub moved : Moved x early first second late before a b later
+
+-- Two runs r and q of raw events that need have no event in common, made of the same items, but for the places of a and b: the whole bench, the
+-- answers item by item, and the answers of the two runs, refused events left out.
+pub record SwappedRuns (x : Bench) (r q : List Event) (before : List Item) (a b : Item) (later : List Item) : Type 0 where
+  pub bench : after q x ≡ after r x
+  pub items : Swapped x before a b later
+  pub shows : keptAnswers (kindsOf (x .bus)) r x ≡ concat (items .early ++ items .first ∷ items .second ∷ items .late)
+  pub shows-swapped : keptAnswers (kindsOf (x .bus)) q x ≡ concat (items .early ++ items .second ∷ items .first ∷ items .late)
+
+-- from a bench in range and at rest, with a addressed to slot t and b to another slot u
 module _
     (x : Bench)
     (ready : Ready x)
@@ -79,12 +96,17 @@ module _
     (to-u : addressed u (controls true b) ≡ true)
     (before later : List Item)
   where
-    -- two runs of raw events that parse so, the refused ones of each being what they may: the bench, and the answers item by item
+    -- two runs of raw events that parse so, each with refused events of its own
     pub swap : (r q : List Event) → Parts x r (before ++ exchange a ∷ exchange b ∷ later) → Parts x q (before ++ exchange b ∷ exchange a ∷ later)
-        → (after q x ≡ after r x) × Swapped x before (exchange a) (exchange b) later
+        → SwappedRuns x r q before (exchange a) (exchange b) later
     swap r q p o =
         let n : Swapped x before (exchange a) (exchange b) later = swap-items x rest t u a b ne to-t to-u before later in
-        (after-items x q _ ready o ∙ n .bench ∙ sym (after-items x r _ ready p), n)
+        record {
+          bench = after-items x q _ ready o ∙ n .bench ∙ sym (after-items x r _ ready p);
+          items = n;
+          shows = run-answers r x (ready .sized) (ready .ranged) _ p ∙ ap concat (n .in-order);
+          shows-swapped = run-answers q x (ready .sized) (ready .ranged) _ o ∙ ap concat (n .swapped);
+        }
 
     -- the stretches of a run of raw events change places
     pub swap-stretches : (e f s l : List Event) → Parts x e before → Parts x f (exchange a ∷ []) → Parts x s (exchange b ∷ []) → Parts x l later
@@ -117,17 +139,8 @@ module _
           shows-swapped = shown s f ∙ ap₂ (λ (c : List Answer) (k : Bench). answers e x ++ answers s y ++ c ++ answers l k) first (same ∙ sym (three f s));
         }
 
-    -- Every run that parses so has such stretches: for a run r of raw events made of the items before, a, b and later, there are stretches e, f, s
-    -- and l of which r is made, and with f and s the other way round all is as `Moved` says.
-    pub record Movable (r : List Event) : Type 0 where
-      pub early : List Event
-      pub first : List Event
-      pub second : List Event
-      pub late : List Event
-      pub whole : early ++ first ++ second ++ late ≡ r
-      pub moved : Moved x early first second late before (exchange a) (exchange b) later
-
-    pub swap-run : (r : List Event) → Parts x r (before ++ exchange a ∷ exchange b ∷ later) → Movable r
+    -- every run that parses so has such stretches
+    pub swap-run : (r : List Event) → Parts x r (before ++ exchange a ∷ exchange b ∷ later) → Movable x r before (exchange a) (exchange b) later
     swap-run r p =
         let c : Halves x r before (exchange a ∷ exchange b ∷ later) = halves x r before (exchange a ∷ exchange b ∷ later) p in
         let d : Halves x (c .right) (exchange a ∷ []) (exchange b ∷ later) = halves x (c .right) (exchange a ∷ []) (exchange b ∷ later) (c .rights) in
@@ -142,10 +155,24 @@ module _
           moved = swap-stretches (c .left) (d .left) (g .left) (g .right) (c .lefts) (d .lefts) (g .lefts) (g .rights);
         }
 
--- from setup: eight pairs, good or refused, and 4,096 bytes
-pub swap-from-setup : (ps : List Pair) (m : List ℕ) → length ps ≡ slotCount → length m ≡ memoryBytes
-    → (t u : ℕ) (a b : List Inside) → (t ≡ u → ⊥) → addressed t (controls true a) ≡ true → addressed u (controls true b) ≡ true
-    → (before later : List Item) (e f s l : List Event)
-    → Parts (begun ps m) e before → Parts (begun ps m) f (exchange a ∷ []) → Parts (begun ps m) s (exchange b ∷ []) → Parts (begun ps m) l later
-    → Moved (begun ps m) e f s l before (exchange a) (exchange b) later
-swap-from-setup ps m lp lm = swap-stretches (begun ps m) (setup-ready ps m lm) (setup-rest ps m lp)
+-- the same from setup, of eight pairs, good or refused, with 4,096 bytes: of four stretches, and of any run that parses so
+module _
+    (ps : List Pair)
+    (m : List ℕ)
+    (eight : length ps ≡ slotCount)
+    (sized : length m ≡ memoryBytes)
+    (t u : ℕ)
+    (a b : List Inside)
+    (ne : t ≡ u → ⊥)
+    (to-t : addressed t (controls true a) ≡ true)
+    (to-u : addressed u (controls true b) ≡ true)
+    (before later : List Item)
+  where
+    pub swap-from-setup : (e f s l : List Event)
+        → Parts (begun ps m) e before → Parts (begun ps m) f (exchange a ∷ []) → Parts (begun ps m) s (exchange b ∷ []) → Parts (begun ps m) l later
+        → Moved (begun ps m) e f s l before (exchange a) (exchange b) later
+    swap-from-setup = swap-stretches (begun ps m) (setup-ready ps m sized) (setup-rest ps m eight) t u a b ne to-t to-u before later
+
+    pub swap-run-from-setup : (r : List Event) → Parts (begun ps m) r (before ++ exchange a ∷ exchange b ∷ later)
+        → Movable (begun ps m) r before (exchange a) (exchange b) later
+    swap-run-from-setup = swap-run (begun ps m) (setup-ready ps m sized) (setup-rest ps m eight) t u a b ne to-t to-u before later

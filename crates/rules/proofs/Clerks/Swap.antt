@@ -13,19 +13,17 @@ use borrow.Author.Tests.{eqb-true, eqb-false}
 use Rattle.lists.specs.Tests.{by-test}
 use Rattle.rules.specs.declared.Act.the-variants.{Start}
 use Rattle.rules.specs.declared.Answer.{Answer}
-use Rattle.rules.specs.declared.Event.{Event}
 use Rattle.rules.specs.declared.Pair.{Pair}
-use Rattle.rules.specs.declared.Slot.{Slot}
-use Rattle.rules.specs.Modelled.{slotCount, memoryBytes}
+use Rattle.rules.specs.Modelled.{slotCount}
 use Rattle.rules.specs.Fresh.{absentSlot}
 use Rattle.rules.specs.Bus.{memoryNext}
-use Rattle.rules.specs.Runs.{Bench, taken, after}
+use Rattle.rules.specs.Runs.{Bench, taken}
 use Rattle.rules.specs.Exchanges.{went, Inside, again, byte, read, Item, exchange, insideAct, upToStop, itemActs, flatten, controls, addressed, struck, strike, own, ownTold, chunks}
-use Rattle.rules.proofs.Clerks.Alone.{slotsOf, slotAt, slot-went}
+use Rattle.rules.proofs.Clerks.Alone.{slotsOf, slot-went}
 use Rattle.rules.proofs.Clerks.Classes.{addressed-struck, addressed-below, struck-not-own}
 use Rattle.rules.proofs.Clerks.Struck.{Idles, itemSlot, idle-item}
 use Rattle.rules.proofs.Clerks.Apart.{number-went, Agree, EndAlike, apart}
-use Rattle.rules.proofs.Clerks.Demand3.{Ready, Parts, slot, after-items, begun, setup-number, setup-idle}
+use Rattle.rules.proofs.Clerks.Demand3.{slot, begun, setup-number, setup-idle}
 use Rattle.rules.proofs.Clerks.Joined.{does, says, went-first, went-items, chunks-joined}
 
 -- of two neighbours one is struck out for slot k: what is left does not tell their order
