@@ -1,4 +1,5 @@
 -- Demand 3: two clerks at one bench.
+pub mod Addressed
 pub mod Alone
 pub mod Parse
 pub mod Classes
@@ -9,4 +10,7 @@ pub mod Sharp
 pub mod Controls
 pub mod RunAnswers
 pub mod Demand3
+pub mod Joined
 pub mod Swap
+pub mod Stretches
+pub mod Instances

@@ -1,4 +1,4 @@
--- The answers of a run are those of its events one by one: an event that is refused does nothing, so the others go and answer as their acts do without it; and those answers fall into the items of the parse.
+-- The answers of a run are those of its events one by one: an event that is refused does nothing, so the others go and answer as their acts do without it; and those answers fall into the items of the parse. A refused one is answered with its refusal.
 -- Assumes nothing.
 use Prim.Native.Nat.{ℕ}
 use mathlib.Core.Path.{_≡_, refl, sym, _∙_, ap}
@@ -8,12 +8,14 @@ use mathlib.Core.Option.{some}
 use lib.ListN.{length}
 use Rattle.rules.specs.declared.Act.{Act}
 use Rattle.rules.specs.declared.Act.the-variants.{Start}
+use Rattle.rules.specs.declared.Answer.{Answer}
+use Rattle.rules.specs.declared.Answer.the-variants as answer
 use Rattle.rules.specs.declared.Event.{Event}
 use Rattle.rules.specs.declared.Ruling.{Ruling}
 use Rattle.rules.specs.declared.Ruling.the-variants.{Taken, Refused}
 use Rattle.rules.specs.Modelled.{memoryBytes}
 use Rattle.rules.specs.Refusals.{kindsOf, inRange, ruledBy}
-use Rattle.rules.specs.Runs.{Bench, taken, given, rulingOn, ruledNext, ruledAnswer, next, answered, after}
+use Rattle.rules.specs.Runs.{Bench, taken, given, rulingOn, ruledNext, ruledAnswer, next, answered, after, answers}
 use Rattle.rules.specs.Exchanges.{keptAnswer, keptAnswers, chunks, concat, ownOf, keptBy, actsOf, went, told, Inside, Item, exchange, between, insideAct, upToStop, itemActs, flatten, itemsOf, own, ownTold}
 use Rattle.rules.proofs.Range.Kept.{next-in-range}
 use Rattle.rules.proofs.Memory.Protection.{kinds-next}
@@ -31,6 +33,21 @@ told-kept : (v : Ruling) (r : List Act) (x : Bench) → keptAnswer v (ruledAnswe
 unfolding told keptBy keptAnswer ruledNext ruledAnswer
 told-kept (Taken a) r x = refl
 told-kept (Refused n) r x = refl
+
+-- the answers of a run's acts, and among them the refusals of its refused events, in the run's order
+unfoldable pub wovenBy : Ruling → (List Answer → List Answer) → List Answer → List Answer
+wovenBy (Taken a) f [] = f []
+wovenBy (Taken a) f (y ∷ ys) = y ∷ f ys
+wovenBy (Refused n) f ys = answer.Refused n ∷ f ys
+
+unfoldable pub woven : List ℕ → List Event → List Answer → List Answer
+woven kinds [] ys = []
+woven kinds (e ∷ es) ys = wovenBy (ruledBy kinds e) (woven kinds es) ys
+
+woven-one : (v : Ruling) (f : List Answer → List Answer) (r : List Act) (x : Bench) → wovenBy v f (told (keptBy v r) x) ≡ ruledAnswer v x ∷ f (told r (ruledNext v x))
+unfolding wovenBy told keptBy ruledAnswer ruledNext
+woven-one (Taken a) f r x = refl
+woven-one (Refused n) f r x = refl
 
 -- a bench that meets neither row 1 nor row 6, with slots of these kinds
 record Sound (kinds : List ℕ) (x : Bench) : Type 0 where
@@ -66,6 +83,15 @@ module _ (kinds : List ℕ) where
       ∙ ap (λ v. keptAnswer (ruledBy kinds e) (ruledAnswer v x) (told (actsOf kinds es) (ruledNext v x))) (ruled-by-kinds e x s)
       ∙ told-kept (ruledBy kinds e) (actsOf kinds es) x
 
+  -- with the refused events: each of those is answered with its refusal, the others as their acts are
+  answers-woven : (es : List Event) (x : Bench) → Sound kinds x → answers es x ≡ woven kinds es (told (actsOf kinds es) x)
+  unfolding answers next answered woven actsOf
+  answers-woven [] x s = refl
+  answers-woven (e ∷ es) x s =
+      ap (answered e x ∷_) (answers-woven es (next e x) (sound-next e x s))
+      ∙ ap (λ v. ruledAnswer v x ∷ woven kinds es (told (actsOf kinds es) (ruledNext v x))) (ruled-by-kinds e x s)
+      ∙ sym (woven-one (ruledBy kinds e) (woven kinds es) (actsOf kinds es) x)
+
 told-stop : (xs : List Inside) (r : List Act) (x : Bench) → told (upToStop xs r) x ≡ told (upToStop xs []) x ++ told r (went (upToStop xs []) x)
 unfolding told went upToStop
 told-stop [] r x = refl
@@ -97,6 +123,10 @@ module _ (es : List Event) (x : Bench) (long : length (x .memory) ≡ memoryByte
 
   pub answers-kept : keptAnswers (kindsOf (x .bus)) es x ≡ told (actsOf (kindsOf (x .bus)) es) x
   answers-kept = answers-sound (kindsOf (x .bus)) es x sound
+
+  -- all of them, those of refused events too
+  pub all-answers : answers es x ≡ woven (kindsOf (x .bus)) es (told (actsOf (kindsOf (x .bus)) es) x)
+  all-answers = answers-woven (kindsOf (x .bus)) es x sound
 
   -- item by item
   pub run-answers : (is : List Item) → itemsOf (actsOf (kindsOf (x .bus)) es) ≡ some is → keptAnswers (kindsOf (x .bus)) es x ≡ concat (chunks is x)
