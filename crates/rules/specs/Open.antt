@@ -41,7 +41,7 @@ open-slot = tt
 
 -- the rows of refusals
 unfoldable pub open-refusals : Unit {0}
-unfolding Refusals.wrongLength Refusals.unknownKind Refusals.kindsOf Refusals.wrongSlot Refusals.outside Refusals.wrongValue Refusals.goodLength Refusals.goodPair Refusals.kindInRange Refusals.lengthInRange Refusals.keptIn Refusals.sensorInRange Refusals.slotInRange Refusals.inRange Refusals.ruledBy Refusals.ruling Refusals.emptyBus Refusals.setupOf
+unfolding Refusals.wrongLength Refusals.unknownKind Refusals.kindsOf Refusals.kindAt Refusals.wrongSlot Refusals.outside Refusals.wrongValue Refusals.goodLength Refusals.goodPair Refusals.kindInRange Refusals.lengthInRange Refusals.keptIn Refusals.sensorInRange Refusals.slotInRange Refusals.inRange Refusals.ruledFor Refusals.ruledBy Refusals.ruling Refusals.emptyBus Refusals.setupOf
 open-refusals = tt
 
 -- everything: a run on known values computes

@@ -4,16 +4,16 @@ use Prim.Native.Nat.{ℕ, _+_, _*_}
 use mathlib.Core.Bool.{Bool, not, cond, _||_}
 use mathlib.Core.List.{List, []}
 use lib.Dec.{eqb, ltb}
-use lib.ListN.{getD, take, drop}
+use lib.ListN.{take, drop}
 use Rattle.rules.specs.declared.BlockNo.{BlockNo}
 use Rattle.rules.specs.declared.Bus.{Bus}
 use Rattle.rules.specs.declared.SlotNo.{SlotNo}
-use Rattle.rules.specs.Refusals.{wrongLength, inRange, kindsOf}
+use Rattle.rules.specs.Refusals.{wrongLength, inRange, kindsOf, kindAt}
 
 -- "With a wrong memory length, a state as in row 6, an absent slot, a slot above 7 or a block above 3 it gets an empty part."
 unfoldable pub noBlock : Bus → List ℕ → SlotNo → BlockNo → Bool
 noBlock b m n k =
-    wrongLength m || not (inRange b) || ltb 7 (n .0) || eqb (getD (kindsOf b) (n .0) 0) 0 || ltb 3 (k .0)
+    wrongLength m || not (inRange b) || ltb 7 (n .0) || eqb (kindAt (kindsOf b) n) 0 || ltb 3 (k .0)
 
 -- "A reader may ask for one 128-byte block of a slot and gets that part of the caller's memory, not a copy."
 unfoldable pub blockBytes : Bus → List ℕ → SlotNo → BlockNo → List ℕ

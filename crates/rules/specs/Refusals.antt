@@ -19,6 +19,7 @@ use Rattle.rules.specs.declared.Ruling.{Ruling}
 use Rattle.rules.specs.declared.Ruling.the-variants.{Taken, Refused}
 use Rattle.rules.specs.declared.Sensor.{Sensor}
 use Rattle.rules.specs.declared.Slot.{Slot}
+use Rattle.rules.specs.declared.SlotNo.{SlotNo}
 use Rattle.rules.specs.Modelled.{slotCount, memoryBytes}
 use Rattle.rules.specs.Events.{actOf}
 use Rattle.rules.specs.Fresh.{setupSlot, absentSlot}
@@ -32,15 +33,17 @@ wrongLength m = not (eqb (length m) memoryBytes)
 unfoldable pub unknownKind : Event → Bool
 unknownKind e = ltb (e .kind) 1 || ltb 9 (e .kind)
 
--- the kinds of the bus's slots
+-- the kinds of the bus's slots, and the kind of slot n; 0, absent, where there is no such slot
 unfoldable pub kindsOf : Bus → List ℕ
 kindsOf b = map (λ (s : Slot). s .kind) (b .slots)
 
--- "3 | kind 7 or 9: slot above 7 or absent; kind 9: slot without sensor"
-unfoldable pub wrongSlot : List ℕ → Event → Bool
-wrongSlot kinds e =
-    (eqb (e .kind) 7 || eqb (e .kind) 9) && (ltb 7 (e .slot .0) || eqb (getD kinds (e .slot .0) 0) 0)
-    || eqb (e .kind) 9 && not (eqb (getD kinds (e .slot .0) 0) 2)
+unfoldable pub kindAt : List ℕ → SlotNo → ℕ
+kindAt kinds n = getD kinds (n .0) 0
+
+-- "3 | kind 7 or 9: slot above 7 or absent; kind 9: slot without sensor", by the kind of the slot that the event names
+unfoldable pub wrongSlot : ℕ → Event → Bool
+wrongSlot kind e =
+    (eqb (e .kind) 7 || eqb (e .kind) 9) && (ltb 7 (e .slot .0) || eqb kind 0) || eqb (e .kind) 9 && not (eqb kind 2)
 
 -- "4 | the value is outside its range": kind 2 0..255, kinds 3 and 7 0 or 1, kind 9 -640..2000
 unfoldable pub outside : ℤ → ℤ → ℤ → Bool
@@ -89,13 +92,16 @@ slotInRange s =
 unfoldable pub inRange : Bus → Bool
 inRange b = allOf slotInRange (b .slots)
 
--- rows 2, 3 and 4: they go by the event and the slots' kinds alone
-unfoldable pub ruledBy : List ℕ → Event → Ruling
-ruledBy kinds e =
+-- rows 2, 3 and 4: they go by the event and the kind of the slot that it names
+unfoldable pub ruledFor : ℕ → Event → Ruling
+ruledFor kind e =
     cond (unknownKind e) (Refused UnknownKind)
-    (cond (wrongSlot kinds e) (Refused WrongSlot)
+    (cond (wrongSlot kind e) (Refused WrongSlot)
     (cond (wrongValue e) (Refused WrongValue)
     (Taken (actOf e))))
+
+unfoldable pub ruledBy : List ℕ → Event → Ruling
+ruledBy kinds e = ruledFor (kindAt kinds (e .slot)) e
 
 -- "Order: 1, 6, 2, 3, 4."
 unfoldable pub ruling : Bus → List ℕ → Event → Ruling

@@ -31,7 +31,7 @@ use Rattle.rules.specs.Control.{commandOf, heardOf, acksHeard, acksContr
 use Rattle.rules.specs.Memory.{emptied, abandoned, cancelled, guarded, dataByte}
 use Rattle.rules.specs.Slot.{standing, withSensorIn, commanding, letGo, lost, switched, byteIn, acksIn, readIn, drivesIn, drivenIn, presentNext, slotNext, acks, drives, driven}
 use Rattle.rules.proofs.Run.Cases.{next-cases}
-use Rattle.rules.specs.Refusals.{wrongLength, inRange, kindsOf}
+use Rattle.rules.specs.Refusals.{wrongLength, inRange, kindsOf, kindAt}
 use Rattle.rules.specs.Reader.{noBlock, blockBytes}
 
 -- "0110: commands, heard by all present slots": a slot's number makes no difference to it
@@ -212,7 +212,7 @@ block-fits b m n k e =
     let w : Bool = wrongLength m in
     let i : Bool = not (inRange b) in
     let s : Bool = ltb 7 (n .0) in
-    let a : Bool = eqb (getD (kindsOf b) (n .0) 0) 0 in
+    let a : Bool = eqb (kindAt (kindsOf b) n) 0 in
     let o : Bool = ltb 3 (k .0) in
     let e₃ = or-left-false (w || i || s) a (or-left-false (w || i || s || a) o e) in
     let whole : length m ≡ 4096 = eqb-true (length m) 4096 (not-false (eqb (length m) 4096) (or-left-false w i (or-left-false (w || i) s e₃))) in
