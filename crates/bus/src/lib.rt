@@ -8,7 +8,9 @@ ghost use Rattle.lists.specs.Each.{allOf};
 ghost use Rattle.rules.specs.Modelled.{memoryBytes};
 ghost use Rattle.rules.specs.Fresh.{setupSlot};
 ghost use Rattle.rules.specs.Refusals.{slotInRange, inRange, setupOf};
-ghost use Rattle.rules.specs.Reader.{blockBytes};
+ghost use Rattle.rules.specs.Reader.{noBlock, blockBytes};
+ghost use denote.Ref.{ptr};
+ghost use Prim.Native.Nat.{_+_, _*_};
 ghost use Rattle.rules.specs.Runs.{eventOf};
 ghost use Rattle.bus.specs.Taken.{answerFor, takenThen};
 use rules::Act;
@@ -181,18 +183,20 @@ pub fn setup(pairs: [Pair; 8]) -> Outcome
     refused(Bus { slots: [none; 8] }, Refusal::WrongSetup)
 }
 
-// The 128 bytes of a block, as a part of the caller's memory; an empty part where there is no such block, or where memory or bus would be
-// refused.
-pub fn block(mem: &[u8], bus: Bus, n: SlotNo, k: BlockNo) -> &[u8]
-    ensures { λ r. ⌜ now r ≡ blockBytes bus (now (mem .entry)) n k ⌝ }
+// There is no such block, or memory or bus would be refused.
+fn no_block(mem: &[u8], bus: Bus, n: SlotNo, k: BlockNo) -> bool
+    ensures { λ r. ⌜ r ≡ noBlock bus (now (mem .entry)) n k ⌝ }
 {
     let slots = bus.slots;
-    if (mem.len() != MEMORY)
-        | !ruling::in_range(slots)
-        | (7 < n.0)
-        | (ruling::kind_at(slots, n) == 0)
-        | (3 < k.0)
-    {
+    let kind = ruling::kind_at(slots, n);
+    (mem.len() != MEMORY) | !ruling::in_range(slots) | (7 < n.0) | (kind == 0) | (3 < k.0)
+}
+
+// The 128 bytes of a block, as a part of the caller's memory, at its place there; an empty part at the memory's beginning where there is none.
+pub fn block(mem: &[u8], bus: Bus, n: SlotNo, k: BlockNo) -> &[u8]
+    ensures { λ r. ⌜ (now r ≡ blockBytes bus (now (mem .entry)) n k) × (ptr r .0 ≡ ptr (mem .entry) .0) × (ptr r .1 ≡ ptr (mem .entry) .1 + cond (noBlock bus (now (mem .entry)) n k) 0 (512 * n .0 + 128 * k .0)) ⌝ }
+{
+    if no_block(mem, bus, n, k) {
         return &mem[0..0];
     }
     let a = Slot::BYTES * (n.0 as usize) + Slot::BLOCK * (k.0 as usize);
