@@ -12,8 +12,6 @@ ghost use Rattle.rules.specs.Reader.{noBlock, blockBytes};
 ghost use denote.Ref.{ptr};
 ghost use Prim.Native.Nat.{_+_, _*_};
 ghost use Rattle.rules.specs.Runs.{eventOf};
-ghost use Rattle.bus.specs.Taken.{answerFor, takenThen};
-use rules::Act;
 use rules::Answer;
 use rules::BlockNo;
 use rules::Bus;
@@ -24,17 +22,9 @@ use rules::Refusal;
 use rules::Ruling;
 use rules::Slot;
 use rules::SlotNo;
-use slot::Change;
 
 // The memory's length that the bus asks for.
 const MEMORY: usize = 4096;
-
-// One of two bytes.
-fn either(first: bool, x: u8, y: u8) -> u8
-    ensures { λ r. ⌜ r ≡ cond first x y ⌝ }
-{
-    if first { x } else { y }
-}
 
 // The slots, with nothing to answer.
 fn quiet(slots: [Slot; 8]) -> Outcome
@@ -43,70 +33,6 @@ fn quiet(slots: [Slot; 8]) -> Outcome
     Outcome {
         bus: Bus { slots },
         answer: Answer::Nothing,
-    }
-}
-
-// The answer to a byte.
-fn ack_of(ack: bool) -> Answer
-    ensures { λ r. ⌜ r ≡ cond ack Answer.Ack Answer.Nack ⌝ }
-{
-    if ack { Answer::Ack } else { Answer::Nack }
-}
-
-// What the bus shows at an act: whether a slot acknowledges, or the byte read.
-fn answer_of(a: Act, ack: bool, byte: u8) -> Answer
-    ensures { λ r. ⌜ r ≡ answerFor a ack byte ⌝ }
-{
-    match a {
-        Act::Start => Answer::Nothing,
-        Act::Byte(_) => ack_of(ack),
-        Act::Read(_) => Answer::Data(byte),
-        Act::Stop => Answer::Nothing,
-        Act::Timeout => Answer::Nothing,
-        Act::Tick => Answer::Nothing,
-        Act::Voltage(_, _) => Answer::Nothing,
-        Act::Power => Answer::Nothing,
-        Act::Temperature(_, _) => Answer::Nothing,
-    }
-}
-
-// An act that is not refused: every slot does its step, by its number and with its own part of the memory. Slots that the act leaves
-// where they are, or only moves to another phase, are most of them, and are not taken out. The bus acknowledges if one of them does; the
-// lowest slot that drives a byte is read, and FFh if none does.
-fn taken(slots: [Slot; 8], mem: &mut [u8], a: Act) -> Outcome
-    requires { ⌜ (allOf slotInRange slots ≡ true) × (length (now mem) ≡ memoryBytes) ⌝ }
-    ensures { λ r. ⌜ takenThen (record { slots = slots }) (now (mem .entry)) a ≡ (r, now (mem .exit)) ⌝ }
-{
-    let h = slot::heard_in(a);
-    let mut all = slots;
-    let mut ack = false;
-    let mut driven = false;
-    let mut byte: u8 = 255;
-    for i in 0..8u8 {
-        let at = i as usize;
-        let c = slot::foresee(a, SlotNo(i), h, all[at]);
-        match c {
-            Change::Nothing => {}
-            Change::To(p) => {
-                all[at] = phase::in_phase(p, all[at]);
-            }
-            Change::More => {
-                let from = Slot::BYTES * at;
-                let to = from + Slot::BYTES;
-                let x = slot::next(a, SlotNo(i), h, all[at], &mut mem[from..to]);
-                let next = x.slot;
-                all[at] = next;
-                ack = ack | x.ack;
-                byte = either(driven, byte, x.byte);
-                driven = driven | x.drives;
-            }
-        }
-    }
-    let last = either(driven, byte, 255);
-    let answer = answer_of(a, ack, last);
-    Outcome {
-        bus: Bus { slots: all },
-        answer,
     }
 }
 
@@ -129,7 +55,7 @@ pub fn event_in_range(bus: Bus, mem: &mut [u8], e: Event) -> Outcome
     let kind = ruling::kind_at(slots, n);
     let ruling = ruling::ruled(kind, e);
     match ruling {
-        Ruling::Taken(a) => taken(slots, mem, a),
+        Ruling::Taken(a) => slots::taken(slots, mem, a),
         Ruling::Refused(x) => refused(bus, x),
     }
 }

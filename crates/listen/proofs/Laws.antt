@@ -6,7 +6,7 @@ use Rattle.rules.specs.declared.Phase.{Phase}
 use Rattle.rules.specs.declared.Slot.{Slot}
 use Rattle.rules.specs.Slot.{standing, byteIn, acksIn, acks}
 use Rattle.rules.proofs.Run.Cases.{byte-next}
-use Rattle.listen.specs.declared.Heed.{Heed}
+use Rattle.obey.specs.declared.Heed.{Heed}
 use Rattle.listen.specs.Heeded.{heeded}
 
 -- by the phase that the slot stands in

@@ -4,7 +4,7 @@ use Prim.Native.Nat.{ℕ}
 use Rattle.rules.specs.declared.Act.the-variants as act
 use Rattle.rules.specs.declared.Slot.{Slot}
 use Rattle.rules.specs.Slot.{slotNext, acks}
-use Rattle.listen.specs.declared.Heed.{Heed}
+use Rattle.obey.specs.declared.Heed.{Heed}
 
 unfoldable pub heeded : ℕ → ℕ → Slot → Heed
 heeded n b s = record { slot = slotNext n (act.Byte b) s; ack = acks n b s }

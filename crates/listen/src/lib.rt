@@ -1,133 +1,18 @@
 // A byte from the master at one slot: what the slot makes of it, and whether it acknowledges.
 ghost use mathlib.Core.Path.{_≡_};
-ghost use mathlib.Core.Bool.{true, false, not, cond, _&&_};
-ghost use lib.Dec.{eqb, leb};
-ghost use lib.ListN.{set};
-ghost use Rattle.rules.specs.Fields.{inPhase, expecting, holding};
-ghost use Rattle.rules.specs.Sensor.{registerOf};
-ghost use Rattle.rules.specs.Control.{heardOf, acksHeard, obeyed};
+ghost use mathlib.Core.Bool.{true, not};
+ghost use lib.Dec.{leb};
+ghost use Rattle.rules.specs.Control.{heardOf};
 ghost use Rattle.rules.specs.Memory.{guarded, dataByte};
 ghost use Rattle.rules.specs.Slot.{pointer, firstByte, secondByte};
 ghost use Rattle.rules.specs.Refusals.{slotInRange};
 ghost use Rattle.listen.specs.Heeded.{heeded};
-use rules::BlockNo;
+use obey::Heed;
 use rules::Heard;
 use rules::Phase;
 use rules::Sensor;
 use rules::Slot;
 use rules::SlotNo;
-
-// A slot after a byte from the master, and whether it acknowledges.
-pub struct Heed {
-    pub slot: Slot,
-    pub ack: bool,
-}
-
-fn ack(slot: Slot) -> Heed
-    ensures { λ r. ⌜ r ≡ record { slot = slot; ack = true } ⌝ }
-{
-    Heed { slot, ack: true }
-}
-
-fn nack(slot: Slot) -> Heed
-    ensures { λ r. ⌜ r ≡ record { slot = slot; ack = false } ⌝ }
-{
-    Heed { slot, ack: false }
-}
-
-// Which present slot acknowledges a control byte, if it is in no write cycle.
-fn acks_heard(h: Heard, n: SlotNo, s: Slot) -> bool
-    ensures { λ r. ⌜ r ≡ acksHeard h (n .0) s ⌝ }
-{
-    match h {
-        Heard::Memory { select, read: _ } => select.0 == n.0,
-        Heard::Sensor { select, read: _ } => (select.0 == n.0) & (s.kind == 2),
-        Heard::Protect(k) => s.voltage & !memory::protects(k, s),
-        Heard::ClearAll => s.voltage,
-        Heard::ReadProtection(k) => !memory::protects(k, s),
-        Heard::SelectHalf(_) => true,
-        Heard::ReadHalf => s.half == 0,
-        Heard::Nothing => false,
-    }
-}
-
-// The slot with a protect begun: block k is to come to the protection that stands.
-fn protecting(k: BlockNo, s: Slot) -> Slot
-    ensures { λ r. ⌜ r ≡ inPhase Phase.CommandAddress (expecting (set (s .protection) (k .0) true) s) ⌝ }
-{
-    let protection = s.protection;
-    let coming = memory::with_block(k, protection);
-    Slot {
-        coming,
-        phase: Phase::CommandAddress,
-        ..s
-    }
-}
-
-// The slot with a sensor read begun: both bytes are fixed.
-fn fixed(s: Slot) -> Slot
-    ensures { λ r. ⌜ r ≡ inPhase Phase.SensorReadHigh (holding (registerOf (s .sensor) (s .sensor .pointer)) s) ⌝ }
-{
-    let x = s.sensor;
-    let word = sensor::register(x, x.pointer);
-    let sensor = Sensor { word, ..x };
-    Slot {
-        phase: Phase::SensorReadHigh,
-        sensor,
-        ..s
-    }
-}
-
-// What the ACK of a control byte does.
-fn obeyed(h: Heard, s: Slot) -> Slot
-    ensures { λ r. ⌜ r ≡ obeyed h s ⌝ }
-{
-    match h {
-        Heard::Memory { select: _, read } => {
-            if read {
-                return phase::in_phase(Phase::MemoryRead, s);
-            }
-            phase::in_phase(Phase::MemoryCounter, s)
-        }
-        Heard::Sensor { select: _, read } => {
-            if read {
-                return fixed(s);
-            }
-            phase::in_phase(Phase::SensorPointer, s)
-        }
-        Heard::Protect(k) => protecting(k, s),
-        Heard::ClearAll => Slot {
-            coming: [false; 4],
-            phase: Phase::CommandAddress,
-            ..s
-        },
-        Heard::ReadProtection(_) => phase::in_phase(Phase::Deaf, s),
-        Heard::SelectHalf(half) => Slot {
-            half,
-            phase: Phase::HalfSelected,
-            ..s
-        },
-        Heard::ReadHalf => phase::in_phase(Phase::Deaf, s),
-        Heard::Nothing => phase::in_phase(Phase::Deaf, s),
-    }
-}
-
-// A slot in a write cycle acknowledges no control byte.
-pub fn acks_control(h: Heard, n: SlotNo, s: Slot) -> bool
-    ensures { λ r. ⌜ r ≡ (eqb (s .left) 0 && acksHeard h (n .0) s) ⌝ }
-{
-    (s.left == 0) & acks_heard(h, n, s)
-}
-
-// A control byte, which asks for h, at slot n.
-fn controlled(h: Heard, n: SlotNo, s: Slot) -> Heed
-    ensures { λ r. ⌜ r ≡ record { slot = cond (eqb (s .left) 0 && acksHeard h (n .0) s) (obeyed h s) (inPhase Phase.Deaf s); ack = eqb (s .left) 0 && acksHeard h (n .0) s } ⌝ }
-{
-    if acks_control(h, n, s) {
-        return ack(obeyed(h, s));
-    }
-    nack(phase::in_phase(Phase::Deaf, s))
-}
 
 // A data byte: refused in a protected block, else latched.
 fn data_byte(b: u8, s: Slot) -> Heed
@@ -135,9 +20,9 @@ fn data_byte(b: u8, s: Slot) -> Heed
     ensures { λ r. ⌜ r ≡ record { slot = dataByte b s; ack = not (guarded s) } ⌝ }
 {
     if memory::guarded(s) {
-        return nack(phase::in_phase(Phase::Deaf, phase::abandoned(s)));
+        return obey::nack(phase::in_phase(Phase::Deaf, phase::abandoned(s)));
     }
-    ack(memory::latching(b, s))
+    obey::ack(memory::latching(b, s))
 }
 
 // A sensor write's pointer byte.
@@ -147,13 +32,13 @@ fn pointed(b: u8, s: Slot) -> Heed
     if b <= 9 {
         let x = s.sensor;
         let sensor = Sensor { pointer: b, ..x };
-        return ack(Slot {
+        return obey::ack(Slot {
             phase: Phase::SensorHigh,
             sensor,
             ..s
         });
     }
-    nack(phase::lost(Phase::SensorPointer, s))
+    obey::nack(phase::lost(Phase::SensorPointer, s))
 }
 
 // A sensor write's first byte is held.
@@ -188,20 +73,20 @@ pub fn byte(s: Slot, n: SlotNo, b: u8, h: Heard) -> Heed
 {
     let phase = phase::standing(s);
     match phase {
-        Phase::Idle => nack(s),
-        Phase::Control => controlled(h, n, s),
-        Phase::Deaf => nack(s),
-        Phase::MemoryCounter => ack(memory::loaded(b, s)),
+        Phase::Idle => obey::nack(s),
+        Phase::Control => obey::controlled(h, n, s),
+        Phase::Deaf => obey::nack(s),
+        Phase::MemoryCounter => obey::ack(memory::loaded(b, s)),
         Phase::MemoryData => data_byte(b, s),
-        Phase::MemoryRead => nack(phase::lost(Phase::MemoryRead, s)),
-        Phase::HalfSelected => ack(s),
-        Phase::CommandAddress => ack(phase::in_phase(Phase::CommandData, s)),
-        Phase::CommandData => ack(phase::in_phase(Phase::CommandStop, s)),
-        Phase::CommandStop => nack(phase::lost(Phase::CommandStop, s)),
+        Phase::MemoryRead => obey::nack(phase::lost(Phase::MemoryRead, s)),
+        Phase::HalfSelected => obey::ack(s),
+        Phase::CommandAddress => obey::ack(phase::in_phase(Phase::CommandData, s)),
+        Phase::CommandData => obey::ack(phase::in_phase(Phase::CommandStop, s)),
+        Phase::CommandStop => obey::nack(phase::lost(Phase::CommandStop, s)),
         Phase::SensorPointer => pointed(b, s),
-        Phase::SensorHigh => ack(first_byte(b, s)),
-        Phase::SensorLow => ack(second_byte(b, s)),
-        Phase::SensorReadHigh => nack(phase::lost(Phase::SensorReadHigh, s)),
-        Phase::SensorReadLow => nack(phase::lost(Phase::SensorReadLow, s)),
+        Phase::SensorHigh => obey::ack(first_byte(b, s)),
+        Phase::SensorLow => obey::ack(second_byte(b, s)),
+        Phase::SensorReadHigh => obey::nack(phase::lost(Phase::SensorReadHigh, s)),
+        Phase::SensorReadLow => obey::nack(phase::lost(Phase::SensorReadLow, s)),
     }
 }

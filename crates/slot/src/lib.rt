@@ -73,7 +73,7 @@ fn at_byte(b: u8, h: Heard, n: SlotNo, s: Slot) -> Change
         Phase::Idle => Change::Nothing,
         Phase::Deaf => Change::Nothing,
         Phase::Control => {
-            if listen::acks_control(h, n, s) {
+            if obey::acks_control(h, n, s) {
                 return Change::More;
             }
             Change::To(Phase::Deaf)
@@ -205,7 +205,7 @@ pub fn next(a: Act, n: SlotNo, h: Heard, s: Slot, part: &mut [u8]) -> Step
         Act::Read(more) => driving(more, s, part),
         Act::Stop => quiet(signal::signalled(Signal::Stop, s)),
         Act::Timeout => quiet(signal::signalled(Signal::Timeout, s)),
-        Act::Tick => quiet(memory::tick(s, part)),
+        Act::Tick => quiet(cycle::tick(s, part)),
         Act::Voltage(k, on) => voltage(k, on, n, s),
         Act::Power => quiet(signal::signalled(Signal::Power, s)),
         Act::Temperature(k, t) => temperature(k, t, n, s),
