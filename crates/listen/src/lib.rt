@@ -62,7 +62,7 @@ fn second_byte(b: u8, s: Slot) -> Slot
     ensures { λ r. ⌜ r ≡ secondByte b s ⌝ }
 {
     let x = s.sensor;
-    let sensor = sensor::written(x, x.pointer, x.word / 256 * 256 + (b as u16));
+    let sensor = registers::written(x, x.pointer, x.word / 256 * 256 + (b as u16));
     phase::lost(Phase::SensorLow, Slot { sensor, ..s })
 }
 

@@ -67,7 +67,7 @@ fn fixed(s: Slot) -> Slot
     ensures { λ r. ⌜ r ≡ inPhase Phase.SensorReadHigh (holding (registerOf (s .sensor) (s .sensor .pointer)) s) ⌝ }
 {
     let x = s.sensor;
-    let word = sensor::register(x, x.pointer);
+    let word = registers::register(x, x.pointer);
     let sensor = Sensor { word, ..x };
     Slot {
         phase: Phase::SensorReadHigh,

@@ -9,8 +9,8 @@ use Rattle.lists.specs.Tests.{cond-ap}
 use Rattle.rules.specs.Fields.{withHigh, withLow, withCritical}
 use Rattle.rules.specs.Open.{open-fields}
 use Rattle.rules.specs.Sensor.{limitBits, criticalLocked, limitsLocked, written}
-use Rattle.sensor.proofs.written.Statement.{statement}
-use Rattle.sensor.proofs.written.Tie as tie
+use Rattle.registers.proofs.written.Statement.{statement}
+use Rattle.registers.proofs.written.Tie as tie
 
 pub written-spec : {M : Type 1} → statement M
 unfolding open-fields written

@@ -2,8 +2,8 @@
 -- Assumes nothing.
 use borrow.Author.Needs.{needs}
 use Rattle.rules.specs.Sensor.{limitsLocked}
-use Rattle.sensor.proofs.limits_locked.Statement.{statement}
-use Rattle.sensor.proofs.limits_locked.Tie as tie
+use Rattle.registers.proofs.limits_locked.Statement.{statement}
+use Rattle.registers.proofs.limits_locked.Tie as tie
 
 returns : tie.Need-returns
 unfolding limitsLocked

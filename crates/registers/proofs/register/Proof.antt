@@ -3,8 +3,8 @@
 use borrow.Author.Needs.{needs}
 use borrow.Author.Tests.{ne-eqb}
 use Rattle.rules.specs.Sensor.{registerOf}
-use Rattle.sensor.proofs.register.Statement.{statement}
-use Rattle.sensor.proofs.register.Tie as tie
+use Rattle.registers.proofs.register.Statement.{statement}
+use Rattle.registers.proofs.register.Tie as tie
 
 pub register-spec : {M : Type 1} → statement M
 unfolding registerOf

@@ -2,8 +2,8 @@
 -- Assumes nothing.
 use borrow.Author.Needs.{needs}
 use Rattle.rules.specs.Refusals.{keptIn, sensorInRange}
-use Rattle.sensor.proofs.in_range.Statement.{statement}
-use Rattle.sensor.proofs.in_range.Tie as tie
+use Rattle.registers.proofs.in_range.Statement.{statement}
+use Rattle.registers.proofs.in_range.Tie as tie
 
 returns : tie.Need-returns
 unfolding keptIn sensorInRange

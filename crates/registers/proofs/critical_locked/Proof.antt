@@ -2,8 +2,8 @@
 -- Assumes nothing.
 use borrow.Author.Needs.{needs}
 use Rattle.rules.specs.Sensor.{criticalLocked}
-use Rattle.sensor.proofs.critical_locked.Statement.{statement}
-use Rattle.sensor.proofs.critical_locked.Tie as tie
+use Rattle.registers.proofs.critical_locked.Statement.{statement}
+use Rattle.registers.proofs.critical_locked.Tie as tie
 
 returns : tie.Need-returns
 unfolding criticalLocked

@@ -2,8 +2,8 @@
 -- Assumes nothing.
 use borrow.Author.Needs.{needs}
 use Rattle.rules.specs.Sensor.{lockedWrite, configured}
-use Rattle.sensor.proofs.configuration_after.Statement.{statement}
-use Rattle.sensor.proofs.configuration_after.Tie as tie
+use Rattle.registers.proofs.configuration_after.Statement.{statement}
+use Rattle.registers.proofs.configuration_after.Tie as tie
 
 pub configuration-after-spec : {M : Type 1} → statement M
 unfolding lockedWrite configured
