@@ -3,7 +3,7 @@ ghost use mathlib.Core.Path.{_≡_};
 ghost use Rattle.lists.specs.Each.{allOf};
 ghost use Rattle.rules.specs.Events.{actOf};
 ghost use Rattle.rules.specs.Refusals.{unknownKind, kindAt, wrongSlot, outside, wrongValue, goodPair, lengthInRange, slotInRange, ruledFor};
-ghost use mathlib.Core.Bool.{false};
+ghost use mathlib.Core.Bool.{false, cond};
 ghost use Rattle.ruling.specs.Kinds.{kindsIn};
 use rules::Act;
 use rules::Event;
@@ -13,16 +13,24 @@ use rules::Ruling;
 use rules::Slot;
 use rules::SlotNo;
 
-// The kind of slot n; 0, absent, where there is no such slot.
+// One of two numbers.
+fn either(first: bool, x: u8, y: u8) -> u8
+    ensures { λ r. ⌜ r ≡ cond first x y ⌝ }
+{
+    if first { x } else { y }
+}
+
+// The kind of slot n; 0, absent, where there is no such slot. Each slot is looked at in its place, so that none is copied.
 pub fn kind_at(slots: [Slot; 8], n: SlotNo) -> u8
     ensures { λ r. ⌜ r ≡ kindAt (kindsIn slots) n ⌝ }
 {
-    let at = n.0 as usize;
-    if at < 8 {
+    let mut kind: u8 = 0;
+    for i in 0..8u8 {
+        let at = i as usize;
         let s = slots[at];
-        return s.kind;
+        kind = either(i == n.0, s.kind, kind);
     }
-    0
+    kind
 }
 
 // Row 2: the kind is not 1 to 9.

@@ -2,10 +2,15 @@
 -- Assumes nothing.
 use mathlib.Core.Path.{_≡_, sym, _∙_, ap}
 use mathlib.Core.Bool.{Bool, not, cond, _&&_}
+use borrow.Author.Tests.{ne-eqb}
+use lib.IntN.{ℤ}
 use Rattle.rules.specs.declared.Phase.{Phase}
+use Rattle.rules.specs.declared.Sensor.{Sensor}
 use Rattle.rules.specs.declared.Slot.{Slot}
 use Rattle.rules.specs.declared.Traits.{Traits}
-use Rattle.rules.specs.Fields.{withVoltage}
+use Rattle.rules.specs.Fields.{withVoltage, withSensor}
+use Rattle.rules.specs.Modelled.{absent}
+use Rattle.rules.specs.Sensor.{converted}
 use Rattle.rules.specs.Slot.{traits, commanding, standing, lost, switched}
 
 -- high voltage, by the traits of the phase that the slot stands in
@@ -15,3 +20,8 @@ unfolding switched
 switched-by r s on q t going e f g h =
     h ∙ ap (λ (x : Bool). withVoltage on (cond x (lost q s) s)) (sym g ∙ ap (λ (x : Traits). x .command && s .voltage && not on) f)
     ∙ ap (λ (p : Phase). withVoltage on (cond (commanding p && s .voltage && not on) (lost p s) s)) e
+
+-- a temperature at a slot that is there
+pub heated-by : (r s : Slot) (x : Sensor) (t : ℤ) → (s .kind ≡ 0 → ⊥) → x ≡ converted (s .sensor) t → r ≡ withSensor x s → r ≡ cond (absent s) s (withSensor (converted (s .sensor) t) s)
+unfolding absent
+heated-by r s x t k e f = f ∙ rw (ne-eqb (s .kind) 0 k, e)

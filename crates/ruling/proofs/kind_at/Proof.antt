@@ -1,23 +1,65 @@
--- Inside the array the slot's kind, outside the default.
+-- Slot by slot: the kind of slot n, once it has been passed.
 -- Assumes nothing.
-use mathlib.Core.Path.{sym}
-use native.Mathlib.Omega.{arith}
 use borrow.Author.Needs.{needs}
-use lib.ListN.{List·getD-map, List·getD-eq-default, length-map}
-use Rattle.rules.specs.declared.Slot.{Slot}
-use Rattle.rules.specs.Refusals.{kindAt}
-use Rattle.ruling.specs.Kinds.{kindsIn}
-use Rattle.ruling.proofs.Laws.{noSlot}
+use mathlib.Core.Path.{_≡_, sym, _∙_}
+use Prim.Native.Nat.{_≤_, _-_}
+use native.Mathlib.Omega.{arith}
+use lib.ListN.{length}
+use Rattle.ruling.proofs.Laws.{kindUpTo, kind-none, kind-step, kind-full}
 use Rattle.ruling.proofs.kind_at.Statement.{statement}
 use Rattle.ruling.proofs.kind_at.Tie as tie
 
+abbrev Inv-loop : tie.InvT-loop
+Inv-loop n slots kind₀ i₀ kind i = (i ≤ 8) × (length slots ≡ 8) × (kind ≡ kindUpTo slots n i)
+
+abbrev μ-loop : tie.MeasureT-loop
+μ-loop n slots kind₀ i₀ kind i = 8 - i
+
+loop-holds : tie.Need-loop-holds Inv-loop μ-loop
+loop-holds c = (omega arith, search needs, sym (kind-none (c .args .t1) (c .args .n)))
+
+cast-at : tie.Need-cast-at Inv-loop μ-loop
+cast-at c = search needs
+
+mul-s : tie.Need-mul-s Inv-loop μ-loop
+mul-s c = search needs
+
+array-copy-out-s : tie.Need-array-copy-out-s Inv-loop μ-loop
+array-copy-out-s c = search needs
+
+either-requires : tie.Need-either-requires Inv-loop μ-loop
+either-requires c κs = search needs
+
+add-i : tie.Need-add-i Inv-loop μ-loop
+add-i c = search needs
+
+loop-less : tie.Need-loop-less Inv-loop μ-loop
+loop-less c = search needs
+
+loop-again : tie.Need-loop-again Inv-loop μ-loop
+loop-again c =
+    let l = c .before .before .before .before .loop in
+    let g = c .before .before .before .before .before .args in
+    (omega arith, l .inv .1, kind-step (g .t1) (g .n) (l .i) (l .kind) _ (l .inv .2) (c .either .ensures))
+
+returns : tie.Need-returns Inv-loop μ-loop
+returns c =
+    let l = c .before .loop in
+    let g = c .before .before .args in
+    l .inv .2 ∙ kind-full (g .t1) (g .n) (l .i) (omega arith)
+
 pub kind-at-spec : {M : Type 1} → statement M
-unfolding kindAt
 kind-at-spec =
     tie.close
     (tie.spec
-    (λ c. search needs)
-    (λ c. search needs)
-    (λ c. search needs)
-    (λ c. sym (List·getD-map (λ (s : Slot). s .kind) (c .before .before .before .args .t1) (c .before .before .before .args .n .0) noSlot))
-    (λ c. sym (List·getD-eq-default (kindsIn (c .before .before .args .t1)) 0 (simp length-map (omega arith)))))
+    Inv-loop
+    μ-loop
+    loop-holds
+    cast-at
+    mul-s
+    array-copy-out-s
+    either-requires
+    add-i
+    loop-less
+    loop-again
+    returns)

@@ -1,10 +1,14 @@
 -- A slot that is there has its sensor converted.
 -- Assumes nothing.
 use borrow.Author.Needs.{needs}
-use borrow.Author.Tests.{eq-eqb, ne-eqb}
+use mathlib.Core.Path.{refl, _∙_, ap}
+use lib.IntN.{ℤ}
+use borrow.Author.Tests.{eq-eqb}
 use Rattle.rules.specs.Fields.{withSensor}
 use Rattle.rules.specs.Modelled.{absent}
 use Rattle.sensor.proofs.Signed.{back}
+use Rattle.rules.specs.Sensor.{converted}
+use Rattle.signal.proofs.Laws.{heated-by}
 use Rattle.signal.proofs.heated.Statement.{statement}
 use Rattle.signal.proofs.heated.Tie as tie
 
@@ -15,4 +19,4 @@ heated-spec =
     (tie.spec
     (λ c. rw (eq-eqb _ _ (c .if1 .taken)))
     (λ c κs. search needs)
-    (λ c. rw (ne-eqb _ _ (c .before .before .before .before .before .before .if1 .left), c .before .before .before .before .converted .ensures, back (c .before .before .before .before .before .before .before .before .args .t) (c .before .before .before .before .before .before .before .before .fits .t .sfits))))
+    (λ c. let g = c .before .before .before .before .before .before .before .before in heated-by _ _ _ _ (c .before .before .before .before .before .before .if1 .left) (c .before .before .before .before .converted .ensures ∙ ap (λ (z : ℤ). converted (g .args .s .sensor) z) (back (g .args .t) (g .fits .t .sfits))) refl))
