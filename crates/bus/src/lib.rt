@@ -3,14 +3,13 @@
 ghost use mathlib.Core.Path.{_≡_};
 ghost use mathlib.Core.Bool.{true, cond};
 ghost use mathlib.Core.List.{map};
+ghost use Prim.Native.Nat.{_+_, _*_};
+ghost use denote.Ref.{ptr};
 ghost use lib.ListN.{length};
-ghost use Rattle.lists.specs.Each.{allOf};
 ghost use Rattle.rules.specs.Modelled.{memoryBytes};
 ghost use Rattle.rules.specs.Fresh.{setupSlot};
-ghost use Rattle.rules.specs.Refusals.{slotInRange, inRange, setupOf};
+ghost use Rattle.rules.specs.Refusals.{inRange, setupOf};
 ghost use Rattle.rules.specs.Reader.{noBlock, blockBytes};
-ghost use denote.Ref.{ptr};
-ghost use Prim.Native.Nat.{_+_, _*_};
 ghost use Rattle.rules.specs.Runs.{eventOf};
 use rules::Answer;
 use rules::BlockNo;
