@@ -1,4 +1,4 @@
 -- The memory: when its bytes and its protection change, and to what.
 pub mod Stored
-pub mod InStep
+pub mod Reached
 pub mod Protection

@@ -72,7 +72,7 @@ setup-number ps m l = cond-cases (λ (o : Outcome). length (o .bus .slots) ≡ s
 pub setup-idle : (k : ℕ) (ps : List Pair) (m : List ℕ) → length ps ≡ slotCount → k < slotCount → Idles (slot k (begun ps m))
 unfolding freshSlot
 setup-idle k ps m l h =
-    every-at Idles k (slotsOf (begun ps m)) absentSlot (rw (setup-number ps m l) h) (setup-everywhere Idles (λ kind length. refl) ps)
+    every-at Idles k (slotsOf (begun ps m)) absentSlot (rw (setup-number ps m l) h) (setup-everywhere Idles (λ p e. unfold setupSlot freshSlot in refl) (unfold absentSlot freshSlot in refl) ps)
 
 -- "Take two runs on buses set up alike, with equal memory in slot s [..]"
 pub demand3-from-setup : (k : ℕ) → k < slotCount → (ps : List Pair) → length ps ≡ slotCount

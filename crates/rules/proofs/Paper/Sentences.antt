@@ -24,12 +24,13 @@ use Rattle.rules.specs.declared.Slot.{Slot}
 use Rattle.rules.specs.declared.SlotNo.{SlotNo}
 use Rattle.rules.specs.Modelled.{absent, sensing, addressOf}
 use Rattle.rules.specs.Open.{open-fields}
-use Rattle.rules.specs.Fields.{inPhase, withVoltage, withSensor, withTemperature}
+use Rattle.rules.specs.Fields.{inPhase, withVoltage, withSensor}
 use Rattle.rules.specs.Fresh.{freshSlot, freshSensor, powered}
-use Rattle.rules.specs.Sensor.{signedOf, loweredOf, flagOf, criticalFlag, highFlag, lowFlag, shutDown, converted}
+use Rattle.rules.specs.Sensor.{signedOf, loweredOf, flagOf, criticalFlag, highFlag, lowFlag, converted}
 use Rattle.rules.specs.Control.{commandOf, heardOf, acksHeard, acksControl, controlled}
 use Rattle.rules.specs.Memory.{emptied, abandoned, cancelled, guarded, dataByte}
 use Rattle.rules.specs.Slot.{standing, withSensorIn, commanding, letGo, lost, switched, byteIn, acksIn, readIn, drivesIn, drivenIn, presentNext, slotNext, acks, drives, driven}
+use Rattle.rules.proofs.Registers.Words.{word-fixed}
 use Rattle.rules.proofs.Run.Cases.{next-cases}
 use Rattle.rules.specs.Refusals.{wrongLength, inRange, kindsOf, kindAt}
 use Rattle.rules.specs.Reader.{noBlock, blockBytes}
@@ -145,10 +146,6 @@ unfolding powered freshSlot open-fields
 power-cycle s = (refl, refl, refl, refl, refl, refl, refl)
 
 -- "both bytes are fixed at the control byte's ACK": no temperature changes what a slot drives
-word-fixed : (x : sensor.Sensor) (t : ℤ) → (converted x t) .word ≡ x .word
-unfolding converted withTemperature
-word-fixed x t = cond-cases (λ (y : sensor.Sensor). y .word ≡ x .word) (shutDown x) (λ e. refl) (λ e. refl)
-
 driven-fixed : (p : Phase) (x : sensor.Sensor) (s : Slot) (m : List ℕ) → x .word ≡ s .sensor .word → drivenIn p (withSensor x s) m ≡ drivenIn p s m
 unfolding drivenIn withSensor addressOf
 driven-fixed Idle x s m e = refl
