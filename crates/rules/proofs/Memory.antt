@@ -1,4 +1,6 @@
 -- The memory: when its bytes and its protection change, and to what.
 pub mod Stored
 pub mod Reached
+pub mod Together
+pub mod Story
 pub mod Protection
