@@ -3,4 +3,5 @@ pub mod Stored
 pub mod Reached
 pub mod Together
 pub mod Story
+pub mod History
 pub mod Protection
