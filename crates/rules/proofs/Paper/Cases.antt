@@ -1,25 +1,26 @@
 -- Document 01's whole case and its marked bench cases: one table, run on the definitions of the whole bus from setup, under one theorem.
 -- Assumes nothing.
-use Prim.Native.Nat.{ℕ, _%_}
+use Prim.Native.Nat.{ℕ, zero, suc, _%_}
 use mathlib.Core.Path.{_≡_, refl}
 use mathlib.Core.List.{List, [], _∷_, _++_, map}
 use lib.IntN.{ℤ, pos, negsuc}
 use lib.ListN.{getD, set, replicate}
 use Rattle.rules.specs.declared.Answer.{Answer}
-use Rattle.rules.specs.declared.Answer.the-variants.{Nothing, Ack, Nack, Data}
 use Rattle.rules.specs.declared.Event.{Event}
 use Rattle.rules.specs.declared.Pair.{Pair}
+use Rattle.rules.specs.Events.{letterOf, valueOf}
 use Rattle.rules.specs.Fresh.{absentSlot}
 use Rattle.rules.specs.Refusals.{setupOf}
 use Rattle.rules.specs.Runs.{Bench, after, answers}
 use Rattle.rules.specs.Open.{open-all}
 
--- a case: what it starts from and what is done; the answers in order, bytes of the memory after it (place, byte), and bits 12:0 of register 05h (slot, bits)
+-- a case: what it starts from and what is done; the answers in order, by the paper's letters and values, every byte of the memory that has
+-- changed after it (place, byte), and bits 12:0 of register 05h (slot, bits)
 pub record Case : Type 0 where
   pub setup : List Pair
   pub memory : List ℕ
   pub run : List Event
-  pub shows : List Answer
+  pub shows : List (ℕ × ℕ)
   pub bytes : List (ℕ × ℕ)
   pub bits : List (ℕ × ℕ)
 
@@ -52,21 +53,37 @@ highVoltage = event 7 0 (pos 1)
 abbrev temperature : ℤ → Event
 temperature t = event 9 0 t
 
+-- the paper's letters for answers, each with its value
+abbrev Said : Type 0
+Said = ℕ × ℕ
+
+abbrev Nothing : Said
+Nothing = (0x2D, 0)
+
+abbrev Ack : Said
+Ack = (0x41, 0)
+
+abbrev Nack : Said
+Nack = (0x4E, 0)
+
+abbrev Data : ℕ → Said
+Data b = (0x44, b)
+
 -- an exchange of bytes, and its answers; the answers of a stretch of events that answer nothing
 abbrev sent : List ℕ → List Event
 sent bs = start ∷ map byte bs ++ stop ∷ []
 
-abbrev acked : List ℕ → List Answer
+abbrev acked : List ℕ → List Said
 acked bs = Nothing ∷ map (λ b. Ack) bs ++ Nothing ∷ []
 
-abbrev silent : ℕ → List Answer
+abbrev silent : ℕ → List Said
 silent n = replicate n Nothing
 
 -- register 05h of slot 0 read over the bus, and its answers
 abbrev thermometer : List Event
 thermometer = start ∷ byte 0x30 ∷ byte 0x05 ∷ start ∷ byte 0x31 ∷ more ∷ last ∷ stop ∷ []
 
-abbrev shownAs : ℕ → ℕ → List Answer
+abbrev shownAs : ℕ → ℕ → List Said
 shownAs high low = Nothing ∷ Ack ∷ Ack ∷ Nothing ∷ Ack ∷ Data high ∷ Data low ∷ Nothing ∷ []
 
 -- slot 0 of a kind and a length, the others absent; memory of FFh
@@ -76,7 +93,7 @@ alone kind length = record { kind = kind; length = length } ∷ replicate 7 (rec
 abbrev blank : List ℕ
 blank = replicate 4096 0xFF
 
-abbrev inMemory : ℕ → List Event → List Answer → List (ℕ × ℕ) → Case
+abbrev inMemory : ℕ → List Event → List Said → List (ℕ × ℕ) → Case
 inMemory length run shows bytes = record { setup = alone 1 length; memory = blank; run = run; shows = shows; bytes = bytes; bits = [] }
 
 abbrev heated : ℤ → ℕ → Case
@@ -85,11 +102,16 @@ heated t bits = record { setup = alone 2 1; memory = blank; run = temperature t 
 abbrev upTo17 : List ℕ
 upTo17 = 1 ∷ 2 ∷ 3 ∷ 4 ∷ 5 ∷ 6 ∷ 7 ∷ 8 ∷ 9 ∷ 10 ∷ 11 ∷ 12 ∷ 13 ∷ 14 ∷ 15 ∷ 16 ∷ 17 ∷ []
 
+-- n places from one on, with values that go up by one
+pub pairedFrom : ℕ → ℕ → ℕ → List (ℕ × ℕ)
+pairedFrom place zero value = []
+pairedFrom place (suc n) value = (place, value) ∷ pairedFrom (suc place) n (suc value)
+
 -- protect block 0, protect block 3, clear all: each with its two bytes, stop and tick
 abbrev command : ℕ → List Event
 command b = sent (b ∷ 0 ∷ 0 ∷ []) ++ tick ∷ []
 
-abbrev commanded : List Answer
+abbrev commanded : List Said
 commanded = acked (0 ∷ 0 ∷ 0 ∷ []) ++ silent 1
 
 abbrev table : List Case
@@ -101,10 +123,10 @@ table =
     ((0, 0x5A) ∷ [])
     -- 1. "Write from 1Eh: 1, 2, 3 land at 1Eh, 1Fh, 10h."
     ∷ inMemory 1 (sent (0xA0 ∷ 0x1E ∷ 1 ∷ 2 ∷ 3 ∷ []) ++ tick ∷ []) (acked (0 ∷ 0 ∷ 0 ∷ 0 ∷ 0 ∷ []) ++ silent 1)
-    ((0x1E, 1) ∷ (0x1F, 2) ∷ (0x10, 3) ∷ (0x20, 0xFF) ∷ [])
+    ((0x1E, 1) ∷ (0x1F, 2) ∷ (0x10, 3) ∷ [])
     -- 2. "Seventeen bytes from 20h: the 17th stands at 20h, the 2nd at 21h."
     ∷ inMemory 1 (sent (0xA0 ∷ 0x20 ∷ upTo17) ++ tick ∷ []) (acked (0 ∷ 0 ∷ upTo17) ++ silent 1)
-    ((0x20, 17) ∷ (0x21, 2) ∷ (0x30, 0xFF) ∷ [])
+    ((0x20, 17) ∷ pairedFrom 0x21 15 2)
     -- 3. "Counter FFh, half 1: reads address 511, then 256."
     ∷ record {
       setup = alone 1 1;
@@ -116,7 +138,7 @@ table =
     }
     -- 4. "Data, repeated start, stop: memory unchanged."
     ∷ inMemory 1 (start ∷ byte 0xA0 ∷ byte 0x00 ∷ byte 0x5A ∷ start ∷ stop ∷ tick ∷ []) (Nothing ∷ Ack ∷ Ack ∷ Ack ∷ silent 3)
-    ((0, 0xFF) ∷ [])
+    []
     -- 5. "Length 3: NACK after two ticks, ACK after three."
     ∷ inMemory 3
     (sent (0xA0 ∷ 0x00 ∷ 0x5A ∷ []) ++ tick ∷ tick ∷ start ∷ byte 0xA0 ∷ tick ∷ start ∷ byte 0xA0 ∷ [])
@@ -126,7 +148,7 @@ table =
     ∷ inMemory 1
     (highVoltage ∷ command 0x62 ++ start ∷ byte 0xA0 ∷ byte 0x00 ∷ byte 0x5A ∷ stop ∷ tick ∷ [])
     (Nothing ∷ commanded ++ Nothing ∷ Ack ∷ Ack ∷ Nack ∷ silent 2)
-    ((0, 0xFF) ∷ [])
+    []
     -- 7. "66h with blocks 0 and 3 protected: both clear."
     ∷ inMemory 1
     (highVoltage ∷ command 0x62 ++ command 0x60 ++ start ∷ byte 0x63 ∷ start ∷ byte 0x61 ∷ stop ∷ command 0x66 ++ start ∷ byte 0x63 ∷ start ∷ byte 0x61 ∷ stop ∷ [])
@@ -164,20 +186,26 @@ table =
 abbrev begun : Case → Bench
 begun c = record { bus = setupOf (c .setup) .bus; memory = c .memory }
 
-abbrev byteAt : Bench → ℕ × ℕ → ℕ
-byteAt x p = getD (x .memory) (p .0) 256
+-- an answer by the paper's letter and value
+abbrev said : Answer → Said
+said a = (letterOf a, valueOf a)
+
+-- the memory with some bytes changed, and no other
+pub changed : List (ℕ × ℕ) → List ℕ → List ℕ
+changed [] m = m
+changed (p ∷ ps) m = changed ps (set m (p .0) (p .1))
 
 abbrev bitsAt : Bench → ℕ × ℕ → ℕ
 bitsAt x p = (getD (x .bus .slots) (p .0) absentSlot) .sensor .temperature % 8192
 
-abbrev got : Case → List Answer × List ℕ × List ℕ
+abbrev got : Case → List Said × List ℕ × List ℕ
 got c =
     let x : Bench = after (c .run) (begun c) in
-    (answers (c .run) (begun c), map (byteAt x) (c .bytes), map (bitsAt x) (c .bits))
+    (map said (answers (c .run) (begun c)), x .memory, map (bitsAt x) (c .bits))
 
-abbrev wanted : Case → List Answer × List ℕ × List ℕ
-wanted c = (c .shows, map (λ p. p .1) (c .bytes), map (λ p. p .1) (c .bits))
+abbrev wanted : Case → List Said × List ℕ × List ℕ
+wanted c = (c .shows, changed (c .bytes) (c .memory), map (λ p. p .1) (c .bits))
 
 pub marked-cases : map got table ≡ map wanted table
-unfolding open-all
+unfolding open-all letterOf valueOf changed pairedFrom
 marked-cases = refl
