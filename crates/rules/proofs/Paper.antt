@@ -3,4 +3,5 @@ pub mod Cases
 pub mod Tables
 pub mod Commands
 pub mod Sensing
+pub mod Exchange
 pub mod Sentences
