@@ -1,7 +1,9 @@
--- Document 01 held against the law: its marked cases and its sentences.
+-- Document 01 held against the law: its marked cases, its tables row by row, and its sentences.
 pub mod Cases
 pub mod Tables
 pub mod Commands
 pub mod Sensing
+pub mod Deaf
 pub mod Exchange
-pub mod Sentences
+pub mod Flags
+pub mod Reader
