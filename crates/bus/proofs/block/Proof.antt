@@ -7,7 +7,7 @@ use native.Mathlib.Omega.{arith}
 use borrow.Author.Needs.{needs}
 use Rattle.rules.specs.Reader.{noBlock, blockBytes}
 use Rattle.rules.specs.Refusals.{wrongLength, kindsOf, inRange}
-use Rattle.rules.proofs.Paper.Reader.{block-fits}
+use Rattle.rules.proofs.Document.Reader.{block-fits}
 use Rattle.bus.proofs.block.Statement.{statement}
 use Rattle.bus.proofs.block.Tie as tie
 

@@ -27,9 +27,9 @@ use Rattle.rules.proofs.Memory.Stored.{isTick}
 use Rattle.rules.proofs.Memory.Protection.{number-after}
 use Rattle.rules.proofs.Memory.Reached.{Reach, reached}
 use Rattle.rules.proofs.Memory.Story.{CommandBegun, PageBegun, protection-story, bytes-story}
-use Rattle.rules.proofs.Clerks.Alone.{slotsOf, partOf, slotAt, slot-taken, part-taken, slot-went}
-use Rattle.rules.proofs.Clerks.RunAnswers.{after-kept}
-use Rattle.rules.proofs.Clerks.Demand3.{begun, setup-number}
+use Rattle.rules.proofs.TwoClerks.Alone.{slotsOf, partOf, slotAt, slot-taken, part-taken, slot-went}
+use Rattle.rules.proofs.TwoClerks.RunAnswers.{after-kept}
+use Rattle.rules.proofs.TwoClerks.Demand3.{begun, setup-number}
 
 only-tick : (a : Act) → isTick a ≡ true → a ≡ Tick
 unfolding isTick

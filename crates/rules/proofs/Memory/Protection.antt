@@ -34,7 +34,7 @@ use Rattle.rules.specs.Runs.{Bench, taken, next, after}
 use Rattle.rules.specs.Open.{open-fields, open-memory, open-slot}
 use Rattle.rules.proofs.Run.Cases.{next-cases, let-go-cases}
 use Rattle.rules.proofs.Run.Unchanged.{same-next, same-after}
-use Rattle.rules.proofs.Clerks.Alone.{number-taken}
+use Rattle.rules.proofs.TwoClerks.Alone.{number-taken}
 use Rattle.rules.proofs.Memory.Stored.{isTick}
 
 -- What decides the protection to come, when slot n is s and the act is a; after it `stands` is protected, and `comes` is to come.

@@ -6,13 +6,14 @@ use mathlib.Core.Path.{_≡_, refl}
 use mathlib.Core.Bool.{Bool, true, false}
 use mathlib.Core.List.{List, [], _∷_, map}
 use lib.IntN.{ℤ, pos, negsuc}
-use lib.ListN.{replicate}
+use lib.ListN.{set, replicate}
 use Rattle.rules.specs.declared.Act.{Act}
 use Rattle.rules.specs.declared.Act.the-variants.{Start, Byte, Read, Stop, Timeout, Tick, Voltage, Power, Temperature}
 use Rattle.rules.specs.declared.Address.{Address}
 use Rattle.rules.specs.declared.Answer.{Answer}
 use Rattle.rules.specs.declared.Answer.the-variants as answer
 use Rattle.rules.specs.declared.BlockNo.{BlockNo}
+use Rattle.rules.specs.declared.Bus.{Bus}
 use Rattle.rules.specs.declared.Event.{Event}
 use Rattle.rules.specs.declared.Pair.{Pair}
 use Rattle.rules.specs.declared.Refusal.the-variants.{MemoryLength, UnknownKind, WrongSlot, WrongValue, WrongSetup, WrongState}
@@ -25,6 +26,7 @@ use Rattle.rules.specs.Fields.{atCounter, inHalf, withLeft, placed, with
 use Rattle.rules.specs.Events.{actOf, refusalNumber, letterOf, valueOf}
 use Rattle.rules.specs.Fresh.{freshSensor, freshSlot, setupSlot, absentSlot}
 use Rattle.rules.specs.Refusals.{unknownKind, wrongSlot, wrongValue, wrongLength, goodPair, slotInRange}
+use Rattle.rules.specs.Runs.{answered}
 
 abbrev event : ℕ → ℕ → ℤ → Event
 event kind slot value = record { kind = kind; slot = record { 0 = slot }; value = value }
@@ -114,6 +116,30 @@ row-4 = refl
 pub row-4-others : map (λ k. wrongValue (event k 0 (negsuc 32767))) (1 ∷ 4 ∷ 5 ∷ 6 ∷ 8 ∷ []) ≡ replicate 5 false
 unfolding open-all
 row-4-others = refl
+
+-- "Order: 1, 6, 2, 3, 4.": a bus with a sensor in slot 0 and a memory in slot 1, as it is and with a half of 2 in slot 7; memories of 4,096 and of
+-- 4,095 bytes; an event that meets all rows from 2 on, and those that meet fewer
+abbrev good : Bus
+good = record { slots = freshSlot 2 1 ∷ freshSlot 1 1 ∷ replicate 6 absentSlot }
+
+abbrev odd : Bus
+odd = record { slots = set (good .slots) 7 (inHalf 2 absentSlot) }
+
+abbrev answeredAs : Bus → ℕ → Event → ℕ × ℕ
+answeredAs b n e = said (answered e (record { bus = b; memory = replicate n 0xFF }))
+
+pub order :
+    answeredAs odd 4095 (event 0 0 (pos 0)) ∷ answeredAs odd 4096 (event 0 0 (pos 0)) ∷ answeredAs good 4095 (event 0 0 (pos 0)) ∷ answeredAs good 4096 (event 10 9 (pos 9999))
+    ∷ answeredAs good 4096 (event 7 8 (pos 2))
+    ∷ answeredAs good 4096 (event 9 1 (pos 2001))
+    ∷ answeredAs good 4096 (event 7 1 (pos 2))
+    ∷ answeredAs good 4096 (event 9 0 (pos 2001))
+    ∷ answeredAs good 4096 (event 2 9 (pos 256))
+    ∷ answeredAs good 4096 (event 2 9 (pos 255))
+    ∷ []
+    ≡ (0x52, 1) ∷ (0x52, 6) ∷ (0x52, 1) ∷ (0x52, 2) ∷ (0x52, 3) ∷ (0x52, 3) ∷ (0x52, 4) ∷ (0x52, 4) ∷ (0x52, 4) ∷ (0x4E, 0) ∷ []
+unfolding open-all letterOf valueOf refusalNumber
+order = refl
 
 -- row 5: "a slot kind not 0..2, or a present slot's length not 1..5": kind and length
 abbrev pair : ℕ × ℕ → Pair

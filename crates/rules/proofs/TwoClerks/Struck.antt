@@ -21,8 +21,8 @@ use Rattle.rules.specs.Fresh.{freshSlot, powered}
 use Rattle.rules.specs.Memory.{emptied, ended, ticked}
 use Rattle.rules.specs.Slot.{withSensorIn, standing, commanding, letGo, lost, byteIn, readIn, switched, presentNext, slotNext}
 use Rattle.rules.specs.Exchanges.{slotAfter, partNext, partAfter, toldAlone, strayByte, strayRead, strayStop, timeout, tick, voltage, power, temperature, Item, exchange, between, gapAct, upToStop, itemActs, struckGap, struck, strike, own}
-use Rattle.rules.proofs.Clerks.Classes.{struck-not-own}
-use Rattle.rules.proofs.Clerks.Foreign.{struck-unheard, started-waits, absent-after, as-it-was, same-part, ends-idle}
+use Rattle.rules.proofs.TwoClerks.Classes.{struck-not-own}
+use Rattle.rules.proofs.TwoClerks.Foreign.{struck-unheard, started-waits, absent-after, as-it-was, same-part, ends-idle}
 use Rattle.rules.proofs.Memory.Protection.{still-present}
 use Rattle.rules.proofs.Run.Cases.{next-cases, present-next}
 

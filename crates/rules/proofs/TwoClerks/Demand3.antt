@@ -21,11 +21,11 @@ use Rattle.rules.specs.Runs.{Bench, after}
 use Rattle.rules.specs.Exchanges.{actsOf, went, Item, flatten, itemsOf, strike, ownTold}
 use Rattle.rules.proofs.Range.Kept.{setup-in-range}
 use Rattle.rules.proofs.Run.Everywhere.{setup-everywhere}
-use Rattle.rules.proofs.Clerks.Alone.{slotsOf, partOf, slotAt}
-use Rattle.rules.proofs.Clerks.Parse.{flatten-items}
-use Rattle.rules.proofs.Clerks.RunAnswers.{after-kept}
-use Rattle.rules.proofs.Clerks.Struck.{Idles}
-use Rattle.rules.proofs.Clerks.Apart.{Agree, EndAlike, apart}
+use Rattle.rules.proofs.TwoClerks.Alone.{slotsOf, partOf, slotAt}
+use Rattle.rules.proofs.TwoClerks.Parse.{flatten-items}
+use Rattle.rules.proofs.TwoClerks.RunAnswers.{after-kept}
+use Rattle.rules.proofs.TwoClerks.Struck.{Idles}
+use Rattle.rules.proofs.TwoClerks.Apart.{Agree, EndAlike, apart}
 
 -- a bench that no event refuses by row 1 or 6
 pub record Ready (x : Bench) : Type 0 where

@@ -18,11 +18,11 @@ use Rattle.rules.specs.Exchanges.{went, told, Inside, Item, exchange, co
 use Rattle.rules.proofs.Range.Kept.{after-in-range}
 use Rattle.rules.proofs.Memory.Stored.{memory-length-after}
 use Rattle.rules.proofs.Memory.Protection.{kinds-after}
-use Rattle.rules.proofs.Clerks.Parse.{flatten-items}
-use Rattle.rules.proofs.Clerks.RunAnswers.{woven, all-answers, run-answers}
-use Rattle.rules.proofs.Clerks.Demand3.{Ready, Parts, after-items, begun, setup-ready}
-use Rattle.rules.proofs.Clerks.Joined.{does, says, one-item, after-joined, answers-joined, parts-joined, Halves, halves}
-use Rattle.rules.proofs.Clerks.Swap.{AtRest, setup-rest, rest-items, first-unmoved, second-unmoved, two-benches, Swapped, swap-items}
+use Rattle.rules.proofs.TwoClerks.Parse.{flatten-items}
+use Rattle.rules.proofs.TwoClerks.RunAnswers.{woven, all-answers, run-answers}
+use Rattle.rules.proofs.TwoClerks.Demand3.{Ready, Parts, after-items, begun, setup-ready}
+use Rattle.rules.proofs.TwoClerks.Joined.{does, says, one-item, after-joined, answers-joined, parts-joined, Halves, halves}
+use Rattle.rules.proofs.TwoClerks.Swap.{AtRest, setup-rest, rest-items, first-unmoved, second-unmoved, two-benches, Swapped, swap-items}
 
 -- after any run of raw events a bench is still in range, and the same events are refused
 ready-after : (r : List Event) (x : Bench) → Ready x → Ready (after r x)

@@ -17,8 +17,8 @@ use Rattle.rules.specs.Runs.{Bench, after, answers}
 use Rattle.rules.specs.Exchanges as Exchanges
 use Rattle.rules.specs.Exchanges.{Inside, Item, exchange, between, again, byte, read, tick, voltage, temperature, controls, addressed, ownTold}
 use Rattle.rules.specs.Open.{open-all}
-use Rattle.rules.proofs.Clerks.Demand3.{Parts, slot, Same, begun, demand3-from-setup}
-use Rattle.rules.proofs.Clerks.Stretches.{Moved, swap-from-setup}
+use Rattle.rules.proofs.TwoClerks.Demand3.{Parts, slot, Same, begun, demand3-from-setup}
+use Rattle.rules.proofs.TwoClerks.Stretches.{Moved, swap-from-setup}
 
 -- a parse, a striking out and a run of items on known values compute
 unfoldable open-clerks : Unit {0}

@@ -23,7 +23,7 @@ use Rattle.rules.specs.Slot.{standing, letGo, byteIn, acksIn, readIn, dr
 use Rattle.rules.specs.Exchanges.{slotAfter, partNext, partAfter, Inside, again, byte, read, exchange, insideAct, upToStop, controls, names, mute, someOf, addressed, toNone, toOther, struck}
 use Rattle.rules.proofs.Run.Cases.{let-go-cases, absent-next, present-next}
 use Rattle.rules.proofs.Memory.Protection.{still-present}
-use Rattle.rules.proofs.Clerks.Alone.{Silent, SilentOver}
+use Rattle.rules.proofs.TwoClerks.Alone.{Silent, SilentOver}
 
 -- slot n does not hear the control byte, whatever state it is in
 abbrev pub Unheard : ℕ → ℕ → Type 0

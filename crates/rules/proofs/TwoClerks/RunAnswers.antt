@@ -21,7 +21,7 @@ use Rattle.rules.proofs.Range.Kept.{next-in-range}
 use Rattle.rules.proofs.Memory.Protection.{kinds-next}
 use Rattle.rules.proofs.Range.Rulings.{ruling-by-kinds}
 use Rattle.rules.proofs.Memory.Stored.{memory-length-next}
-use Rattle.rules.proofs.Clerks.Parse.{flatten-items}
+use Rattle.rules.proofs.TwoClerks.Parse.{flatten-items}
 
 -- one event, however it is ruled: the bench, and the answer
 went-kept : (v : Ruling) (r : List Act) (x : Bench) → went r (ruledNext v x) ≡ went (keptBy v r) x

@@ -13,8 +13,8 @@ use Rattle.rules.specs.declared.Ruling.the-variants.{Taken, Refused}
 use Rattle.rules.specs.Refusals.{kindsOf, ruledBy}
 use Rattle.rules.specs.Runs.{Bench, taken, next, answered, after, answers}
 use Rattle.rules.specs.Exchanges.{keptBy, actsOf, went, told, Inside, Item, exchange, between, insideAct, upToStop, itemActs, flatten, itemsOf, chunks}
-use Rattle.rules.proofs.Clerks.Parse.{items-flatten, flatten-items}
-use Rattle.rules.proofs.Clerks.Demand3.{Parts}
+use Rattle.rules.proofs.TwoClerks.Parse.{items-flatten, flatten-items}
+use Rattle.rules.proofs.TwoClerks.Demand3.{Parts}
 
 -- what an item does to the bench, and what the bus shows in it, event by event
 abbrev pub does : Item → Bench → Bench

@@ -19,12 +19,12 @@ use Rattle.rules.specs.Fresh.{absentSlot}
 use Rattle.rules.specs.Bus.{memoryNext}
 use Rattle.rules.specs.Runs.{Bench, taken}
 use Rattle.rules.specs.Exchanges.{went, Inside, again, byte, read, Item, exchange, insideAct, upToStop, itemActs, flatten, controls, addressed, struck, strike, own, ownTold, chunks}
-use Rattle.rules.proofs.Clerks.Alone.{slotsOf, slot-went}
-use Rattle.rules.proofs.Clerks.Classes.{addressed-struck, addressed-below, struck-not-own}
-use Rattle.rules.proofs.Clerks.Struck.{Idles, itemSlot, idle-item}
-use Rattle.rules.proofs.Clerks.Apart.{number-went, Agree, EndAlike, apart}
-use Rattle.rules.proofs.Clerks.Demand3.{slot, begun, setup-number, setup-idle}
-use Rattle.rules.proofs.Clerks.Joined.{does, says, went-first, went-items, chunks-joined}
+use Rattle.rules.proofs.TwoClerks.Alone.{slotsOf, slot-went}
+use Rattle.rules.proofs.TwoClerks.Classes.{addressed-struck, addressed-below, struck-not-own}
+use Rattle.rules.proofs.TwoClerks.Struck.{Idles, itemSlot, idle-item}
+use Rattle.rules.proofs.TwoClerks.Apart.{number-went, Agree, EndAlike, apart}
+use Rattle.rules.proofs.TwoClerks.Demand3.{slot, begun, setup-number, setup-idle}
+use Rattle.rules.proofs.TwoClerks.Joined.{does, says, went-first, went-items, chunks-joined}
 
 -- of two neighbours one is struck out for slot k: what is left does not tell their order
 swap-struck : (k : ℕ) (i j : Item) (ys : List Item) → (struck k i ≡ true) ⊎ (struck k j ≡ true) → strike k (i ∷ j ∷ ys) ≡ strike k (j ∷ i ∷ ys)
