@@ -4,6 +4,7 @@
 use Prim.Native.Nat.{ℕ, _+_, _-_, _*_, _/_, _%_}
 use native.Mathlib.Omega.{arith}
 use mathlib.Core.Path.{_≡_, refl, sym, _∙_, ap, subst}
+use mathlib.Core.Logic.{_⊎_, inl, inr, ⊎-elim}
 use mathlib.Core.Bool.{Bool, true, false, false≢true, not, cond, _&&_, _||_}
 use mathlib.Core.List.{List}
 use lib.Dec.{eqb, leb}
@@ -80,13 +81,13 @@ pub record Senses (kind left : ℕ) (latch : List ℕ) (marks coming protection 
   pub steady : coming ≡ protection
   pub no-place : place ≡ 0
 
-abbrev Taking : Slot → Type 0
+abbrev pub Taking : Slot → Type 0
 Taking s = Takes (s .left) (s .coming) (s .protection) (s .place) (s .counter) (s .sensor .word)
 
-abbrev Commanding : Slot → Type 0
+abbrev pub Commanding : Slot → Type 0
 Commanding s = Commands (s .left) (s .latch) (s .marks) (s .voltage) (s .place) (s .sensor .word)
 
-abbrev Sensing : Slot → Type 0
+abbrev pub Sensing : Slot → Type 0
 Sensing s = Senses (s .kind) (s .left) (s .latch) (s .marks) (s .coming) (s .protection) (s .place)
 
 -- what a slot holds, by the phase that it is in
@@ -117,6 +118,52 @@ Held s = Holds (s .phase) s
 pub data Reach (s : Slot) : Type 0 where
   none : s ≡ absentSlot → Reach s
   some : (s .kind ≡ 0 → ⊥) → (s .length ≡ 0 → ⊥) → Holds (s .phase) s → Reach s
+
+-- outside an exchange: idle, deaf, or before the control byte
+abbrev pub Outside : Phase → Type 0
+Outside p = (p ≡ Idle) ⊎ ((p ≡ Deaf) ⊎ (p ≡ Control))
+
+-- the phases that hold a register's bytes
+abbrev pub worded : Phase → Bool
+worded Idle = false
+worded Control = false
+worded Deaf = false
+worded MemoryCounter = false
+worded MemoryData = false
+worded MemoryRead = false
+worded HalfSelected = false
+worded CommandAddress = false
+worded CommandData = false
+worded CommandStop = false
+worded SensorPointer = false
+worded SensorHigh = false
+worded SensorLow = true
+worded SensorReadHigh = true
+worded SensorReadLow = true
+
+-- What is held, by five kinds of phase, each with what tells it from the others.
+module _ (P : Phase → Type 0) (s : Slot)
+    (waits : (p : Phase) → Outside p → Waiting s → P p)
+    (rests : (p : Phase) → withSensorIn p ≡ false → commanding p ≡ false → taking p ≡ false → worded p ≡ false → AtRest s → P p)
+    (takes : Taking s → P MemoryData)
+    (commands : (p : Phase) → withSensorIn p ≡ false → commanding p ≡ true → taking p ≡ false → worded p ≡ false → Commanding s → P p)
+    (senses : (p : Phase) → withSensorIn p ≡ true → commanding p ≡ false → taking p ≡ false → (worded p ≡ false → s .sensor .word ≡ 0) → Sensing s → P p) where
+  pub holds-by : (p : Phase) → Holds p s → P p
+  holds-by Idle h = waits Idle (inl refl) h
+  holds-by Control h = waits Control (inr (inr refl)) h
+  holds-by Deaf h = waits Deaf (inr (inl refl)) h
+  holds-by MemoryCounter h = rests MemoryCounter refl refl refl refl h
+  holds-by MemoryData h = takes h
+  holds-by MemoryRead h = rests MemoryRead refl refl refl refl h
+  holds-by HalfSelected h = rests HalfSelected refl refl refl refl h
+  holds-by CommandAddress h = commands CommandAddress refl refl refl refl h
+  holds-by CommandData h = commands CommandData refl refl refl refl h
+  holds-by CommandStop h = commands CommandStop refl refl refl refl h
+  holds-by SensorPointer h = senses SensorPointer refl refl refl (λ e. h .1) (h .0)
+  holds-by SensorHigh h = senses SensorHigh refl refl refl (λ e. h .1) (h .0)
+  holds-by SensorLow h = senses SensorLow refl refl refl (λ e. absurd (false≢true (sym e))) h
+  holds-by SensorReadHigh h = senses SensorReadHigh refl refl refl (λ e. absurd (false≢true (sym e))) h
+  holds-by SensorReadLow h = senses SensorReadLow refl refl refl (λ e. absurd (false≢true (sym e))) h
 
 -- helpers on those fields: a command cancelled, a word released, and what a control byte of each family makes of a slot at rest
 cancels : (s : Slot) → Commanding s → Waiting (cancelled s)
@@ -249,25 +296,15 @@ tick-waits s (command l b m p w) = unfold open-memory open-fields in cond-cases 
     (λ e. rests (record { no-ticks = refl; no-bytes = refl; no-marks = refl; steady = refl; no-place = p; no-word = w }))
     (λ e. command (λ z. omega (arith, l, eqb-false (s .left) 1 e)) b m p w)
 
-tick-still : (p : Phase) (s : Slot) → s .left ≡ 0 → Holds p s → Holds p (ticked s)
-tick-still p s e h = subst (Holds p) (sym (no-cycle s e)) h
+-- outside a waiting phase no ticks are left
+no-ticks-in : (p : Phase) (s : Slot) → Holds p s → Outside p ⊎ (s .left ≡ 0)
+no-ticks-in p s h = holds-by (λ p. Outside p ⊎ (s .left ≡ 0)) s (λ p o w. inl o) (λ p a b c d r. inr (r .no-ticks)) (λ r. inr (r .no-ticks)) (λ p a b c d r. inr (r .no-ticks)) (λ p a b c d r. inr (r .no-ticks)) p h
+
+pub by-outside : (P : Phase → Type 0) (p : Phase) → P Idle → P Deaf → P Control → Outside p → P p
+by-outside P p i d c o = ⊎-elim (λ e. subst P (sym e) i) (λ o. ⊎-elim (λ e. subst P (sym e) d) (λ e. subst P (sym e) c) o) o
 
 tick-holds : (p : Phase) (s : Slot) → Holds p s → Holds p (ticked s)
-tick-holds Idle s h = tick-waits s h
-tick-holds Control s h = tick-waits s h
-tick-holds Deaf s h = tick-waits s h
-tick-holds MemoryCounter s h = tick-still MemoryCounter s (h .no-ticks) h
-tick-holds MemoryData s h = tick-still MemoryData s (h .no-ticks) h
-tick-holds MemoryRead s h = tick-still MemoryRead s (h .no-ticks) h
-tick-holds HalfSelected s h = tick-still HalfSelected s (h .no-ticks) h
-tick-holds CommandAddress s h = tick-still CommandAddress s (h .no-ticks) h
-tick-holds CommandData s h = tick-still CommandData s (h .no-ticks) h
-tick-holds CommandStop s h = tick-still CommandStop s (h .no-ticks) h
-tick-holds SensorPointer s h = tick-still SensorPointer s (h .0 .no-ticks) h
-tick-holds SensorHigh s h = tick-still SensorHigh s (h .0 .no-ticks) h
-tick-holds SensorLow s h = tick-still SensorLow s (h .no-ticks) h
-tick-holds SensorReadHigh s h = tick-still SensorReadHigh s (h .no-ticks) h
-tick-holds SensorReadLow s h = tick-still SensorReadLow s (h .no-ticks) h
+tick-holds p s h = ⊎-elim (λ o. by-outside (λ q. Holds q s → Holds q (ticked s)) p (tick-waits s) (tick-waits s) (tick-waits s) o h) (λ e. subst (Holds p) (sym (no-cycle s e)) h) (no-ticks-in p s h)
 
 -- high voltage: a command whose voltage goes off is left, so that it is on in those that go on
 still-high : (on : Bool) (s : Slot) → (s .voltage && not on) ≡ false → Commanding s → Commanding (withVoltage on s)
@@ -309,21 +346,9 @@ worded-holds p x s e h =
 -- an exchange with the sensor stands only where there is one
 has-sensor : (p : Phase) (s : Slot) → withSensorIn p ≡ true → Holds p s → sensing s ≡ true
 unfolding sensing
-has-sensor SensorPointer s e h = h .0 .kinds
-has-sensor SensorHigh s e h = h .0 .kinds
-has-sensor SensorLow s e h = h .kinds
-has-sensor SensorReadHigh s e h = h .kinds
-has-sensor SensorReadLow s e h = h .kinds
-has-sensor Idle s e h = absurd (false≢true e)
-has-sensor Control s e h = absurd (false≢true e)
-has-sensor Deaf s e h = absurd (false≢true e)
-has-sensor MemoryCounter s e h = absurd (false≢true e)
-has-sensor MemoryData s e h = absurd (false≢true e)
-has-sensor MemoryRead s e h = absurd (false≢true e)
-has-sensor HalfSelected s e h = absurd (false≢true e)
-has-sensor CommandAddress s e h = absurd (false≢true e)
-has-sensor CommandData s e h = absurd (false≢true e)
-has-sensor CommandStop s e h = absurd (false≢true e)
+has-sensor p s e h = holds-by (λ p. withSensorIn p ≡ true → eqb (s .kind) 2 ≡ true) s
+    (λ p o w e. absurd (by-outside (λ q. withSensorIn q ≡ true → ⊥) p false≢true false≢true false≢true o e)) (λ p a b c d r e. absurd (false≢true (sym a ∙ e))) (λ r e. absurd (false≢true e))
+    (λ p a b c d r e. absurd (false≢true (sym a ∙ e))) (λ p a b c d r e. r .kinds) p h e
 
 -- so a present slot stands in its own phase
 pub stands-own : (s : Slot) → absent s ≡ false → Holds (s .phase) s → standing s ≡ s .phase

@@ -31,8 +31,8 @@ use Rattle.rules.specs.Exchanges.{slotAfter, partNext}
 use Rattle.rules.proofs.Run.Cases.{next-cases, stands}
 use Rattle.rules.proofs.Memory.Stored.{isTick}
 use Rattle.rules.proofs.Memory.Protection.{Decided, asBefore, asStands, byProtect, byClear, Cycle, asWas, pageBegins, commandBegins, goesOn, powerDrops, protection-next, coming-next, cycle-next}
-use Rattle.rules.proofs.Memory.Reached.{Reach, slot-reach}
-use Rattle.rules.proofs.Memory.Together.{Outside, ticks-outside, taking-steady, command-bare, cycle-marks}
+use Rattle.rules.proofs.Memory.Reached.{Outside, by-outside, Reach, slot-reach}
+use Rattle.rules.proofs.Memory.Together.{ticks-outside, taking-steady, command-bare, cycle-marks}
 
 -- what a cycle stores, and where, is the same in both
 abbrev pub SamePage : Slot → Slot → Type 0
@@ -65,9 +65,6 @@ stop-no-byte : (b : ℕ) → Stop ≡ Byte b → ⊥
 stop-no-byte b e = let z : _≡_ {A = ℕ} 0 1 = cc in omega arith
 
 -- outside an exchange a slot stands outside it
-by-outside : (P : Phase → Type 0) (p : Phase) → P Idle → P Deaf → P Control → Outside p → P p
-by-outside P p i d c o = ⊎-elim (λ e. subst P (sym e) i) (λ o. ⊎-elim (λ e. subst P (sym e) d) (λ e. subst P (sym e) c) o) o
-
 stands-outside : (s : Slot) → Outside (s .phase) → Outside (standing s)
 stands-outside s o = stands Outside s (inr (inl refl)) o
 
