@@ -1,18 +1,19 @@
 -- Laws for the script's lines: what fits, and lines put one after another.
 -- Assumes nothing.
 use mathlib.Core.Path.{_≡_, refl, sym, _∙_, ap}
+use mathlib.Core.Bool.{true}
 use mathlib.Core.List.{List, [], _∷_, _++_}
-use Prim.Native.Nat.{ℕ, zero, suc, _+_, _-_, _*_, _≤_, _<_}
+use Prim.Native.Nat.{ℕ, zero, suc, _+_, _-_, _*_, _/_, _%_, _≤_, _<_}
 use native.Mathlib.Nat.{zero-add, add-zero, add-suc, suc-add}
 use native.Mathlib.Numerals.{add-one}
 use native.Mathlib.Omega.{arith}
-use lib.IntN.{pos, negsuc, _-ℤ_}
 use borrow.Author.Tests.{ltb-true, ltb-false}
-use lib.Dec.{ltb}
-use lib.ListN.{length, getD, set, take, drop, length-append, List·getD-append}
+use lib.IntN.{pos, negsuc, _-ℤ_}
+use lib.Dec.{eqb, ltb}
+use lib.ListN.{length, getD, set, take, drop, length-append, length-drop, List·getD-append}
 use lib.Seq.{sets, getD-at, getD-drop, getD-append-add, length-take-le}
-use Rattle.lists.specs.Each.{filled}
-use Rattle.lists.specs.Tests.{by-test}
+use Rattle.lists.specs.Each.{allOf, filled}
+use Rattle.lists.specs.Tests.{by-test, cond-cases}
 use Rattle.rules.specs.declared.Answer.{Answer}
 use Rattle.rules.specs.declared.Answer.the-variants.{Nothing, Ack, Nack, Data, Refused}
 use Rattle.rules.specs.declared.Bus.{Bus}
@@ -22,8 +23,11 @@ use Rattle.rules.specs.declared.Pair.{Pair}
 use Rattle.rules.specs.declared.Refusal.{Refusal}
 use Rattle.rules.specs.declared.Refusal.the-variants.{MemoryLength, UnknownKind, WrongSlot, WrongValue, WrongSetup, WrongState}
 use Rattle.rules.specs.Events.{refusalNumber}
+use Rattle.rules.specs.Refusals.{inRange, goodPair, emptyBus, setupOf}
 use Rattle.rules.specs.Runs.{Bench, rulingOn, next, answered, ruledOutcome, eventOf}
-use Rattle.lines.specs.Script.{pairAt, pairsTo, recordAt, digitsOf, lineOf, benchTo, linesTo}
+use Rattle.rules.proofs.Range.Kept.{setup-in-range}
+use Rattle.lines.specs.Script.{pairAt, pairsTo, pairsOf, recordAt, digitsOf, lineOf, benchTo, linesTo, recordsIn, leftOf, lastLine}
+use Rattle.lines.specs.Steps.{cutSetup, firstLine}
 
 -- a refusal's number is a digit
 refusal-small : (r : Refusal) → refusalNumber r ≤ 6
@@ -64,6 +68,34 @@ line-length Ack = omega arith
 line-length Nack = omega arith
 line-length (Data b) = omega arith
 line-length (Refused r) = omega arith
+
+pub lines-length : (x : Bench) (bs : List ℕ) (n : ℕ) → length (linesTo x bs n) ≤ 4 * n
+unfolding linesTo
+lines-length x bs zero = omega arith
+lines-length x bs (suc n) =
+    let l : List ℕ = lineOf (answered (recordAt bs (4 * n)) (benchTo x bs n)) in
+    rw (length-append (linesTo x bs n) l) (omega (arith, lines-length x bs n, line-length (answered (recordAt bs (4 * n)) (benchTo x bs n))))
+
+-- and the lines of a step at most six
+pub first-length : (bs : List ℕ) → length (firstLine bs) ≤ 6
+unfolding firstLine
+first-length bs =
+    cond-cases (λ (l : List ℕ). length l ≤ 6) (cutSetup bs) (λ e. omega arith)
+    (λ e. cond-cases (λ (l : List ℕ). length l ≤ 6) (allOf goodPair (pairsOf bs)) (λ e. omega arith) (λ e. omega arith))
+
+pub last-length : (n : ℕ) → length (lastLine n) ≤ 6
+unfolding lastLine
+last-length n = by-test (eqb n 0) (λ e. rw e (omega arith)) (λ e. rw e (omega arith))
+
+-- what is left of some bytes
+pub left-length : (bs : List ℕ) → length (leftOf bs) ≡ length bs % 4
+unfolding leftOf recordsIn
+left-length bs = length-drop (4 * (length bs / 4)) bs ∙ omega arith
+
+-- the bus of a refused setup is in range
+pub empty-in-range : inRange emptyBus ≡ true
+unfolding setupOf allOf goodPair
+empty-in-range = setup-in-range (record { kind = 3; length = 0 } ∷ [])
 
 -- stores after stores
 pub sets-append : (l : List ℕ) (i : ℕ) (p q : List ℕ) → sets l i (p ++ q) ≡ sets (sets l i p) (i + length p) q

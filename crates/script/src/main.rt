@@ -1,5 +1,5 @@
-// The script program: a setup and records on standard input, a line for each event on standard output. All that is said of them is said
-// and proved in `lines`; this only moves bytes. The lines of all records that have come are written before more is waited for.
+// The script program: a setup and records on standard input, a line for each event on standard output. It reads, hands what came to the three
+// steps of `lines`, and writes what each has put at the front of the output: all that decides is said and proved there.
 ghost use mathlib.Core.Path.{_≡_};
 ghost use mathlib.Core.Bool.{true};
 ghost use Prim.Native.Nat.{_<_};
@@ -8,7 +8,6 @@ ghost use Rattle.rules.specs.Modelled.{memoryBytes};
 ghost use Rattle.rules.specs.Refusals.{inRange};
 use libc::STDIN_FILENO;
 use libc::STDOUT_FILENO;
-use rules::Answer;
 use rules::Bus;
 
 // The bus after one read, how many bytes of a cut record are held at the front of the buffer, and whether to go on.
@@ -18,49 +17,44 @@ struct After {
     on: bool,
 }
 
-// One read: runs the whole records that have come, writes their lines, and keeps what is cut. At the input's end a cut record gives `short`.
-fn turn(bus: Bus, mem: &mut [u8], buf: &mut [u8], out: &mut [u8], held: usize) -> After
+// One read, behind the bytes that are held, and what is written for it. A read that brings nothing is the input's end.
+fn read_on(bus: Bus, mem: &mut [u8], buf: &mut [u8], out: &mut [u8], held: usize) -> After
     requires { ⌜ (inRange bus ≡ true) × (length (now mem) ≡ memoryBytes) × (length (now buf) ≡ 65536) × (length (now out) ≡ 65536) × (held < 4) ⌝ }
     ensures { λ r. ⌜ (inRange (r .bus) ≡ true) × (r .held < 4) ⌝ }
 {
     let got = libc::read(STDIN_FILENO, &mut buf[held..]);
     let n = io::count(got, &buf[held..]);
     if n == 0 {
-        if 0 < held {
-            io::write_all(STDOUT_FILENO, b"short\n");
-        }
+        let end = lines::finish(held, out);
+        io::write_all(STDOUT_FILENO, &out[..end]);
         return After {
             bus,
             held: 0,
             on: false,
         };
     }
-    let total = held + n;
-    let whole = total / 4 * 4;
-    let ran = lines::run(bus, mem, &buf[..whole], out);
-    let end = ran.end;
+    let t = lines::turn(bus, mem, buf, held, n, out);
+    let end = t.end;
     let on = io::write_all(STDOUT_FILENO, &out[..end]);
-    lines::keep(buf, whole, total - whole);
-    let next = ran.bus;
+    let next = t.bus;
     After {
         bus: next,
-        held: total - whole,
+        held: t.held,
         on,
     }
 }
 
-// After after turn, until the input ends. A proved loop has to end, so it counts down from a number that no input uses up.
-fn serve(bus: Bus)
-    requires { ⌜ inRange bus ≡ true ⌝ }
+// Read after read, until the input ends or a write fails. The lines of all records that have come are written before more is waited for. A
+// proved loop has to end, so it counts down from a number that no input uses up.
+fn serve(bus: Bus, mem: &mut [u8], out: &mut [u8])
+    requires { ⌜ (inRange bus ≡ true) × (length (now mem) ≡ memoryBytes) × (length (now out) ≡ 65536) ⌝ }
 {
-    let mut mem = [255u8; 4096];
     let mut buf = io::large_buffer();
-    let mut out = io::large_buffer();
     let mut state = bus;
     let mut held = 0;
     let mut turns = u64::MAX;
     while 0 < turns {
-        let t = turn(state, &mut mem, &mut buf, &mut out, held);
+        let t = read_on(state, mem, &mut buf, out, held);
         if !t.on {
             return;
         }
@@ -72,18 +66,15 @@ fn serve(bus: Bus)
 }
 
 fn main() {
+    let mut mem = [0u8; 4096];
+    let mut out = io::large_buffer();
     let mut pairs = [0u8; 16];
     let n = io::read_full(STDIN_FILENO, &mut pairs);
-    if n < 16 {
-        io::write_all(STDOUT_FILENO, b"short\n");
-        return;
+    let begun = lines::begin(&pairs[..n], &mut mem, &mut out);
+    let end = begun.end;
+    io::write_all(STDOUT_FILENO, &out[..end]);
+    if begun.on {
+        let bus = begun.bus;
+        serve(bus, &mut mem, &mut out);
     }
-    let made = lines::setup(&pairs);
-    let answer = made.answer;
-    let bus = made.bus;
-    if let Answer::Refused(_) = answer {
-        io::write_all(STDOUT_FILENO, b"R5\n");
-        return;
-    }
-    serve(bus);
 }

@@ -13,7 +13,7 @@ use Rattle.lines.proofs.setup.Statement.{statement}
 use Rattle.lines.proofs.setup.Tie as tie
 
 abbrev Inv-loop : tie.InvT-loop
-Inv-loop bytes pairs₀ i₀ pairs i = (i ≤ 8) × (length bytes ≡ 16) × (length pairs₀ ≡ 8) × (pairs ≡ filled pairs₀ (pairsTo bytes 8) i)
+Inv-loop bytes pairs₀ i₀ pairs i = (i ≤ 8) × (16 ≤ length bytes) × (length pairs₀ ≡ 8) × (pairs ≡ filled pairs₀ (pairsTo bytes 8) i)
 
 abbrev μ-loop : tie.MeasureT-loop
 μ-loop bytes pairs₀ i₀ pairs i = 8 - i
