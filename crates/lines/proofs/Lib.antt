@@ -4,3 +4,4 @@ pub mod Cut
 pub mod StepLaws
 pub mod Whole
 pub mod Onward
+pub mod Determined
