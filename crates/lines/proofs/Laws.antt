@@ -1,6 +1,6 @@
 -- Laws for the script's lines: what fits, and lines put one after another.
 -- Assumes nothing.
-use mathlib.Core.Path.{_≡_, refl, sym, _∙_, ap}
+use mathlib.Core.Path.{_≡_, refl, sym, _∙_, ap, ap₂}
 use mathlib.Core.Bool.{true}
 use mathlib.Core.List.{List, [], _∷_, _++_}
 use Prim.Native.Nat.{ℕ, zero, suc, _+_, _-_, _*_, _/_, _%_, _≤_, _<_}
@@ -12,7 +12,7 @@ use lib.IntN.{pos, negsuc, _-ℤ_}
 use lib.Dec.{eqb, ltb}
 use lib.ListN.{length, getD, set, take, drop, length-append, length-drop, List·getD-append}
 use lib.Seq.{sets, getD-at, getD-drop, getD-append-add, length-take-le}
-use Rattle.lists.specs.Each.{allOf, filled}
+use Rattle.lists.specs.Each.{allOf, filled, filled-step}
 use Rattle.lists.specs.Tests.{by-test, cond-cases}
 use Rattle.rules.specs.declared.Answer.{Answer}
 use Rattle.rules.specs.declared.Answer.the-variants.{Nothing, Ack, Nack, Data, Refused}
@@ -22,11 +22,11 @@ use Rattle.rules.specs.declared.Outcome.{Outcome}
 use Rattle.rules.specs.declared.Pair.{Pair}
 use Rattle.rules.specs.declared.Refusal.{Refusal}
 use Rattle.rules.specs.declared.Refusal.the-variants.{MemoryLength, UnknownKind, WrongSlot, WrongValue, WrongSetup, WrongState}
-use Rattle.rules.specs.Events.{refusalNumber}
+use Rattle.rules.specs.Events.{letterOf, refusalNumber}
 use Rattle.rules.specs.Refusals.{inRange, goodPair, emptyBus, setupOf}
 use Rattle.rules.specs.Runs.{Bench, rulingOn, next, answered, ruledOutcome, eventOf}
 use Rattle.rules.proofs.Range.Kept.{setup-in-range}
-use Rattle.lines.specs.Script.{pairAt, pairsTo, pairsOf, recordAt, digitsOf, lineOf, benchTo, linesTo, recordsIn, leftOf, lastLine}
+use Rattle.lines.specs.Script.{pairAt, pairsTo, pairsOf, recordAt, hexDigit, digitsOf, lineOf, benchTo, linesTo, recordsIn, leftOf, lastLine}
 use Rattle.lines.specs.Steps.{cutSetup, firstLine}
 
 -- a refusal's number is a digit
@@ -135,9 +135,30 @@ pairs-at bs (suc n) k z h =
 abbrev pub noPair : Pair
 noPair = record { kind = 0; length = 0 }
 
+-- the next pair of the setup, stored
+pub pairs-step : (d ps : List Pair) (bs : List ℕ) (i : ℕ) (p : Pair) → ps ≡ filled d (pairsTo bs 8) i → p ≡ pairAt bs (2 * i) → i < 8 → length d ≡ 8
+    → set ps i p ≡ filled d (pairsTo bs 8) (i + 1)
+pairs-step d ps bs i p e f h l =
+    ap₂ (λ (u : List Pair) (q : Pair). set u i q) e (f ∙ sym (pairs-at bs 8 i noPair h))
+    ∙ filled-step d (pairsTo bs 8) i noPair (omega arith) (rw (length-pairs bs 8) h)
+
 -- past what has been filled stands what stood there
-pub filled-later : (d s : List ℕ) (k j : ℕ) → k ≤ length s → k ≤ j → getD (filled d s k) j 0 ≡ getD d j 0
+filled-later : (d s : List ℕ) (k j : ℕ) → k ≤ length s → k ≤ j → getD (filled d s k) j 0 ≡ getD d j 0
 unfolding filled
 filled-later d s k j h l =
     let e : length (take k s) + (j - k) ≡ j = rw (length-take-le k s h) (omega arith) in
     sym (ap (λ n. getD (take k s ++ drop k d) n 0) e) ∙ getD-append-add (take k s) (drop k d) (j - k) 0 ∙ getD-drop k d (j - k) 0 ∙ ap (λ n. getD d n 0) (omega arith)
+
+-- so the next byte of a record that is cut is still where it was, and moves to the front
+pub keep-step : (d u : List ℕ) (from i : ℕ) → u ≡ filled d (drop from d) i → from + i < length d → set u i (getD u (from + i) 0) ≡ filled d (drop from d) (i + 1)
+keep-step d u from i e h =
+    let l : i < length (drop from d) = rw (length-drop from d) (omega arith) in
+    let f : getD (filled d (drop from d) i) (from + i) 0 ≡ getD (drop from d) i 0 =
+    filled-later d (drop from d) i (from + i) (omega arith) (omega arith) ∙ sym (getD-drop from d i 0) in
+    ap₂ (λ (v : List ℕ) (x : ℕ). set v i x) e (ap (λ (v : List ℕ). getD v (from + i) 0) e ∙ f) ∙ filled-step d (drop from d) i 0 (omega arith) l
+
+-- the line of a byte that was read
+pub data-by : (a : Answer) (b x y at end : ℕ) (out o : List ℕ) → a ≡ Data b → x ≡ hexDigit (b / 16) → y ≡ hexDigit (b % 16)
+    → (end ≡ at + 4) × (o ≡ sets out at (0x44 ∷ x ∷ y ∷ 0x0A ∷ [])) → (end ≡ at + length (lineOf a)) × (o ≡ sets out at (lineOf a))
+unfolding lineOf digitsOf letterOf
+data-by a b x y at end out o e f g p = rw (e, ← f, ← g) p

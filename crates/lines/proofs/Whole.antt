@@ -19,7 +19,7 @@ use Rattle.rules.specs.Runs.{Bench}
 use Rattle.lines.specs.declared.Turned.{Turned}
 use Rattle.lines.specs.Script.{pairAt, pairsTo, pairsOf, recordsIn, leftOf, benchTo, linesTo, lastLine, ending, badSetupLine, startingMemory, begunAt, scriptOf}
 use Rattle.lines.specs.Steps.{cutSetup, firstLine, goesOn, firstBus, beginOf, runOf, turnOf, finishOf}
-use Rattle.lines.specs.Program.{Read, readInto, allOfThem, Fits, turnsWrite, programWrites}
+use Rattle.lines.specs.Program.{Read, readInto, inputOf, Fits, turnsWrite, programWrites}
 use Rattle.lines.proofs.Laws.{lines-length, left-length, first-length, last-length}
 use Rattle.lines.proofs.Cut.{lines-cut, ending-cut}
 
@@ -69,8 +69,8 @@ turn-come x buf h out r e =
 -- from any turn on: the lines of what is held and of all that comes, and the last line
 pub turns-whole : (x : Bench) (buf h out : List ℕ) (rs : List Read) → length h < 4 → take (length h) buf ≡ h → 6 ≤ length out → Fits (length out) (length h) rs
     → turnsWrite (x .bus) (x .memory) buf (length h) out rs
-    ≡ linesTo x (h ++ allOfThem rs) (recordsIn (h ++ allOfThem rs)) ++ ending (h ++ allOfThem rs)
-unfolding turnsWrite allOfThem Fits finishOf ending recordsIn
+    ≡ linesTo x (h ++ inputOf rs) (recordsIn (h ++ inputOf rs)) ++ ending (h ++ inputOf rs)
+unfolding turnsWrite inputOf Fits finishOf ending recordsIn
 turns-whole x buf h out [] l e room f =
     let k : length h % 4 ≡ length h = omega arith in
     written out (lastLine (length h)) (omega (arith, last-length (length h))) ∙ rw (append-nil h, no-record x h l, k)
@@ -80,7 +80,7 @@ turns-whole x buf h out (r ∷ rs) l e room f =
     let ls : List ℕ = linesTo x bs (recordsIn bs) in
     let kept : List ℕ = leftOf bs ++ drop (length (leftOf bs)) (readInto buf (length h) r) in
     let n : length bs ≡ length h + length (r .came) = length-append h (r .came) in
-    let more : List ℕ = allOfThem rs in
+    let more : List ℕ = inputOf rs in
     let fits : length ls ≤ length out = omega (arith, lines-length x bs (recordsIn bs), f .0) in
     let room₁ : 6 ≤ length (sets out 0 ls) = rw (length-sets out 0 ls) room in
     let f₁ : Fits (length (sets out 0 ls)) (length (leftOf bs)) rs = rw (length-sets out 0 ls, left-length bs, n) (f .1) in
@@ -125,17 +125,17 @@ script-after head more l =
 -- the turns after a good setup
 good-setup : (ps : List Pair) (buf out : List ℕ) (rs : List Read) → 6 ≤ length out → Fits (length out) 0 rs
     → turnsWrite (setupOf ps .bus) startingMemory buf 0 out rs
-    ≡ linesTo (begunAt ps) (allOfThem rs) (recordsIn (allOfThem rs)) ++ ending (allOfThem rs)
+    ≡ linesTo (begunAt ps) (inputOf rs) (recordsIn (inputOf rs)) ++ ending (inputOf rs)
 unfolding begunAt
 good-setup ps buf out rs room f = turns-whole (begunAt ps) buf [] out rs (omega arith) refl room f
 
 -- ANY OTHER: sixteen bytes are read as setup, the rest comes in reads of any sizes that fit the buffers, and the output is the script's
 pub writes-whole : (head buf out : List ℕ) (rs : List Read) → length head ≡ 16 → 6 ≤ length out → Fits (length out) 0 rs
-    → programWrites head rs buf out ≡ scriptOf (head ++ allOfThem rs)
+    → programWrites head rs buf out ≡ scriptOf (head ++ inputOf rs)
 unfolding firstLine goesOn cutSetup firstBus
 writes-whole head buf out rs l room f =
     let ps : List Pair = pairsOf head in
     let c : ltb (length head) 16 ≡ false = le-ltb (length head) 16 (omega arith) in
     by-test (allOf goodPair ps)
-    (λ g. writes-by head buf out rs room ∙ rw (script-after head (allOfThem rs) l, c, g) (good-setup ps buf out rs room f))
-    (λ g. writes-by head buf out rs room ∙ rw (script-after head (allOfThem rs) l, c, g))
+    (λ g. writes-by head buf out rs room ∙ rw (script-after head (inputOf rs) l, c, g) (good-setup ps buf out rs room f))
+    (λ g. writes-by head buf out rs room ∙ rw (script-after head (inputOf rs) l, c, g))

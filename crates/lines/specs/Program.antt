@@ -19,9 +19,9 @@ unfoldable pub readInto : List ℕ → ℕ → Read → List ℕ
 readInto buf held r = take held buf ++ (r .came ++ r .behind)
 
 -- all that came
-unfoldable pub allOfThem : List Read → List ℕ
-allOfThem [] = []
-allOfThem (r ∷ rs) = r .came ++ allOfThem rs
+unfoldable pub inputOf : List Read → List ℕ
+inputOf [] = []
+inputOf (r ∷ rs) = r .came ++ inputOf rs
 
 -- every read has room, behind the bytes that are held then
 unfoldable pub Fits : ℕ → ℕ → List Read → Type 0

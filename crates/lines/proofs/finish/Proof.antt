@@ -9,7 +9,7 @@ pub finish-spec : {M : Type 1} → statement M
 finish-spec =
     tie.close
     (tie.spec
-    (λ c. search finish-none)
+    (λ c. finish-none _ _ (c .if1 .taken))
     (λ c κs. search needs)
     (λ c. search needs)
-    (λ c. search finish-short))
+    (λ c. finish-short _ _ _ _ (c .before .before .before .before .if1 .left) (c .before .before .put-short .ensures)))

@@ -1,5 +1,6 @@
 -- Six stores in a row.
 -- Assumes nothing.
+use mathlib.Core.Path.{refl}
 use native.Mathlib.Omega.{arith}
 use borrow.Author.Needs.{needs}
 use lib.ListN.{length-set}
@@ -17,4 +18,4 @@ put-short-spec =
     (λ c. simp length-set (omega arith))
     (λ c. search needs)
     (λ c. search needs)
-    (λ c. search needs))
+    (λ c. (refl, refl)))
