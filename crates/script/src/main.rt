@@ -6,28 +6,31 @@ ghost use Prim.Native.Nat.{_<_};
 ghost use lib.ListN.{length};
 ghost use Rattle.rules.specs.Modelled.{memoryBytes};
 ghost use Rattle.rules.specs.Refusals.{inRange};
+ghost use Rattle.script.specs.Went.{Went};
 use libc::STDIN_FILENO;
 use libc::STDOUT_FILENO;
 use rules::Bus;
 
-// The bus after one read, how many bytes of a cut record are held at the front of the buffer, and whether to go on.
-struct After {
+// What goes from one read to the next: the bus, how many bytes of a cut record are held at the front of the buffer, and whether to go on.
+struct Going {
     bus: Bus,
     held: usize,
     on: bool,
 }
 
 // One read, behind the bytes that are held, and what is written for it. A read that brings nothing is the input's end.
-fn read_on(bus: Bus, mem: &mut [u8], buf: &mut [u8], out: &mut [u8], held: usize) -> After
-    requires { ⌜ (inRange bus ≡ true) × (length (now mem) ≡ memoryBytes) × (length (now buf) ≡ 65536) × (length (now out) ≡ 65536) × (held < 4) ⌝ }
-    ensures { λ r. ⌜ (inRange (r .bus) ≡ true) × (r .held < 4) ⌝ }
+fn read_on(g: Going, mem: &mut [u8], buf: &mut [u8], out: &mut [u8]) -> Going
+    requires { ⌜ (inRange (g .bus) ≡ true) × (length (now mem) ≡ memoryBytes) × (length (now buf) ≡ 65536) × (length (now out) ≡ 65536) × (g .held < 4) ⌝ }
+    ensures { λ r. ⌜ (inRange (r .bus) ≡ true) × (r .held < 4) × (r .on ≡ true → Went g (now (mem .entry)) (now (buf .entry)) (now (out .entry)) r (now (mem .exit)) (now (buf .exit)) (now (out .exit))) ⌝ }
 {
+    let held = g.held;
+    let bus = g.bus;
     let got = libc::read(STDIN_FILENO, &mut buf[held..]);
     let n = io::count(got, &buf[held..]);
     if n == 0 {
         let end = lines::finish(held, out);
         io::write_all(STDOUT_FILENO, &out[..end]);
-        return After {
+        return Going {
             bus,
             held: 0,
             on: false,
@@ -37,7 +40,7 @@ fn read_on(bus: Bus, mem: &mut [u8], buf: &mut [u8], out: &mut [u8], held: usize
     let end = t.end;
     let on = io::write_all(STDOUT_FILENO, &out[..end]);
     let next = t.bus;
-    After {
+    Going {
         bus: next,
         held: t.held,
         on,
@@ -50,17 +53,17 @@ fn serve(bus: Bus, mem: &mut [u8], out: &mut [u8])
     requires { ⌜ (inRange bus ≡ true) × (length (now mem) ≡ memoryBytes) × (length (now out) ≡ 65536) ⌝ }
 {
     let mut buf = io::large_buffer();
-    let mut state = bus;
-    let mut held = 0;
+    let mut g = Going {
+        bus,
+        held: 0,
+        on: true,
+    };
     let mut turns = u64::MAX;
     while 0 < turns {
-        let t = read_on(state, mem, &mut buf, out, held);
-        if !t.on {
+        g = read_on(g, mem, &mut buf, out);
+        if !g.on {
             return;
         }
-        let next = t.bus;
-        state = next;
-        held = t.held;
         turns -= 1;
     }
 }

@@ -11,10 +11,10 @@ use Rattle.script.proofs.serve.Statement.{statement}
 use Rattle.script.proofs.serve.Tie as tie
 
 abbrev Inv-loop : tie.InvT-loop
-Inv-loop mem₀ out₀ buf₀ state₀ held₀ turns₀ mem out buf state held turns = (inRange state ≡ true) × (length mem ≡ 4096) × (length buf ≡ 65536) × (length out ≡ 65536) × (held < 4)
+Inv-loop mem₀ out₀ buf₀ g₀ turns₀ mem out buf g turns = (inRange (g .bus) ≡ true) × (length mem ≡ 4096) × (length buf ≡ 65536) × (length out ≡ 65536) × (g .held < 4)
 
 abbrev μ-loop : tie.MeasureT-loop
-μ-loop mem₀ out₀ buf₀ state₀ held₀ turns₀ mem out buf state held turns = turns
+μ-loop mem₀ out₀ buf₀ g₀ turns₀ mem out buf g turns = turns
 
 pub serve-spec : {M : Type 1} → statement M
 serve-spec =
@@ -31,7 +31,7 @@ serve-spec =
     (λ c. search needs)
     (λ c. search needs)
     (λ c. search needs)
-    (λ c. let r = c .before .before .before .before .before .before .before .before .read-on .ensures in (r .0, omega arith, omega arith, omega arith, r .1))
+    (λ c. let r = c .before .before .before .before .before .before .before .read-on .ensures in (r .0, omega arith, omega arith, omega arith, r .1))
     (λ c. search needs)
     (λ c. search needs)
     (λ c. search needs))
