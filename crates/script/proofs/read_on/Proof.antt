@@ -36,4 +36,4 @@ read-on-spec =
     (λ c. search needs)
     (λ c. search needs)
     (λ c. search needs)
-    (λ c. let g = c .before .before .before .before .before .before .before .before .before .before .before .before .before .before .before .before .before .before .before .before .before .before .before .before .before .args .g in let s = c .before .before .before .before .before .before .before .before .before .before .before .before .before .before .before .before .before .before .before .before .before .before .before .before .before .args .buf .now in let h : g .held ≤ length s = omega arith in let u = c .before .before .before .before .before .before .before .before .before .before .before .before .before .before .before .before .before .before .before .read .last .1 .0 in let t = turn-onward _ _ _ _ _ _ _ _ _ _ (c .before .before .before .before .before .before .before .before .before .turn .ensures) (c .before .before .before .before .before .before .before .before .before .before .before .before .before .before .before .before .before .before .before .before .before .before .before .before .before .pre .0, omega arith, omega arith) in (t .0, t .2, λ e. record { read = putMid (g .held) (length s - g .held) s u; came = c .before .before .before .before .before .before .before .before .before .before .before .before .before .before .count .result; end = c .before .before .before .before .before .before .before .before .before .turn .result .end; kept = take-put (g .held) (length s - g .held) s u h; turned = c .before .before .before .before .before .before .before .before .before .turn .ensures })))
+    (λ c. let g = c .before .before .before .before .before .before .before .before .before .before .before .before .before .before .before .before .before .before .before .before .before .before .before .before .before .args .g in let s = c .before .before .before .before .before .before .before .before .before .before .before .before .before .before .before .before .before .before .before .before .before .before .before .before .before .args .buf .now in let h : g .held ≤ length s = omega arith in let u = c .before .before .before .before .before .before .before .before .before .before .before .before .before .before .before .before .before .before .before .read .last .1 .0 in let t = turn-onward _ _ _ _ _ _ _ _ _ _ (c .before .before .before .before .before .before .before .before .before .turn .ensures) (c .before .before .before .before .before .before .before .before .before .before .before .before .before .before .before .before .before .before .before .before .before .before .before .before .before .pre .0, omega arith, omega arith) in (t .0, omega (arith, t .2), λ e. record { read = putMid (g .held) (length s - g .held) s u; came = c .before .before .before .before .before .before .before .before .before .before .before .before .before .before .count .result; end = c .before .before .before .before .before .before .before .before .before .turn .result .end; kept = take-put (g .held) (length s - g .held) s u h; turned = c .before .before .before .before .before .before .before .before .before .turn .ensures })))
