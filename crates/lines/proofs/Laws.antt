@@ -1,18 +1,19 @@
 -- Laws for the script's lines: what fits, and lines put one after another.
 -- Assumes nothing.
-use mathlib.Core.Path.{_≡_, refl, sym, _∙_, ap}
+use mathlib.Core.Path.{_≡_, refl, sym, _∙_, ap, ap₂}
+use mathlib.Core.Bool.{true}
 use mathlib.Core.List.{List, [], _∷_, _++_}
-use Prim.Native.Nat.{ℕ, zero, suc, _+_, _-_, _*_, _≤_, _<_}
+use Prim.Native.Nat.{ℕ, zero, suc, _+_, _-_, _*_, _/_, _%_, _≤_, _<_}
 use native.Mathlib.Nat.{zero-add, add-zero, add-suc, suc-add}
 use native.Mathlib.Numerals.{add-one}
 use native.Mathlib.Omega.{arith}
-use lib.IntN.{pos, negsuc, _-ℤ_}
 use borrow.Author.Tests.{ltb-true, ltb-false}
-use lib.Dec.{ltb}
-use lib.ListN.{length, getD, set, take, drop, length-append, List·getD-append}
+use lib.IntN.{pos, negsuc, _-ℤ_}
+use lib.Dec.{eqb, ltb}
+use lib.ListN.{length, getD, set, take, drop, length-append, length-drop, List·getD-append}
 use lib.Seq.{sets, getD-at, getD-drop, getD-append-add, length-take-le}
-use Rattle.lists.specs.Each.{filled}
-use Rattle.lists.specs.Tests.{by-test}
+use Rattle.lists.specs.Each.{allOf, filled, filled-step}
+use Rattle.lists.specs.Tests.{by-test, cond-cases}
 use Rattle.rules.specs.declared.Answer.{Answer}
 use Rattle.rules.specs.declared.Answer.the-variants.{Nothing, Ack, Nack, Data, Refused}
 use Rattle.rules.specs.declared.Bus.{Bus}
@@ -21,9 +22,12 @@ use Rattle.rules.specs.declared.Outcome.{Outcome}
 use Rattle.rules.specs.declared.Pair.{Pair}
 use Rattle.rules.specs.declared.Refusal.{Refusal}
 use Rattle.rules.specs.declared.Refusal.the-variants.{MemoryLength, UnknownKind, WrongSlot, WrongValue, WrongSetup, WrongState}
-use Rattle.rules.specs.Events.{refusalNumber}
+use Rattle.rules.specs.Events.{letterOf, refusalNumber}
+use Rattle.rules.specs.Refusals.{inRange, goodPair, emptyBus, setupOf}
 use Rattle.rules.specs.Runs.{Bench, rulingOn, next, answered, ruledOutcome, eventOf}
-use Rattle.lines.specs.Script.{pairAt, pairsTo, recordAt, digitsOf, lineOf, benchTo, linesTo}
+use Rattle.rules.proofs.Range.Kept.{setup-in-range}
+use Rattle.lines.specs.Script.{pairAt, pairsTo, pairsOf, recordAt, hexDigit, digitsOf, lineOf, benchTo, linesTo, recordsIn, leftOf, lastLine}
+use Rattle.lines.specs.Steps.{cutSetup, firstLine}
 
 -- a refusal's number is a digit
 refusal-small : (r : Refusal) → refusalNumber r ≤ 6
@@ -65,6 +69,34 @@ line-length Nack = omega arith
 line-length (Data b) = omega arith
 line-length (Refused r) = omega arith
 
+pub lines-length : (x : Bench) (bs : List ℕ) (n : ℕ) → length (linesTo x bs n) ≤ 4 * n
+unfolding linesTo
+lines-length x bs zero = omega arith
+lines-length x bs (suc n) =
+    let l : List ℕ = lineOf (answered (recordAt bs (4 * n)) (benchTo x bs n)) in
+    rw (length-append (linesTo x bs n) l) (omega (arith, lines-length x bs n, line-length (answered (recordAt bs (4 * n)) (benchTo x bs n))))
+
+-- and the lines of a step at most six
+pub first-length : (bs : List ℕ) → length (firstLine bs) ≤ 6
+unfolding firstLine
+first-length bs =
+    cond-cases (λ (l : List ℕ). length l ≤ 6) (cutSetup bs) (λ e. omega arith)
+    (λ e. cond-cases (λ (l : List ℕ). length l ≤ 6) (allOf goodPair (pairsOf bs)) (λ e. omega arith) (λ e. omega arith))
+
+pub last-length : (n : ℕ) → length (lastLine n) ≤ 6
+unfolding lastLine
+last-length n = by-test (eqb n 0) (λ e. rw e (omega arith)) (λ e. rw e (omega arith))
+
+-- what is left of some bytes
+pub left-length : (bs : List ℕ) → length (leftOf bs) ≡ length bs % 4
+unfolding leftOf recordsIn
+left-length bs = length-drop (4 * (length bs / 4)) bs ∙ omega arith
+
+-- the bus of a refused setup is in range
+pub empty-in-range : inRange emptyBus ≡ true
+unfolding setupOf allOf goodPair
+empty-in-range = setup-in-range (record { kind = 3; length = 0 } ∷ [])
+
 -- stores after stores
 pub sets-append : (l : List ℕ) (i : ℕ) (p q : List ℕ) → sets l i (p ++ q) ≡ sets (sets l i p) (i + length p) q
 sets-append l i [] q = rw add-zero
@@ -103,9 +135,30 @@ pairs-at bs (suc n) k z h =
 abbrev pub noPair : Pair
 noPair = record { kind = 0; length = 0 }
 
+-- the next pair of the setup, stored
+pub pairs-step : (d ps : List Pair) (bs : List ℕ) (i : ℕ) (p : Pair) → ps ≡ filled d (pairsTo bs 8) i → p ≡ pairAt bs (2 * i) → i < 8 → length d ≡ 8
+    → set ps i p ≡ filled d (pairsTo bs 8) (i + 1)
+pairs-step d ps bs i p e f h l =
+    ap₂ (λ (u : List Pair) (q : Pair). set u i q) e (f ∙ sym (pairs-at bs 8 i noPair h))
+    ∙ filled-step d (pairsTo bs 8) i noPair (omega arith) (rw (length-pairs bs 8) h)
+
 -- past what has been filled stands what stood there
-pub filled-later : (d s : List ℕ) (k j : ℕ) → k ≤ length s → k ≤ j → getD (filled d s k) j 0 ≡ getD d j 0
+filled-later : (d s : List ℕ) (k j : ℕ) → k ≤ length s → k ≤ j → getD (filled d s k) j 0 ≡ getD d j 0
 unfolding filled
 filled-later d s k j h l =
     let e : length (take k s) + (j - k) ≡ j = rw (length-take-le k s h) (omega arith) in
     sym (ap (λ n. getD (take k s ++ drop k d) n 0) e) ∙ getD-append-add (take k s) (drop k d) (j - k) 0 ∙ getD-drop k d (j - k) 0 ∙ ap (λ n. getD d n 0) (omega arith)
+
+-- so the next byte of a record that is cut is still where it was, and moves to the front
+pub keep-step : (d u : List ℕ) (from i : ℕ) → u ≡ filled d (drop from d) i → from + i < length d → set u i (getD u (from + i) 0) ≡ filled d (drop from d) (i + 1)
+keep-step d u from i e h =
+    let l : i < length (drop from d) = rw (length-drop from d) (omega arith) in
+    let f : getD (filled d (drop from d) i) (from + i) 0 ≡ getD (drop from d) i 0 =
+    filled-later d (drop from d) i (from + i) (omega arith) (omega arith) ∙ sym (getD-drop from d i 0) in
+    ap₂ (λ (v : List ℕ) (x : ℕ). set v i x) e (ap (λ (v : List ℕ). getD v (from + i) 0) e ∙ f) ∙ filled-step d (drop from d) i 0 (omega arith) l
+
+-- the line of a byte that was read
+pub data-by : (a : Answer) (b x y at end : ℕ) (out o : List ℕ) → a ≡ Data b → x ≡ hexDigit (b / 16) → y ≡ hexDigit (b % 16)
+    → (end ≡ at + 4) × (o ≡ sets out at (0x44 ∷ x ∷ y ∷ 0x0A ∷ [])) → (end ≡ at + length (lineOf a)) × (o ≡ sets out at (lineOf a))
+unfolding lineOf digitsOf letterOf
+data-by a b x y at end out o e f g p = rw (e, ← f, ← g) p

@@ -59,24 +59,34 @@ unfoldable pub linesTo : Bench → List ℕ → ℕ → List ℕ
 linesTo x bs zero = []
 linesTo x bs (suc n) = linesTo x bs n ++ lineOf (answered (recordAt bs (4 * n)) (benchTo x bs n))
 
--- the whole records of some bytes, and what is left over
+-- the whole records of some bytes, and what is left over: the bytes of a record that is cut
 unfoldable pub recordsIn : List ℕ → ℕ
 recordsIn bs = length bs / 4
+
+unfoldable pub leftOf : List ℕ → List ℕ
+leftOf bs = drop (4 * recordsIn bs) bs
 
 -- "An incomplete setup or record gives the last line `short`."
 abbrev pub shortLine : List ℕ
 shortLine = 0x73 ∷ 0x68 ∷ 0x6F ∷ 0x72 ∷ 0x74 ∷ 0x0A ∷ []
 
+-- so many bytes of a record came
+unfoldable pub lastLine : ℕ → List ℕ
+lastLine n = cond (eqb n 0) [] shortLine
+
 unfoldable pub ending : List ℕ → List ℕ
-ending bs = cond (eqb (length bs % 4) 0) [] shortLine
+ending bs = lastLine (length bs % 4)
 
 -- "A bad setup gives `R5` alone."
 abbrev pub badSetupLine : List ℕ
 badSetupLine = 0x52 ∷ 0x35 ∷ 0x0A ∷ []
 
 -- "Memory starts as FFh."
+unfoldable pub startingMemory : List ℕ
+startingMemory = replicate memoryBytes 0xFF
+
 unfoldable pub begunAt : List Pair → Bench
-begunAt ps = record { bus = setupOf ps .bus; memory = replicate memoryBytes 0xFF }
+begunAt ps = record { bus = setupOf ps .bus; memory = startingMemory }
 
 -- all that the program writes, for all that it reads
 unfoldable pub scriptOf : List ℕ → List ℕ

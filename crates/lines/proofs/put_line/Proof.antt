@@ -4,7 +4,7 @@ use native.Mathlib.Omega.{arith}
 use borrow.Author.Needs.{needs}
 use Rattle.rules.specs.Events.{letterOf}
 use Rattle.lines.specs.Script.{lineOf, digitsOf}
-use Rattle.lines.proofs.Laws.{digit-small}
+use Rattle.lines.proofs.Laws.{digit-small, data-by}
 use Rattle.lines.proofs.put_line.Statement.{statement}
 use Rattle.lines.proofs.put_line.Tie as tie
 
@@ -34,6 +34,6 @@ put-line-spec =
     (λ c. search needs)
     (λ c. rw (c .before .before .before .before .enum-told3 .given .1) (c .before .before .put-one3 .ensures))
     (λ c. search needs)
-    (λ c. rw (c .before .before .before .before .before .before .before .a .given .1, ← c .before .before .before .before .hex-digit .ensures, ← c .before .before .before .hex-digit2 .ensures) (c .before .before .put-three .ensures))
+    (λ c. data-by _ _ _ _ _ _ (c .before .before .before .before .before .before .before .before .before .before .args .out .now) _ (c .before .before .before .before .before .before .before .a .given .1) (c .before .before .before .before .hex-digit .ensures) (c .before .before .before .hex-digit2 .ensures) (c .before .before .put-three .ensures))
     (λ c. search needs)
     (λ c. rw (c .before .before .before .before .before .before .a2 .given .1, ← c .before .before .before .number-of .ensures) (c .before .before .put-two .ensures)))

@@ -5,15 +5,15 @@ use Prim.Native.Nat.{_≤_, _-_}
 use native.Mathlib.Omega.{arith}
 use borrow.Author.Needs.{needs}
 use lib.ListN.{length}
-use Rattle.lists.specs.Each.{filled, filled-none, filled-step, filled-full}
+use Rattle.lists.specs.Each.{filled, filled-none, filled-full}
 use Rattle.rules.specs.Refusals.{setupOf}
 use Rattle.lines.specs.Script.{pairsTo, pairsOf}
-use Rattle.lines.proofs.Laws.{noPair, length-pairs, pairs-at}
+use Rattle.lines.proofs.Laws.{length-pairs, pairs-step}
 use Rattle.lines.proofs.setup.Statement.{statement}
 use Rattle.lines.proofs.setup.Tie as tie
 
 abbrev Inv-loop : tie.InvT-loop
-Inv-loop bytes pairs₀ i₀ pairs i = (i ≤ 8) × (length bytes ≡ 16) × (length pairs₀ ≡ 8) × (pairs ≡ filled pairs₀ (pairsTo bytes 8) i)
+Inv-loop bytes pairs₀ i₀ pairs i = (i ≤ 8) × (16 ≤ length bytes) × (length pairs₀ ≡ 8) × (pairs ≡ filled pairs₀ (pairsTo bytes 8) i)
 
 abbrev μ-loop : tie.MeasureT-loop
 μ-loop bytes pairs₀ i₀ pairs i = 8 - i
@@ -32,6 +32,6 @@ setup-spec =
     (λ c. search needs)
     (λ c. search needs)
     (λ c. search needs)
-    (λ c. let l = c .before .before .loop in let bs = c .before .before .before .before .args .bytes .now in (omega arith, l .inv .1, l .inv .2, rw (c .pair-at .ensures, l .inv .3, ← pairs-at bs 8 (l .i) noPair (omega arith)) (filled-step _ (pairsTo bs 8) (l .i) noPair (omega arith) (rw (length-pairs bs 8) (omega arith)))))
+    (λ c. let l = c .before .before .loop in (omega arith, l .inv .1, l .inv .2, pairs-step _ _ _ _ _ (l .inv .3) (c .pair-at .ensures) (omega arith) (l .inv .2)))
     (λ c κs. search needs)
     (λ c. let l = c .before .before .loop in let bs = c .before .before .before .before .args .bytes .now in c .setup .ensures ∙ ap setupOf (l .inv .3 ∙ filled-full _ (pairsTo bs 8) (l .i) (omega arith) (rw (length-pairs bs 8) (omega arith)))))
