@@ -30,32 +30,14 @@ use Rattle.rules.specs.declared.Slot.{Slot}
 use Rattle.rules.specs.declared.SlotNo.{SlotNo}
 use Rattle.lists.specs.Tests.{cond-swap, or-right-false}
 use Rattle.rules.specs.Modelled.{absent, memoryBytes}
-use Rattle.rules.specs.Refusals.{wrongLength, outside, wrongValue, kindsOf, slotInRange, inRange, ruledBy, ruling}
+use Rattle.rules.specs.Refusals.{wrongLength, outside, wrongValue, kindsOf, kindAt, slotInRange, inRange, ruledFor, ruledBy, ruling}
 use Rattle.rules.specs.Runs.{taken, given, ruledNext, ruledAnswer, ruledOutcome, eventOf}
 use Rattle.rules.proofs.Range.Rulings.{ruling-by-kinds}
-use Rattle.bus.specs.Taken.{kindsIn, takenThen}
+use Rattle.ruling.specs.Kinds.{kindsIn}
+use Rattle.bus.specs.Taken.{takenThen}
 use Rattle.rules.specs.Fields.{withSensor}
 use Rattle.rules.specs.Sensor.{converted}
 use Rattle.rules.specs.Slot.{switched, presentNext, slotNext, acks, drives, driven}
-
--- what a proof takes for the element past the end of an array of slots: zeros, empty lists, the first phase
-abbrev pub noSlot : Slot
-noSlot =
-    record {
-      kind = 0;
-      length = 0;
-      left = 0;
-      half = 0;
-      counter = 0;
-      protection = [];
-      coming = [];
-      voltage = false;
-      phase = Idle;
-      latch = [];
-      marks = [];
-      place = 0;
-      sensor = record { pointer = 0; configuration = 0; high = 0; low = 0; critical = 0; temperature = 0; resolution = 0; timeout = 0; word = 0 };
-    }
 
 -- what the loops do with slot n
 abbrev pub afterByte : ℕ → ℕ → Slot → Slot
@@ -97,16 +79,6 @@ module _ (n : SlotNo) (ss : List Slot) where
   unfolding slotNext presentNext
   heat-each t = ap (λ (f : ℕ → Slot → Slot). mapFrom f 0 ss) (λ j i s. sym (cond-swap (absent s) (eqb (n .0) i) s (withSensor (converted (s .sensor) t) s)) j)
 
--- a value in range is a byte
-as-byte : (v : ℤ) → outside (pos 0) (pos 255) v ≡ false → T (nonNeg v) × Fits w8 (natAbs v)
-unfolding outside
-as-byte (pos n) e = (tt, record { fits = let h : n ≤ 255 = ltb-false 255 n (or-right-false (ltb n 0) (ltb 255 n) e) in omega arith })
-as-byte (negsuc n) e = absurd (false≢true (sym e))
-
-pub value-as-byte : (e : Event) → e .kind ≡ 2 → wrongValue e ≡ false → T (nonNeg (e .value)) × Fits w8 (natAbs (e .value))
-unfolding wrongValue
-value-as-byte e k w = as-byte (e .value) (rw (eq-eqb (e .kind) 2 k) at w)
-
 -- an event by its ruling
 module _ (b : Bus) (m : List ℕ) (e : Event) where
   pub event-refused : (r : Outcome) (x : Refusal) → ruling b m e ≡ Refused x → r ≡ record { bus = b; answer = answer.Refused x } → eventOf b m e ≡ (r, m)
@@ -125,10 +97,7 @@ module _ (b : Bus) (m : List ℕ) (e : Event) where
   unfolding ruling wrongLength inRange
   ruling-odd q h f g = rw (eq-eqb (length m) memoryBytes h, ← f, g)
 
-  pub ruling-in-range : (q p : Ruling) → (inRange b ≡ true) × (length m ≡ memoryBytes) → q ≡ ruledBy (kindsIn (b .slots)) e → q ≡ p → ruling b m e ≡ p
-  unfolding kindsOf
-  ruling-in-range q p v f g = ruling-by-kinds b m e (v .1) (v .0) ∙ sym f ∙ g
-
--- past the end of an array of pairs
-abbrev pub noPair : Pair
-noPair = record { kind = 0; length = 0 }
+  pub ruling-in-range : (k : ℕ) (q p : Ruling) → (inRange b ≡ true) × (length m ≡ memoryBytes) → k ≡ kindAt (kindsIn (b .slots)) (e .slot) → q ≡ ruledFor k e → q ≡ p
+      → ruling b m e ≡ p
+  unfolding kindsOf ruledBy
+  ruling-in-range k q p v d f g = ruling-by-kinds b m e (v .1) (v .0) ∙ sym (ap (λ (x : ℕ). ruledFor x e) d) ∙ sym f ∙ g

@@ -2,7 +2,7 @@
 -- Assumes nothing.
 use Prim.Native.Nat.{ℕ}
 use mathlib.Core.Bool.{Bool, cond}
-use mathlib.Core.List.{List, map}
+use mathlib.Core.List.{List}
 use Rattle.lists.specs.Each.{mapFrom, anyFrom, firstFrom}
 use Rattle.lists.specs.Parts.{part}
 use Rattle.rules.specs.declared.Act.{Act}
@@ -15,9 +15,6 @@ use Rattle.rules.specs.Slot.{slotNext, acks, drives, driven}
 use Rattle.rules.specs.Bus.{busNext, memoryNext, shown}
 use Rattle.bus.specs.declared.Echo.{Echo}
 use Rattle.bus.specs.declared.Seen.{Seen}
-
-abbrev pub kindsIn : List Slot → List ℕ
-kindsIn ss = map (λ (s : Slot). s .kind) ss
 
 -- the slots after a byte, and whether one acknowledges
 unfoldable pub byteThen : List Slot → ℕ → Echo

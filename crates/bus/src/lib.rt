@@ -8,17 +8,16 @@ ghost use lib.ListN.{length, getD, set};
 ghost use Rattle.lists.specs.Each.{mapFrom, allOf};
 ghost use Rattle.lists.specs.Parts.{eachPart};
 ghost use Rattle.rules.specs.Modelled.{slotBytes, memoryBytes};
-ghost use Rattle.rules.specs.Events.{actOf};
 ghost use Rattle.rules.specs.Fresh.{setupSlot};
 ghost use Rattle.rules.specs.Fields.{withSensor};
 ghost use Rattle.rules.specs.Sensor.{converted};
 ghost use Rattle.rules.specs.Memory.{tickedPart};
 ghost use Rattle.rules.specs.Slot.{slotNext, switched};
-ghost use Rattle.rules.specs.Refusals.{unknownKind, wrongSlot, outside, wrongValue, goodPair, slotInRange, inRange, ruledBy, setupOf};
+ghost use Rattle.rules.specs.Refusals.{slotInRange, inRange, setupOf};
 ghost use Rattle.rules.specs.Reader.{blockBytes};
 ghost use Rattle.rules.specs.Runs.{eventOf};
 ghost use Rattle.slot.specs.Shown.{signalled};
-ghost use Rattle.bus.specs.Taken.{kindsIn, byteThen, readThen, takenThen};
+ghost use Rattle.bus.specs.Taken.{byteThen, readThen, takenThen};
 use rules::Act;
 use rules::Answer;
 use rules::BlockNo;
@@ -46,30 +45,6 @@ pub struct Seen {
 
 // The memory's length that the bus asks for.
 const MEMORY: usize = 4096;
-
-// Every number of every slot is in its range.
-fn in_range(slots: [Slot; 8]) -> bool
-    ensures { λ r. ⌜ r ≡ allOf slotInRange slots ⌝ }
-{
-    let mut ok = true;
-    for i in 0..8usize {
-        let s = slots[i];
-        ok = ok & slot::in_range(s);
-    }
-    ok
-}
-
-// The kind of slot n; 0, absent, where there is no such slot.
-fn kind_at(slots: [Slot; 8], n: SlotNo) -> u8
-    ensures { λ r. ⌜ r ≡ getD (kindsIn slots) (n .0) 0 ⌝ }
-{
-    let at = n.0 as usize;
-    if at < 8 {
-        let s = slots[at];
-        return s.kind;
-    }
-    0
-}
 
 // Every slot after a start, stop, timeout or power cycle.
 fn signal_all(slots: [Slot; 8], x: Signal) -> [Slot; 8]
@@ -175,84 +150,6 @@ fn heat_one(slots: [Slot; 8], n: SlotNo, t: i16) -> [Slot; 8]
     slots
 }
 
-// Row 2: the kind is not 1 to 9.
-fn unknown_kind(e: Event) -> bool
-    ensures { λ r. ⌜ r ≡ unknownKind e ⌝ }
-{
-    (e.kind < 1) | (9 < e.kind)
-}
-
-// Row 3: a voltage for a slot that is not there, or a temperature for one without a sensor.
-fn wrong_slot(slots: [Slot; 8], e: Event) -> bool
-    ensures { λ r. ⌜ r ≡ wrongSlot (kindsIn slots) e ⌝ }
-{
-    let n = e.slot;
-    let kind = kind_at(slots, n);
-    ((e.kind == 7) | (e.kind == 9)) & ((7 < n.0) | (kind == 0)) | (e.kind == 9) & (kind != 2)
-}
-
-// A value outside a range.
-fn outside(least: i16, most: i16, v: i16) -> bool
-    ensures { λ r. ⌜ r ≡ outside least most v ⌝ }
-{
-    (v < least) | (most < v)
-}
-
-// Row 4: the value is outside its kind's range.
-fn wrong_value(e: Event) -> bool
-    ensures { λ r. ⌜ r ≡ wrongValue e ⌝ }
-{
-    let v = e.value;
-    if e.kind == 2 {
-        return outside(0, 255, v);
-    }
-    if (e.kind == 3) | (e.kind == 7) {
-        return outside(0, 1, v);
-    }
-    if e.kind == 9 {
-        return outside(-640, 2000, v);
-    }
-    false
-}
-
-// What an event with a value in range does.
-fn act_of(e: Event) -> Act
-    requires { ⌜ wrongValue e ≡ false ⌝ }
-    ensures { λ r. ⌜ r ≡ actOf e ⌝ }
-{
-    let kind = e.kind;
-    let n = e.slot;
-    let v = e.value;
-    match kind {
-        1 => Act::Start,
-        2 => Act::Byte(v as u8),
-        3 => Act::Read(0 < v),
-        4 => Act::Stop,
-        5 => Act::Timeout,
-        6 => Act::Tick,
-        7 => Act::Voltage(n, 0 < v),
-        8 => Act::Power,
-        _ => Act::Temperature(n, v),
-    }
-}
-
-// What an event is taken for, by rows 2, 3 and 4.
-fn ruled(slots: [Slot; 8], e: Event) -> Ruling
-    ensures { λ r. ⌜ r ≡ ruledBy (kindsIn slots) e ⌝ }
-{
-    if unknown_kind(e) {
-        return Ruling::Refused(Refusal::UnknownKind);
-    }
-    if wrong_slot(slots, e) {
-        return Ruling::Refused(Refusal::WrongSlot);
-    }
-    if wrong_value(e) {
-        return Ruling::Refused(Refusal::WrongValue);
-    }
-    let a = act_of(e);
-    Ruling::Taken(a)
-}
-
 // The slots, with nothing to answer.
 fn quiet(slots: [Slot; 8]) -> Outcome
     ensures { λ r. ⌜ r ≡ record { bus = record { slots = slots }; answer = Answer.Nothing } ⌝ }
@@ -331,7 +228,9 @@ pub fn event_in_range(bus: Bus, mem: &mut [u8], e: Event) -> Outcome
     ensures { λ r. ⌜ eventOf bus (now (mem .entry)) e ≡ (r, now (mem .exit)) ⌝ }
 {
     let slots = bus.slots;
-    let ruling = ruled(slots, e);
+    let n = e.slot;
+    let kind = ruling::kind_at(slots, n);
+    let ruling = ruling::ruled(kind, e);
     match ruling {
         Ruling::Taken(a) => taken(bus, mem, a),
         Ruling::Refused(x) => refused(bus, x),
@@ -347,28 +246,10 @@ pub fn event(bus: Bus, mem: &mut [u8], e: Event) -> Outcome
         return refused(bus, Refusal::MemoryLength);
     }
     let slots = bus.slots;
-    if in_range(slots) {
+    if ruling::in_range(slots) {
         return event_in_range(bus, mem, e);
     }
     refused(bus, Refusal::WrongState)
-}
-
-// A pair that row 5 lets pass.
-fn good_pair(p: Pair) -> bool
-    ensures { λ r. ⌜ r ≡ goodPair p ⌝ }
-{
-    (p.kind <= 2) & ((p.kind == 0) | (1 <= p.length) & (p.length <= 5))
-}
-
-fn good_pairs(pairs: [Pair; 8]) -> bool
-    ensures { λ r. ⌜ r ≡ allOf goodPair pairs ⌝ }
-{
-    let mut ok = true;
-    for i in 0..8usize {
-        let p = pairs[i];
-        ok = ok & good_pair(p);
-    }
-    ok
 }
 
 // A fresh slot; the length of an absent one is ignored.
@@ -398,7 +279,7 @@ fn setup_slots(pairs: [Pair; 8]) -> [Slot; 8]
 pub fn setup(pairs: [Pair; 8]) -> Outcome
     ensures { λ r. ⌜ r ≡ setupOf pairs ⌝ }
 {
-    if good_pairs(pairs) {
+    if ruling::good_pairs(pairs) {
         return quiet(setup_slots(pairs));
     }
     let none = Slot::fresh(0, 0);
@@ -411,7 +292,12 @@ pub fn block(mem: &[u8], bus: Bus, n: SlotNo, k: BlockNo) -> &[u8]
     ensures { λ r. ⌜ now r ≡ blockBytes bus (now (mem .entry)) n k ⌝ }
 {
     let slots = bus.slots;
-    if (mem.len() != MEMORY) | !in_range(slots) | (7 < n.0) | (kind_at(slots, n) == 0) | (3 < k.0) {
+    if (mem.len() != MEMORY)
+        | !ruling::in_range(slots)
+        | (7 < n.0)
+        | (ruling::kind_at(slots, n) == 0)
+        | (3 < k.0)
+    {
         return &mem[0..0];
     }
     let a = Slot::BYTES * (n.0 as usize) + Slot::BLOCK * (k.0 as usize);

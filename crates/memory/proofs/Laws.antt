@@ -40,9 +40,10 @@ module _ (s r : Slot) (m q : List ℕ) where
   pub tick-ends : (a : Address) (at : ℕ) → (s .kind ≡ 0 → ⊥) → s .left ≡ 1 → a ≡ addressOf s → at ≡ a .0 / 16 * 16
       → r ≡ ended s → q ≡ putUpTo (s .latch) (s .marks) at 16 m → AfterTick s m r q
   unfolding slotNext presentNext ticked tickedPart stored pageOf absent
-  tick-ends a at k l e f g h =
-      (rw (ne-eqb _ _ k, eq-eqb _ _ l) g,
-      rw (ne-eqb _ _ k, eq-eqb _ _ l) (h ∙ ap (λ (n : ℕ). putUpTo (s .latch) (s .marks) n 16 m) (f ∙ ap (λ (x : Address). x .0 / 16 * 16) e)))
+  tick-ends a at k l e f g h = (
+    rw (ne-eqb _ _ k, eq-eqb _ _ l) g,
+    rw (ne-eqb _ _ k, eq-eqb _ _ l) (h ∙ ap (λ (n : ℕ). putUpTo (s .latch) (s .marks) n 16 m) (f ∙ ap (λ (x : Address). x .0 / 16 * 16) e)),
+  )
 
   -- it goes on
   pub tick-waits : (s .kind ≡ 0 → ⊥) → (s .left ≡ 1 → ⊥) → r ≡ withLeft (s .left - 1) s → q ≡ m → AfterTick s m r q

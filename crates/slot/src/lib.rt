@@ -402,27 +402,3 @@ pub fn heated(t: i16, s: Slot) -> Slot
     let sensor = sensor::converted(x, t);
     Slot { sensor, ..s }
 }
-
-// A length from 1 to 5, of an absent slot 0.
-fn length_in_range(s: Slot) -> bool
-    ensures { λ r. ⌜ r ≡ lengthInRange s ⌝ }
-{
-    if s.kind == 0 {
-        return s.length == 0;
-    }
-    (1 <= s.length) & (s.length <= 5)
-}
-
-// Every number of the slot is in its range.
-pub fn in_range(s: Slot) -> bool
-    ensures { λ r. ⌜ r ≡ slotInRange s ⌝ }
-{
-    let x = s.sensor;
-    (s.kind <= 2)
-        & length_in_range(s)
-        & (s.left <= s.length)
-        & (s.half <= 1)
-        & (s.counter <= 255)
-        & (s.place <= 15)
-        & sensor::in_range(x)
-}

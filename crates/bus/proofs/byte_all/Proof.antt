@@ -12,7 +12,8 @@ use Rattle.rules.specs.Refusals.{slotInRange}
 use Rattle.rules.specs.Slot.{slotNext, acks}
 use Rattle.slot.specs.Shown.{heeded}
 use Rattle.bus.specs.Taken.{byteThen}
-use Rattle.bus.proofs.Laws.{noSlot, afterByte, acked}
+use Rattle.ruling.proofs.Laws.{noSlot}
+use Rattle.bus.proofs.Laws.{afterByte, acked}
 use Rattle.bus.proofs.byte_all.Statement.{statement}
 use Rattle.bus.proofs.byte_all.Tie as tie
 

@@ -10,10 +10,11 @@ event-in-range-spec =
     tie.close
     (tie.spec
     (λ c κs. search needs)
-    (λ c. search needs)
     (λ c κs. search needs)
     (λ c. search needs)
     (λ c κs. search needs)
     (λ c. search needs)
-    (λ c. event-taken _ _ _ _ _ (ruling-in-range _ _ _ _ _ (c .before .before .before .before .before .before .before .before .before .before .pre) (c .before .before .before .before .before .before .before .ruled .ensures) (c .before .before .before .before .before .ruling .given .1)) (c .before .before .taken .ensures))
-    (λ c. event-refused _ _ _ _ _ (ruling-in-range _ _ _ _ _ (c .before .before .before .before .before .before .before .pre) (c .before .before .before .before .ruled .ensures) (c .before .before .ruling2 .given .1)) (c .refused .ensures)))
+    (λ c κs. search needs)
+    (λ c. search needs)
+    (λ c. event-taken _ _ _ _ _ (ruling-in-range _ _ _ _ _ _ (c .before .before .before .before .before .before .before .before .before .before .before .before .pre) (c .before .before .before .before .before .before .before .before .kind-at .ensures) (c .before .before .before .before .before .before .before .ruled .ensures) (c .before .before .before .before .before .ruling .given .1)) (c .before .before .taken .ensures))
+    (λ c. event-refused _ _ _ _ _ (ruling-in-range _ _ _ _ _ _ (c .before .before .before .before .before .before .before .before .before .pre) (c .before .before .before .before .before .kind-at .ensures) (c .before .before .before .before .ruled .ensures) (c .before .before .ruling2 .given .1)) (c .refused .ensures)))

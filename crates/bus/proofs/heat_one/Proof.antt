@@ -4,7 +4,8 @@ use mathlib.Core.Path.{_∙_}
 use native.Mathlib.Omega.{arith}
 use borrow.Author.Needs.{needs}
 use Rattle.lists.specs.Each.{mapFrom-one, mapFrom-past}
-use Rattle.bus.proofs.Laws.{noSlot, heat, heat-each}
+use Rattle.ruling.proofs.Laws.{noSlot}
+use Rattle.bus.proofs.Laws.{heat, heat-each}
 use Rattle.sensor.proofs.Signed.{back}
 use Rattle.bus.proofs.heat_one.Statement.{statement}
 use Rattle.bus.proofs.heat_one.Tie as tie

@@ -12,7 +12,8 @@ use Rattle.rules.specs.Refusals.{slotInRange}
 use Rattle.rules.specs.Slot.{presentNext, slotNext, drives, driven}
 use Rattle.slot.specs.Shown.{readOut}
 use Rattle.bus.specs.Taken.{readThen}
-use Rattle.bus.proofs.Laws.{noSlot, afterRead, drove, byteOf, byte-of-part}
+use Rattle.ruling.proofs.Laws.{noSlot}
+use Rattle.bus.proofs.Laws.{afterRead, drove, byteOf, byte-of-part}
 use Rattle.bus.proofs.read_all.Statement.{statement}
 use Rattle.bus.proofs.read_all.Tie as tie
 

@@ -8,7 +8,7 @@ use borrow.Author.Needs.{needs}
 use lib.ListN.{length, length-map, List·getD-map}
 use Rattle.lists.specs.Each.{filled, filled-none, filled-step, filled-full}
 use Rattle.rules.specs.Fresh.{setupSlot}
-use Rattle.bus.proofs.Laws.{noPair}
+use Rattle.ruling.proofs.Laws.{noPair}
 use Rattle.bus.proofs.setup_slots.Statement.{statement}
 use Rattle.bus.proofs.setup_slots.Tie as tie
 

@@ -7,7 +7,7 @@ use borrow.Author.Needs.{needs}
 use lib.ListN.{length}
 use Rattle.lists.specs.Each.{mapTo, mapTo-none, mapTo-next, mapTo-step, mapTo-full}
 use Rattle.slot.specs.Shown.{signalled}
-use Rattle.bus.proofs.Laws.{noSlot}
+use Rattle.ruling.proofs.Laws.{noSlot}
 use Rattle.bus.proofs.signal_all.Statement.{statement}
 use Rattle.bus.proofs.signal_all.Tie as tie
 

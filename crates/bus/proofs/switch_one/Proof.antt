@@ -4,7 +4,8 @@ use mathlib.Core.Path.{_∙_}
 use native.Mathlib.Omega.{arith}
 use borrow.Author.Needs.{needs}
 use Rattle.lists.specs.Each.{mapFrom-one, mapFrom-past}
-use Rattle.bus.proofs.Laws.{noSlot, switch, switch-each}
+use Rattle.ruling.proofs.Laws.{noSlot}
+use Rattle.bus.proofs.Laws.{switch, switch-each}
 use Rattle.bus.proofs.switch_one.Statement.{statement}
 use Rattle.bus.proofs.switch_one.Tie as tie
 

@@ -12,7 +12,8 @@ use Rattle.rules.specs.Memory.{tickedPart}
 use Rattle.rules.specs.Refusals.{slotInRange}
 use Rattle.rules.specs.Slot.{presentNext, slotNext}
 use Rattle.rules.proofs.Memory.Stored.{length-tickedPart}
-use Rattle.bus.proofs.Laws.{noSlot, afterTick}
+use Rattle.ruling.proofs.Laws.{noSlot}
+use Rattle.bus.proofs.Laws.{afterTick}
 use Rattle.bus.proofs.tick_all.Statement.{statement}
 use Rattle.bus.proofs.tick_all.Tie as tie
 

@@ -174,9 +174,10 @@ module _ (n : ℕ) where
       (tt, on xs (present-next n Start s a ∙ ap (inPhase Control) (let-go-none s w)) (present-silent true xs (inPhase Control s) a (started-waits s a) u))
   present-silent true (byte c ∷ xs) s a (deaf e) u =
       (ap (λ p. acksIn p n c s) e, on xs (present-next n (Byte c) s a ∙ ap (λ p. byteIn p n c s) e) (present-silent false xs s a (deaf e) (u .1)))
-  present-silent true (byte c ∷ xs) s a (awaits e) u =
-      (ap (λ p. acksIn p n c s) e ∙ unheard-nack n c s (u .0),
-      on xs (present-next n (Byte c) s a ∙ ap (λ p. byteIn p n c s) e ∙ unheard-deaf n c s (u .0)) (present-silent false xs (inPhase Deaf s) a (deaf (stands-deaf s)) (u .1)))
+  present-silent true (byte c ∷ xs) s a (awaits e) u = (
+    ap (λ p. acksIn p n c s) e ∙ unheard-nack n c s (u .0),
+    on xs (present-next n (Byte c) s a ∙ ap (λ p. byteIn p n c s) e ∙ unheard-deaf n c s (u .0)) (present-silent false xs (inPhase Deaf s) a (deaf (stands-deaf s)) (u .1)),
+  )
   present-silent false (byte c ∷ xs) s a (deaf e) u =
       (ap (λ p. acksIn p n c s) e, on xs (present-next n (Byte c) s a ∙ ap (λ p. byteIn p n c s) e) (present-silent false xs s a (deaf e) u))
   present-silent true (read m ∷ xs) s a (awaits e) u =

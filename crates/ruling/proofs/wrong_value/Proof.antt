@@ -5,8 +5,8 @@ use borrow.Author.Needs.{needs}
 use borrow.Author.Tests.{eq-eqb, ne-eqb}
 use Rattle.rules.specs.Refusals.{wrongValue}
 use Rattle.sensor.proofs.Signed.{back}
-use Rattle.bus.proofs.wrong_value.Statement.{statement}
-use Rattle.bus.proofs.wrong_value.Tie as tie
+use Rattle.ruling.proofs.wrong_value.Statement.{statement}
+use Rattle.ruling.proofs.wrong_value.Tie as tie
 
 pub wrong-value-spec : {M : Type 1} → statement M
 unfolding wrongValue

@@ -4,9 +4,9 @@ use native.Mathlib.Omega.{arith}
 use borrow.Author.Tests.{ne-eqb}
 use Rattle.rules.specs.Events.{isOne, actOf}
 use Rattle.sensor.proofs.Signed.{back}
-use Rattle.bus.proofs.Laws.{value-as-byte}
-use Rattle.bus.proofs.act_of.Statement.{statement}
-use Rattle.bus.proofs.act_of.Tie as tie
+use Rattle.ruling.proofs.Laws.{value-as-byte}
+use Rattle.ruling.proofs.act_of.Statement.{statement}
+use Rattle.ruling.proofs.act_of.Tie as tie
 
 pub act-of-spec : {M : Type 1} → statement M
 unfolding actOf isOne

@@ -2,8 +2,8 @@
 -- Assumes nothing.
 use borrow.Author.Needs.{needs}
 use Rattle.rules.specs.Refusals.{unknownKind}
-use Rattle.bus.proofs.unknown_kind.Statement.{statement}
-use Rattle.bus.proofs.unknown_kind.Tie as tie
+use Rattle.ruling.proofs.unknown_kind.Statement.{statement}
+use Rattle.ruling.proofs.unknown_kind.Tie as tie
 
 pub unknown-kind-spec : {M : Type 1} → statement M
 unfolding unknownKind

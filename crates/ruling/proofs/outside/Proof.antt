@@ -2,8 +2,8 @@
 -- Assumes nothing.
 use borrow.Author.Needs.{needs}
 use Rattle.rules.specs.Refusals.{outside}
-use Rattle.bus.proofs.outside.Statement.{statement}
-use Rattle.bus.proofs.outside.Tie as tie
+use Rattle.ruling.proofs.outside.Statement.{statement}
+use Rattle.ruling.proofs.outside.Tie as tie
 
 pub outside-spec : {M : Type 1} → statement M
 unfolding outside

@@ -2,13 +2,12 @@
 -- Assumes nothing.
 use borrow.Author.Needs.{needs}
 use Rattle.rules.specs.Refusals.{wrongSlot}
-use Rattle.bus.proofs.wrong_slot.Statement.{statement}
-use Rattle.bus.proofs.wrong_slot.Tie as tie
+use Rattle.ruling.proofs.wrong_slot.Statement.{statement}
+use Rattle.ruling.proofs.wrong_slot.Tie as tie
 
 pub wrong-slot-spec : {M : Type 1} → statement M
 unfolding wrongSlot
 wrong-slot-spec =
     tie.close
     (tie.spec
-    (λ c κs. search needs)
-    (λ c. rw (c .before .before .before .before .kind-at .ensures)))
+    (λ c. search needs))

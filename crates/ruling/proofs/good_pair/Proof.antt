@@ -2,8 +2,8 @@
 -- Assumes nothing.
 use borrow.Author.Needs.{needs}
 use Rattle.rules.specs.Refusals.{goodLength, goodPair}
-use Rattle.bus.proofs.good_pair.Statement.{statement}
-use Rattle.bus.proofs.good_pair.Tie as tie
+use Rattle.ruling.proofs.good_pair.Statement.{statement}
+use Rattle.ruling.proofs.good_pair.Tie as tie
 
 pub good-pair-spec : {M : Type 1} → statement M
 unfolding goodPair goodLength

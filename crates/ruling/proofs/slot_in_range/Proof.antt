@@ -2,12 +2,12 @@
 -- Assumes nothing.
 use borrow.Author.Needs.{needs}
 use Rattle.rules.specs.Refusals.{kindInRange, slotInRange}
-use Rattle.slot.proofs.in_range.Statement.{statement}
-use Rattle.slot.proofs.in_range.Tie as tie
+use Rattle.ruling.proofs.slot_in_range.Statement.{statement}
+use Rattle.ruling.proofs.slot_in_range.Tie as tie
 
-pub in-range-spec : {M : Type 1} → statement M
+pub slot-in-range-spec : {M : Type 1} → statement M
 unfolding slotInRange kindInRange
-in-range-spec =
+slot-in-range-spec =
     tie.close
     (tie.spec
     (λ c κs. search needs)

@@ -2,12 +2,12 @@
 -- Assumes nothing.
 use mathlib.Core.Path.{sym, _∙_}
 use borrow.Author.Needs.{needs}
-use Rattle.rules.specs.Refusals.{ruledBy}
-use Rattle.bus.proofs.ruled.Statement.{statement}
-use Rattle.bus.proofs.ruled.Tie as tie
+use Rattle.rules.specs.Refusals.{ruledFor}
+use Rattle.ruling.proofs.ruled.Statement.{statement}
+use Rattle.ruling.proofs.ruled.Tie as tie
 
 pub ruled-spec : {M : Type 1} → statement M
-unfolding ruledBy
+unfolding ruledFor
 ruled-spec =
     tie.close
     (tie.spec

@@ -5,12 +5,14 @@ use native.Mathlib.Omega.{arith}
 use borrow.Author.Needs.{needs}
 use lib.ListN.{List·getD-map, List·getD-eq-default, length-map}
 use Rattle.rules.specs.declared.Slot.{Slot}
-use Rattle.bus.specs.Taken.{kindsIn}
-use Rattle.bus.proofs.Laws.{noSlot}
-use Rattle.bus.proofs.kind_at.Statement.{statement}
-use Rattle.bus.proofs.kind_at.Tie as tie
+use Rattle.rules.specs.Refusals.{kindAt}
+use Rattle.ruling.specs.Kinds.{kindsIn}
+use Rattle.ruling.proofs.Laws.{noSlot}
+use Rattle.ruling.proofs.kind_at.Statement.{statement}
+use Rattle.ruling.proofs.kind_at.Tie as tie
 
 pub kind-at-spec : {M : Type 1} → statement M
+unfolding kindAt
 kind-at-spec =
     tie.close
     (tie.spec

@@ -8,9 +8,9 @@ use borrow.Author.Needs.{needs}
 use lib.ListN.{length, drop}
 use Rattle.lists.specs.Each.{allOf, allOf-step, allOf-none}
 use Rattle.rules.specs.Refusals.{slotInRange}
-use Rattle.bus.proofs.Laws.{noSlot}
-use Rattle.bus.proofs.in_range.Statement.{statement}
-use Rattle.bus.proofs.in_range.Tie as tie
+use Rattle.ruling.proofs.Laws.{noSlot}
+use Rattle.ruling.proofs.in_range.Statement.{statement}
+use Rattle.ruling.proofs.in_range.Tie as tie
 
 abbrev Inv-loop : tie.InvT-loop
 Inv-loop slots ok₀ i₀ ok i = (i ≤ 8) × (length slots ≡ 8) × ((ok && allOf slotInRange (drop i slots)) ≡ allOf slotInRange slots)
@@ -30,5 +30,5 @@ in-range-spec =
     (λ c κs. search needs)
     (λ c. search needs)
     (λ c. search needs)
-    (λ c. let l = c .before .before .before .loop in let ss = c .before .before .before .before .args .t1 in let h : l .i < length ss = omega arith in (omega arith, l .inv .1, rw (c .in-range .ensures) (sym (allOf-step slotInRange (l .i) ss noSlot (l .ok) h) ∙ l .inv .2)))
+    (λ c. let l = c .before .before .before .loop in let ss = c .before .before .before .before .args .t1 in let h : l .i < length ss = omega arith in (omega arith, l .inv .1, rw (c .slot-in-range .ensures) (sym (allOf-step slotInRange (l .i) ss noSlot (l .ok) h) ∙ l .inv .2)))
     (λ c. let l = c .before .loop in sym (allOf-none slotInRange (l .i) (c .before .before .args .t1) (l .ok) (omega arith)) ∙ l .inv .2))
