@@ -3,18 +3,19 @@
 use Prim.Native.Nat.{ℕ, _/_}
 use mathlib.Core.Path.{_≡_, refl, sym, _∙_, ap}
 use mathlib.Core.Bool.{Bool, true, false, false≢true, _||_, or-true}
+use mathlib.Core.List.{List}
 use lib.Dec.{eqb}
 use borrow.Author.Tests.{eq-eqb, ne-eqb}
 use Rattle.lists.specs.Tests.{cond-cases}
 use Rattle.rules.specs.declared.Act.the-variants.{Byte, Read}
 use Rattle.rules.specs.declared.Heard.{Heard}
 use Rattle.rules.specs.declared.Phase.{Phase}
-use Rattle.rules.specs.declared.Phase.the-variants.{Deaf}
+use Rattle.rules.specs.declared.Phase.the-variants.{Idle, Control, Deaf, MemoryCounter, MemoryData, MemoryRead, HalfSelected, CommandAddress, CommandData, CommandStop, SensorPointer, SensorHigh, SensorLow, SensorReadHigh, SensorReadLow}
 use Rattle.rules.specs.declared.Slot.{Slot}
 use Rattle.rules.specs.Modelled.{absent, sensing}
 use Rattle.rules.specs.Fields.{inPhase}
 use Rattle.rules.specs.Control.{commandOf, heardOf, acksHeard, acksControl, controlled}
-use Rattle.rules.specs.Slot.{standing, withSensorIn, byteIn, acksIn, readIn, drivesIn, presentNext, slotNext, acks, drives}
+use Rattle.rules.specs.Slot.{standing, withSensorIn, byteIn, acksIn, readIn, drivesIn, drivenIn, presentNext, slotNext, acks, drives, driven}
 use Rattle.rules.proofs.Run.Cases.{next-cases}
 
 -- "0110: commands, heard by all present slots": a slot's number makes no difference to it
@@ -79,3 +80,26 @@ sensorless-deaf s ne e = rw (ne-eqb (s .kind) 2 ne, e) (cond-cases (λ (p : Phas
 pub in-cycle : (n b : ℕ) (s : Slot) → (s .left ≡ 0 → ⊥) → (acksControl n b s ≡ false) × (controlled n b s ≡ inPhase Deaf s)
 unfolding controlled acksControl
 in-cycle n b s ne = (rw (ne-eqb (s .left) 0 ne), rw (ne-eqb (s .left) 0 ne))
+
+-- "or FFh when none drives": a slot that drives nothing shows FFh
+undriven : (p : Phase) (s : Slot) (m : List ℕ) → drivesIn p ≡ false → drivenIn p s m ≡ 0xFF
+unfolding drivenIn
+undriven Idle s m e = refl
+undriven Control s m e = refl
+undriven Deaf s m e = refl
+undriven MemoryCounter s m e = refl
+undriven MemoryData s m e = refl
+undriven MemoryRead s m e = absurd (false≢true (sym e))
+undriven HalfSelected s m e = refl
+undriven CommandAddress s m e = refl
+undriven CommandData s m e = refl
+undriven CommandStop s m e = refl
+undriven SensorPointer s m e = refl
+undriven SensorHigh s m e = refl
+undriven SensorLow s m e = refl
+undriven SensorReadHigh s m e = absurd (false≢true (sym e))
+undriven SensorReadLow s m e = absurd (false≢true (sym e))
+
+pub silent-byte : (s : Slot) (m : List ℕ) → drives s ≡ false → driven m s ≡ 0xFF
+unfolding drives driven
+silent-byte s m e = undriven (standing s) s m e
