@@ -58,7 +58,8 @@ unfolding open-all
 configurations = refl
 
 -- "bits 10:9 hysteresis h = 0, 24, 48, 96 sixteenths", whatever the other bits
-pub hystereses : map hysteresisOf (0x0000 ∷ 0x0200 ∷ 0x0400 ∷ 0x0600 ∷ 0x01CF ∷ 0x07CF ∷ []) ≡ 0 ∷ 24 ∷ 48 ∷ 96 ∷ 0 ∷ 96 ∷ []
+pub hystereses : map hysteresisOf (0x0000 ∷ 0x0200 ∷ 0x0400 ∷ 0x0600 ∷ 0x01CF ∷ 0x07CF ∷ 0xF9FF ∷ 0xFBFF ∷ 0xFDFF ∷ 0xFFFF ∷ [])
+    ≡ 0 ∷ 24 ∷ 48 ∷ 96 ∷ 0 ∷ 96 ∷ 0 ∷ 24 ∷ 48 ∷ 96 ∷ []
 unfolding open-all
 hystereses = refl
 
