@@ -5,5 +5,7 @@ pub mod Commands
 pub mod Sensing
 pub mod Deaf
 pub mod Exchange
+pub mod Cycle
+pub mod Joined
 pub mod Flags
 pub mod Reader

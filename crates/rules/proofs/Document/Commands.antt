@@ -3,9 +3,10 @@
 -- Assumes nothing.
 use Prim.Native.Nat.{ℕ, _/_, _%_}
 use mathlib.Core.Path.{_≡_, refl}
-use mathlib.Core.Bool.{Bool, true, false, _&&_}
+use mathlib.Core.Bool.{Bool, true, false, not, _&&_}
 use mathlib.Core.List.{List, [], _∷_, map}
 use lib.Dec.{eqb}
+use lib.ListN.{getD, set}
 use borrow.Author.Tests.{eq-eqb, ne-eqb}
 use Rattle.rules.specs.declared.BlockNo.{BlockNo}
 use Rattle.rules.specs.declared.Heard.{Heard}
@@ -16,9 +17,10 @@ use Rattle.rules.specs.declared.Slot.{Slot}
 use Rattle.rules.specs.declared.SlotNo.{SlotNo}
 use Rattle.rules.specs.Modelled.{sensing}
 use Rattle.rules.specs.Open.{open-all}
-use Rattle.rules.specs.Fields.{inHalf, withLeft, protecting, expecting, withVoltage}
+use Rattle.rules.specs.Fields.{inPhase, inHalf, withLeft, protecting, expecting, withVoltage, holding}
 use Rattle.rules.specs.Fresh.{freshSlot}
-use Rattle.rules.specs.Control.{selectOf, isRead, heardOf, acksHeard, acksControl, controlled}
+use Rattle.rules.specs.Sensor.{registerOf}
+use Rattle.rules.specs.Control.{selectOf, isRead, commandOf, heardOf, acksHeard, acksControl, obeyed, controlled}
 
 -- "1010: memory; select bits must equal the slot number." "0011: sensor; the same, kind 2 slots only." "others: no slot.", for every byte
 module _ (b : ℕ) where
@@ -138,3 +140,56 @@ brought-beside = refl
 pub halves : map (λ b. controlled 0 b (standingAt false none 1) .half) (0x6C ∷ 0x6E ∷ []) ≡ 0 ∷ 1 ∷ []
 unfolding open-all
 halves = refl
+
+-- For every slot: "A slot that doesn't acknowledge is deaf until the next start."; an ACK does what the byte asks for
+module _ (n b : ℕ) (s : Slot) where
+  pub unacked-deaf : acksControl n b s ≡ false → controlled n b s ≡ inPhase Deaf s
+  unfolding controlled
+  unacked-deaf e = rw e
+
+  pub acked-obeyed : acksControl n b s ≡ true → controlled n b s ≡ obeyed (heardOf b) s
+  unfolding controlled
+  acked-obeyed e = rw e
+
+-- the ACK column, and what the ACK does, row by row for every slot n in no write cycle
+module _ (n : ℕ) (s : Slot) (free : s .left ≡ 0) where
+  pub acks-free : (b : ℕ) → acksControl n b s ≡ acksHeard (heardOf b) n s
+  unfolding acksControl
+  acks-free b = rw (eq-eqb (s .left) 0 free)
+
+  abbrev unprotected : ℕ → Bool
+  unprotected k = not (getD (s .protection) k false)
+
+  -- "62h 68h 6Ah 60h | protect block 0, 1, 2, 3 | high voltage on and block not protected"
+  pub protect-acks : map (λ b. acksHeard (heardOf b) n s) (0x62 ∷ 0x68 ∷ 0x6A ∷ 0x60 ∷ []) ≡ map (λ k. s .voltage && unprotected k) (0 ∷ 1 ∷ 2 ∷ 3 ∷ [])
+  unfolding open-all
+  protect-acks = refl
+
+  -- "66h | clear all four | high voltage on"
+  pub clear-acks : acksHeard (heardOf 0x66) n s ≡ s .voltage
+  unfolding open-all
+  clear-acks = refl
+
+  -- "63h 69h 6Bh 61h | read protection 0, 1, 2, 3 | block not protected"
+  pub read-protection-acks : map (λ b. acksHeard (heardOf b) n s) (0x63 ∷ 0x69 ∷ 0x6B ∷ 0x61 ∷ []) ≡ map unprotected (0 ∷ 1 ∷ 2 ∷ 3 ∷ [])
+  unfolding open-all
+  read-protection-acks = refl
+
+  -- "6Ch, 6Eh | select half 0, half 1 | always", "6Dh | read selected half | half 0 selected", "64h 65h 67h 6Fh | none | never"
+  pub half-acks : map (λ b. acksHeard (heardOf b) n s) (0x6C ∷ 0x6E ∷ 0x6D ∷ 0x64 ∷ 0x65 ∷ 0x67 ∷ 0x6F ∷ []) ≡ true ∷ true ∷ eqb (s .half) 0 ∷ false ∷ false ∷ false ∷ false ∷ []
+  unfolding open-all
+  half-acks = refl
+
+-- what an ACK does: the phase, the protection to come, the half; "Read: both bytes are fixed at the control byte's ACK"
+pub obeys : (s : Slot)
+    → map (λ b. obeyed (heardOf b) s) (0xA0 ∷ 0xA1 ∷ 0x30 ∷ 0x31 ∷ 0x62 ∷ 0x68 ∷ 0x6A ∷ 0x60 ∷ 0x66 ∷ 0x63 ∷ 0x69 ∷ 0x6B ∷ 0x61 ∷ 0x6C ∷ 0x6E ∷ 0x6D ∷ [])
+    ≡ inPhase MemoryCounter s ∷ inPhase MemoryRead s ∷ inPhase SensorPointer s ∷ inPhase SensorReadHigh (holding (registerOf (s .sensor) (s .sensor .pointer)) s)
+    ∷ inPhase CommandAddress (expecting (set (s .protection) 0 true) s)
+    ∷ inPhase CommandAddress (expecting (set (s .protection) 1 true) s)
+    ∷ inPhase CommandAddress (expecting (set (s .protection) 2 true) s)
+    ∷ inPhase CommandAddress (expecting (set (s .protection) 3 true) s)
+    ∷ inPhase CommandAddress (expecting none s)
+    ∷ inPhase Deaf s ∷ inPhase Deaf s ∷ inPhase Deaf s ∷ inPhase Deaf s
+    ∷ inPhase HalfSelected (inHalf 0 s) ∷ inPhase HalfSelected (inHalf 1 s) ∷ inPhase Deaf s ∷ []
+unfolding heardOf commandOf selectOf isRead obeyed
+obeys s = refl

@@ -2,11 +2,11 @@
 -- Assumes nothing.
 use Prim.Native.Nat.{ℕ, _+_, _*_, _<_, _≤_}
 use native.Mathlib.Omega.{arith}
-use mathlib.Core.Path.{_≡_}
-use mathlib.Core.Bool.{Bool, false, not, _||_}
-use mathlib.Core.List.{List}
+use mathlib.Core.Path.{_≡_, refl}
+use mathlib.Core.Bool.{true, Bool, false, not, _||_}
+use mathlib.Core.List.{List, [], _∷_, _++_}
 use lib.Dec.{eqb, ltb}
-use lib.ListN.{length, getD, drop, length-take, length-drop}
+use lib.ListN.{length, getD, drop, length-take, length-drop, replicate}
 use lib.Seq.{getD-take, getD-drop}
 use borrow.Author.Tests.{eqb-true, not-false, ltb-false}
 use Rattle.lists.specs.Tests.{or-left-false, or-right-false}
@@ -15,6 +15,9 @@ use Rattle.rules.specs.declared.Bus.{Bus}
 use Rattle.rules.specs.declared.SlotNo.{SlotNo}
 use Rattle.rules.specs.Refusals.{wrongLength, inRange, kindsOf, kindAt}
 use Rattle.rules.specs.Reader.{noBlock, blockBytes}
+use Rattle.rules.specs.Open.{open-all}
+use Rattle.rules.specs.Fields.{inHalf}
+use Rattle.rules.specs.Fresh.{freshSlot, absentSlot}
 
 -- the block reader: the block lies in the memory, and its 128 bytes are given
 pub block-fits : (b : Bus) (m : List ℕ) (n : SlotNo) (k : BlockNo) → noBlock b m n k ≡ false → 512 * n .0 + 128 * k .0 + 128 ≤ length m
@@ -39,3 +42,19 @@ pub block-at : (b : Bus) (m : List ℕ) (n : SlotNo) (k : BlockNo) (i : ℕ) →
     → getD (blockBytes b m n k) i 0 ≡ getD m (512 * n .0 + 128 * k .0 + i) 0
 unfolding blockBytes
 block-at b m n k i e h = rw (e, getD-take 128 (drop (512 * n .0 + 128 * k .0) m) i 0 h, getD-drop)
+
+-- "With a wrong memory length, a state as in row 6, an absent slot, a slot above 7 or a block above 3 it gets an empty part."
+pub block-none : (b : Bus) (m : List ℕ) (n : SlotNo) (k : BlockNo) → noBlock b m n k ≡ true → blockBytes b m n k ≡ []
+unfolding blockBytes
+block-none b m n k e = rw e
+
+-- each cause by itself, and none: memory's length, half of slot 7, slot, block (slots 0 and 7 are present, the others are not)
+abbrev trying : ℕ → ℕ → ℕ → ℕ → Bool
+trying bytes half n k =
+    noBlock (record { slots = freshSlot 1 1 ∷ replicate 6 absentSlot ++ inHalf half (freshSlot 2 5) ∷ [] }) (replicate bytes 0xFF) (record { 0 = n }) (record { 0 = k })
+
+pub empty-parts :
+    trying 4096 1 0 0 ∷ trying 4096 1 7 3 ∷ trying 4095 1 7 3 ∷ trying 4097 1 7 3 ∷ trying 4096 2 0 0 ∷ trying 4096 1 6 0 ∷ trying 4096 1 8 0 ∷ trying 4096 1 7 4 ∷ []
+    ≡ false ∷ false ∷ true ∷ true ∷ true ∷ true ∷ true ∷ true ∷ []
+unfolding noBlock open-all
+empty-parts = refl

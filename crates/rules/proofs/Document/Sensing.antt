@@ -3,13 +3,14 @@
 -- Assumes nothing.
 use Prim.Native.Nat.{ℕ}
 use mathlib.Core.Path.{_≡_, refl}
-use mathlib.Core.Bool.{Bool, true, false}
+use mathlib.Core.Bool.{Bool, true, false, _||_}
 use mathlib.Core.List.{List, [], _∷_, map}
+use lib.Bits.{bitAnd}
 use lib.IntN.{ℤ, pos, negsuc}
 use Rattle.rules.specs.declared.Sensor.{Sensor}
 use Rattle.rules.specs.Open.{open-all}
 use Rattle.rules.specs.Fields.{withConfiguration, withHigh, withLow, withCritical, withTemperature, withResolution, withTimeout}
-use Rattle.rules.specs.Sensor.{registerOf, configured, written, bitsOf, signedOf, stepOf, floorOf, hysteresisOf, criticalFlag, highFlag, lowFlag, reading, converted}
+use Rattle.rules.specs.Sensor.{registerOf, shutDown, criticalLocked, limitsLocked, configured, written, bitsOf, signedOf, stepOf, floorOf, steppedOf, hysteresisOf, criticalFlag, highFlag, lowFlag, reading, converted}
 
 -- a sensor with a value of its own in every register that can change, unlocked
 abbrev full : Sensor
@@ -128,3 +129,39 @@ below-zero = refl
 pub shut-down : map (λ c. converted (withConfiguration c full) (pos 1300) .temperature) (0x0100 ∷ 0x07CF ∷ 0x0000 ∷ 0x06CF ∷ []) ≡ 0x0440 ∷ 0x0440 ∷ 0xC514 ∷ 0xC514 ∷ []
 unfolding open-all
 shut-down = refl
+
+-- For every sensor: what a write puts into each register, and a temperature into 05h.
+module _ (x : Sensor) (v : ℕ) where
+  pub writes-configuration : written x 0x01 v ≡ withConfiguration (configured (x .configuration) v) x
+  unfolding written
+  writes-configuration = refl
+
+  pub writes-limits : limitsLocked (x .configuration) ≡ false → (written x 0x02 v ≡ withHigh (bitAnd v 0x1FFC) x) × (written x 0x03 v ≡ withLow (bitAnd v 0x1FFC) x)
+  unfolding written
+  writes-limits e = (rw e, rw e)
+
+  pub writes-critical : criticalLocked (x .configuration) ≡ false → written x 0x04 v ≡ withCritical (bitAnd v 0x1FFC) x
+  unfolding written
+  writes-critical e = rw e
+
+  pub writes-locked : (limitsLocked (x .configuration) ≡ true → (written x 0x02 v ≡ x) × (written x 0x03 v ≡ x)) × (criticalLocked (x .configuration) ≡ true → written x 0x04 v ≡ x)
+  unfolding written
+  writes-locked = (λ e. (rw e, rw e), λ e. rw e)
+
+  pub writes-rest : (written x 0x08 v ≡ withResolution (bitAnd v 0x0003) x) × (written x 0x09 v ≡ withTimeout (bitAnd v 0x0001) x)
+  unfolding written
+  writes-rest = (refl, refl)
+
+  -- "00h, 05h, 06h, 07h [..] ignore writes"
+  pub writes-ignored : map (λ p. written x p v) (0x00 ∷ 0x05 ∷ 0x06 ∷ 0x07 ∷ []) ≡ x ∷ x ∷ x ∷ x ∷ []
+  unfolding written
+  writes-ignored = refl
+
+  -- an unlocked configuration takes all its kept bits
+  pub configures-free : (criticalLocked (x .configuration) || limitsLocked (x .configuration)) ≡ false → configured (x .configuration) v ≡ bitAnd v 0x07CF
+  unfolding configured
+  configures-free e = rw e
+
+pub converts : (x : Sensor) (t : ℤ) → (shutDown x ≡ true → converted x t ≡ x) × (shutDown x ≡ false → converted x t ≡ withTemperature (reading x (steppedOf x t)) x)
+unfolding converted
+converts x t = (λ e. rw e, λ e. rw e)
