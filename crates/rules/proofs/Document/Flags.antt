@@ -1,14 +1,15 @@
 -- Document 01, "Sensor": a flag stays between its two ends, and no temperature changes what a read drives.
 -- Assumes nothing.
-use Prim.Native.Nat.{ℕ, _/_, _%_}
-use mathlib.Core.Path.{_≡_, refl}
+use Prim.Native.Nat.{ℕ, zero, suc, _+_, _-_, _/_, _%_}
+use native.Mathlib.Omega.{arith}
+use mathlib.Core.Path.{_≡_, refl, sym, _∙_, ap, subst}
 use mathlib.Core.Bool.{Bool, true, false, false≢true}
 use mathlib.Core.List.{List}
-use lib.Dec.{eqb}
-use lib.IntN.{ℤ, pos, negsuc}
+use lib.Dec.{eqb, ltb}
+use lib.IntN.{ℤ, pos, negsuc, _-ℤ_}
 use lib.Signed.{ltZ, leZ}
-use borrow.Author.Tests.{ltb-true, leb-true, lt-leb, le-ltb}
-use Rattle.lists.specs.Tests.{cond-cases}
+use borrow.Author.Tests.{ltb-true, leb-true, lt-ltb, le-leb, lt-leb, le-ltb}
+use Rattle.lists.specs.Tests.{cond-cases, by-test}
 use Rattle.rules.specs.declared.Act.the-variants.{Temperature}
 use Rattle.rules.specs.declared.Phase.{Phase}
 use Rattle.rules.specs.declared.Phase.the-variants.{Idle, Control, Deaf, MemoryCounter, MemoryData, MemoryRead, HalfSelected, CommandAddress, CommandData, CommandStop, SensorPointer, SensorHigh, SensorLow, SensorReadHigh, SensorReadLow}
@@ -17,7 +18,7 @@ use Rattle.rules.specs.declared.Slot.{Slot}
 use Rattle.rules.specs.declared.SlotNo.{SlotNo}
 use Rattle.rules.specs.Modelled.{absent, sensing, addressOf}
 use Rattle.rules.specs.Fields.{withSensor}
-use Rattle.rules.specs.Sensor.{signedOf, loweredOf, flagOf, criticalFlag, highFlag, lowFlag, converted}
+use Rattle.rules.specs.Sensor.{signedOf, hysteresisOf, loweredOf, flagOf, criticalFlag, highFlag, lowFlag, converted}
 use Rattle.rules.specs.Slot.{standing, drivenIn, presentNext, slotNext, driven}
 use Rattle.rules.proofs.Registers.Words.{word-fixed}
 use Rattle.rules.proofs.Run.Cases.{next-cases}
@@ -78,3 +79,60 @@ module _ (x : sensor.Sensor) (t : ℤ) where
   pub low-stays : ltZ t (signedOf (x .low)) ≡ true → leZ (loweredOf x (x .low)) t ≡ true → lowFlag x t ≡ eqb (x .temperature / 8192 % 2) 1
   unfolding lowFlag
   low-stays e f = stays _ _ _ (notBelow (loweredOf x (x .low)) t f) (below t (signedOf (x .low)) e)
+
+-- a limit less h is not above the limit
+minus-none : (c : ℤ) → c -ℤ pos 0 ≡ c
+minus-none (pos a) = ap pos (omega arith)
+minus-none (negsuc a) = simp (lt-ltb 0 (suc a) (omega arith)) (ap negsuc (omega arith))
+
+lower-below : (t c : ℤ) (h : ℕ) → ltZ t (c -ℤ pos h) ≡ true → ltZ t c ≡ true
+lower-below t c zero e = subst (λ (z : ℤ). ltZ t z ≡ true) (minus-none c) e
+lower-below (pos b) (pos a) (suc k) e = by-test (ltb a (suc k)) (λ f. absurd (false≢true (rw f at e))) (λ f. let g = ltb-true b (a - suc k) (rw f at e) in lt-ltb b a (omega arith))
+lower-below (negsuc b) (pos a) (suc k) e = refl
+lower-below (pos b) (negsuc a) (suc k) e = e
+lower-below (negsuc b) (negsuc a) (suc k) e = let g = ltb-true _ b e in lt-ltb a b (omega arith)
+
+lower-upTo : (t c : ℤ) (h : ℕ) → leZ t (c -ℤ pos h) ≡ true → leZ t c ≡ true
+lower-upTo t c zero e = subst (λ (z : ℤ). leZ t z ≡ true) (minus-none c) e
+lower-upTo (pos b) (pos a) (suc k) e = by-test (ltb a (suc k)) (λ f. absurd (false≢true (rw f at e))) (λ f. let g = leb-true b (a - suc k) (rw f at e) in le-leb b a (omega arith))
+lower-upTo (negsuc b) (pos a) (suc k) e = refl
+lower-upTo (pos b) (negsuc a) (suc k) e = e
+lower-upTo (negsuc b) (negsuc a) (suc k) e = let g = leb-true _ b e in le-leb a b (omega arith)
+
+-- each flag set and cleared, of every sensor
+sets : (clear was : Bool) {set : Bool} → set ≡ true → flagOf set clear was ≡ true
+unfolding flagOf
+sets clear was e = rw e
+
+clears : (was : Bool) {set clear : Bool} → set ≡ false → clear ≡ true → flagOf set clear was ≡ false
+unfolding flagOf
+clears was e f = rw (e, f)
+
+module _ (x : sensor.Sensor) (t : ℤ) where
+  -- "bit 15 is set when t >= critical and cleared when t < critical - h"
+  pub critical-set : leZ (signedOf (x .critical)) t ≡ true → criticalFlag x t ≡ true
+  unfolding criticalFlag
+  critical-set e = sets _ _ e
+
+  pub critical-cleared : ltZ t (loweredOf x (x .critical)) ≡ true → criticalFlag x t ≡ false
+  unfolding criticalFlag loweredOf
+  critical-cleared e = clears _ (below t (signedOf (x .critical)) (lower-below t (signedOf (x .critical)) (hysteresisOf (x .configuration)) e)) e
+
+  -- "bit 14 is set when t > high and cleared when t <= high - h"
+  pub high-set : ltZ (signedOf (x .high)) t ≡ true → highFlag x t ≡ true
+  unfolding highFlag
+  high-set e = sets _ _ e
+
+  pub high-cleared : leZ t (loweredOf x (x .high)) ≡ true → highFlag x t ≡ false
+  unfolding highFlag loweredOf
+  high-cleared e = clears _ (notBelow t (signedOf (x .high)) (lower-upTo t (signedOf (x .high)) (hysteresisOf (x .configuration)) e)) e
+
+  -- "bit 13 is set when t < low - h and cleared when t >= low"
+  pub low-set : ltZ t (loweredOf x (x .low)) ≡ true → lowFlag x t ≡ true
+  unfolding lowFlag
+  low-set e = sets _ _ e
+
+  pub low-cleared : leZ (signedOf (x .low)) t ≡ true → lowFlag x t ≡ false
+  unfolding lowFlag loweredOf
+  low-cleared e = by-test (ltZ t (signedOf (x .low) -ℤ pos (hysteresisOf (x .configuration))))
+      (λ f. absurd (false≢true (sym (below t (signedOf (x .low)) (lower-below t (signedOf (x .low)) (hysteresisOf (x .configuration)) f)) ∙ e))) (λ f. clears _ f e)
