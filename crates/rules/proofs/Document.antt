@@ -1,4 +1,5 @@
 -- Document 01 held against the law: its marked cases, its tables row by row, and its sentences.
+pub mod Addressed
 pub mod Cases
 pub mod Tables
 pub mod Commands
