@@ -16,9 +16,12 @@ use Rattle.rules.specs.Refusals.{inRange}
 use Rattle.rules.specs.Runs.{Bench, next, answered, eventOf}
 use Rattle.rules.proofs.Range.Kept.{next-in-range}
 use Rattle.rules.proofs.Memory.Stored.{memory-length-next}
-use Rattle.lines.specs.Script.{recordAt, lineOf, recordsIn, benchTo, linesTo}
+use Rattle.records.specs.Records.{recordAt}
+use Rattle.letters.specs.Letters.{lineOf}
+use Rattle.lines.specs.Script.{recordsIn, benchTo, linesTo}
 use Rattle.lines.specs.Steps.{runOf}
-use Rattle.lines.proofs.Laws.{bench-step, lines-step, line-length, sets-append, event-bench, event-answer}
+use Rattle.letters.proofs.Laws.{line-length}
+use Rattle.lines.proofs.Laws.{bench-step, lines-step, sets-append, event-bench, event-answer}
 
 -- bus b, memory m, output out and its end, after k records of bs from the bench x and the output o
 pub record Going (x : Bench) (bs o : List ℕ) (k : ℕ) (b : Bus) (m out : List ℕ) (end : ℕ) : Type 0 where

@@ -4,48 +4,25 @@ use mathlib.Core.Path.{_≡_, refl, sym, _∙_, ap, ap₂}
 use mathlib.Core.Bool.{true}
 use mathlib.Core.List.{List, [], _∷_, _++_}
 use Prim.Native.Nat.{ℕ, zero, suc, _+_, _-_, _*_, _/_, _%_, _≤_, _<_}
-use native.Mathlib.Nat.{zero-add, add-zero, add-suc, suc-add}
+use native.Mathlib.Nat.{add-zero, add-suc, suc-add}
 use native.Mathlib.Numerals.{add-one}
 use native.Mathlib.Omega.{arith}
-use borrow.Author.Tests.{ltb-true, ltb-false}
-use lib.IntN.{pos, negsuc, _-ℤ_}
-use lib.Dec.{eqb, ltb}
-use lib.ListN.{length, getD, set, take, drop, length-append, length-drop, List·getD-append}
-use lib.Seq.{sets, getD-at, getD-drop, getD-append-add, length-take-le}
+use lib.Dec.{eqb}
+use lib.ListN.{length, getD, set, take, drop, length-append, length-drop}
+use lib.Seq.{sets, getD-drop, getD-append-add, length-take-le}
 use Rattle.lists.specs.Each.{allOf, filled, filled-step}
 use Rattle.lists.specs.Tests.{by-test, cond-cases}
-use Rattle.rules.specs.declared.Answer.{Answer}
-use Rattle.rules.specs.declared.Answer.the-variants.{Nothing, Ack, Nack, Data, Refused}
 use Rattle.rules.specs.declared.Bus.{Bus}
 use Rattle.rules.specs.declared.Event.{Event}
 use Rattle.rules.specs.declared.Outcome.{Outcome}
-use Rattle.rules.specs.declared.Pair.{Pair}
-use Rattle.rules.specs.declared.Refusal.{Refusal}
-use Rattle.rules.specs.declared.Refusal.the-variants.{MemoryLength, UnknownKind, WrongSlot, WrongValue, WrongSetup, WrongState}
-use Rattle.rules.specs.Events.{letterOf, refusalNumber}
 use Rattle.rules.specs.Refusals.{inRange, goodPair, emptyBus, setupOf}
 use Rattle.rules.specs.Runs.{Bench, rulingOn, next, answered, ruledOutcome, eventOf}
 use Rattle.rules.proofs.Range.Kept.{setup-in-range}
-use Rattle.lines.specs.Script.{pairAt, pairsTo, pairsOf, recordAt, hexDigit, digitsOf, lineOf, benchTo, linesTo, recordsIn, leftOf, lastLine}
+use Rattle.records.specs.Records.{pairsOf, recordAt}
+use Rattle.letters.specs.Letters.{lineOf}
+use Rattle.lines.specs.Script.{benchTo, linesTo, recordsIn, leftOf, lastLine}
 use Rattle.lines.specs.Steps.{cutSetup, firstLine}
-
--- a refusal's number is a digit
-refusal-small : (r : Refusal) → refusalNumber r ≤ 6
-unfolding refusalNumber
-refusal-small MemoryLength = omega arith
-refusal-small UnknownKind = omega arith
-refusal-small WrongSlot = omega arith
-refusal-small WrongValue = omega arith
-refusal-small WrongSetup = omega arith
-refusal-small WrongState = omega arith
-
-pub digit-small : (r : Refusal) (n : ℕ) → n ≡ refusalNumber r → n ≤ 6
-digit-small r n e = omega (arith, refusal-small r)
-
--- one below zero, and so many more
-pub below-zero : (m : ℕ) → negsuc 0 -ℤ pos m ≡ negsuc m
-below-zero zero = refl
-below-zero (suc m) = ap (λ (n : ℕ). negsuc (suc n)) (zero-add m)
+use Rattle.letters.proofs.Laws.{line-length}
 
 -- one record more
 pub bench-step : (x : Bench) (bs : List ℕ) (k : ℕ) → benchTo x bs (k + 1) ≡ next (recordAt bs (4 * k)) (benchTo x bs k)
@@ -59,15 +36,6 @@ lines-step x bs k = rw add-one
 pub lines-none : (x : Bench) (bs out : List ℕ) → out ≡ sets out 0 (linesTo x bs 0)
 unfolding linesTo
 lines-none x bs out = refl
-
--- a line has at most four bytes
-pub line-length : (a : Answer) → length (lineOf a) ≤ 4
-unfolding lineOf digitsOf
-line-length Nothing = omega arith
-line-length Ack = omega arith
-line-length Nack = omega arith
-line-length (Data b) = omega arith
-line-length (Refused r) = omega arith
 
 pub lines-length : (x : Bench) (bs : List ℕ) (n : ℕ) → length (linesTo x bs n) ≤ 4 * n
 unfolding linesTo
@@ -112,36 +80,6 @@ module _ (b : Bus) (m : List ℕ) (e : Event) (o : Outcome) (n : List ℕ) (p : 
   unfolding eventOf ruledOutcome answered rulingOn
   event-answer = ap (λ (z : Outcome × List ℕ). z .0 .answer) (sym p)
 
--- the setup's pairs
-pub length-pairs : (bs : List ℕ) (n : ℕ) → length (pairsTo bs n) ≡ n
-unfolding pairsTo
-length-pairs bs zero = refl
-length-pairs bs (suc n) = length-append (pairsTo bs n) (pairAt bs (2 * n) ∷ []) ∙ omega (arith, length-pairs bs n)
-
-pub pairs-at : (bs : List ℕ) (n k : ℕ) (z : Pair) → k < n → getD (pairsTo bs n) k z ≡ pairAt bs (2 * k)
-unfolding pairsTo
-pairs-at bs zero k z h = absurd (none h)
-  where
-    none : {i : ℕ} → i < 0 → ⊥
-    none h = omega arith
-pairs-at bs (suc n) k z h =
-    by-test (ltb k n)
-    (λ e. List·getD-append (pairsTo bs n) (pairAt bs (2 * n) ∷ []) z k (rw (length-pairs bs n) (ltb-true k n e)) ∙ pairs-at bs n k z (ltb-true k n e))
-    (λ e.
-    let f : n ≡ k = let g : n ≤ k = ltb-false k n e in omega arith in
-    getD-at (pairsTo bs n) (pairAt bs (2 * n)) [] z k (length-pairs bs n ∙ f) ∙ ap (λ i. pairAt bs (2 * i)) f)
-
--- past the end of an array of pairs
-abbrev pub noPair : Pair
-noPair = record { kind = 0; length = 0 }
-
--- the next pair of the setup, stored
-pub pairs-step : (d ps : List Pair) (bs : List ℕ) (i : ℕ) (p : Pair) → ps ≡ filled d (pairsTo bs 8) i → p ≡ pairAt bs (2 * i) → i < 8 → length d ≡ 8
-    → set ps i p ≡ filled d (pairsTo bs 8) (i + 1)
-pairs-step d ps bs i p e f h l =
-    ap₂ (λ (u : List Pair) (q : Pair). set u i q) e (f ∙ sym (pairs-at bs 8 i noPair h))
-    ∙ filled-step d (pairsTo bs 8) i noPair (omega arith) (rw (length-pairs bs 8) h)
-
 -- past what has been filled stands what stood there
 filled-later : (d s : List ℕ) (k j : ℕ) → k ≤ length s → k ≤ j → getD (filled d s k) j 0 ≡ getD d j 0
 unfolding filled
@@ -156,9 +94,3 @@ keep-step d u from i e h =
     let f : getD (filled d (drop from d) i) (from + i) 0 ≡ getD (drop from d) i 0 =
     filled-later d (drop from d) i (from + i) (omega arith) (omega arith) ∙ sym (getD-drop from d i 0) in
     ap₂ (λ (v : List ℕ) (x : ℕ). set v i x) e (ap (λ (v : List ℕ). getD v (from + i) 0) e ∙ f) ∙ filled-step d (drop from d) i 0 (omega arith) l
-
--- the line of a byte that was read
-pub data-by : (a : Answer) (b x y at end : ℕ) (out o : List ℕ) → a ≡ Data b → x ≡ hexDigit (b / 16) → y ≡ hexDigit (b % 16)
-    → (end ≡ at + 4) × (o ≡ sets out at (0x44 ∷ x ∷ y ∷ 0x0A ∷ [])) → (end ≡ at + length (lineOf a)) × (o ≡ sets out at (lineOf a))
-unfolding lineOf digitsOf letterOf
-data-by a b x y at end out o e f g p = rw (e, ← f, ← g) p

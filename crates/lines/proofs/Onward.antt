@@ -14,7 +14,8 @@ use Rattle.rules.specs.Runs.{Bench}
 use Rattle.rules.proofs.Range.Kept.{setup-in-range, next-in-range}
 use Rattle.lines.specs.declared.Begun.{Begun}
 use Rattle.lines.specs.declared.Turned.{Turned}
-use Rattle.lines.specs.Script.{pairsOf, recordAt, recordsIn, leftOf, benchTo, linesTo, lastLine}
+use Rattle.records.specs.Records.{pairsOf, recordAt}
+use Rattle.lines.specs.Script.{recordsIn, leftOf, benchTo, linesTo, lastLine}
 use Rattle.lines.specs.Steps.{cutSetup, firstLine, firstBus, beginOf, runOf, turnOf, finishOf}
 use Rattle.lines.proofs.Laws.{lines-length, left-length, first-length, last-length, empty-in-range}
 

@@ -4,7 +4,6 @@ use mathlib.Core.Path.{_≡_, sym, _∙_, ap, ap₂}
 use mathlib.Core.Bool.{false, cond}
 use mathlib.Core.List.{List, [], _++_}
 use Prim.Native.Nat.{ℕ, _+_, _-_, _*_, _/_, _≤_, _<_}
-use native.Mathlib.Nat.{zero-add}
 use native.Mathlib.Omega.{arith}
 use borrow.Author.Tests.{lt-ltb, le-ltb, eq-eqb, ne-eqb}
 use lib.Dec.{eqb, ltb}
@@ -12,18 +11,17 @@ use lib.ListN.{length, take, drop, replicate, length-drop}
 use lib.Seq.{sets, length-take-le, take-add, drop-append-seam}
 use Rattle.lists.specs.Each.{allOf, filled}
 use Rattle.lists.specs.Tests.{by-test}
-use Rattle.rules.specs.declared.Answer.{Answer}
-use Rattle.rules.specs.declared.Answer.the-variants.{Refused}
 use Rattle.rules.specs.declared.Bus.{Bus}
 use Rattle.rules.specs.declared.Outcome.{Outcome}
 use Rattle.rules.specs.declared.Pair.{Pair}
-use Rattle.rules.specs.declared.Refusal.{Refusal}
 use Rattle.rules.specs.Events.{letterOf, refusalNumber}
 use Rattle.rules.specs.Modelled.{memoryBytes}
 use Rattle.rules.specs.Refusals.{goodPair, emptyBus, setupOf}
 use Rattle.lines.specs.declared.Ran.{Ran}
-use Rattle.lines.specs.Script.{pairsOf, lineOf, digitsOf, recordsIn, leftOf, shortLine, badSetupLine, lastLine, startingMemory}
-use Rattle.lines.specs.Steps.{cutSetup, firstLine, goesOn, firstBus, refusalLine, beginOf, runOf, turnOf, finishOf}
+use Rattle.records.specs.Records.{pairsOf}
+use Rattle.letters.specs.Letters.{lineOf, digitsOf, shortLine, refusalLine}
+use Rattle.lines.specs.Script.{recordsIn, leftOf, badSetupLine, lastLine, startingMemory}
+use Rattle.lines.specs.Steps.{cutSetup, firstLine, goesOn, firstBus, beginOf, runOf, turnOf, finishOf}
 
 -- the line of a setup's answer, and whether there is one
 refusal-line : (ps : List Pair) → refusalLine (setupOf ps .answer) ≡ cond (allOf goodPair ps) [] badSetupLine
@@ -32,14 +30,6 @@ refusal-line ps = by-test (allOf goodPair ps) (λ e. rw e) (λ e. rw e)
 
 refusal-none : (ps : List Pair) → eqb (length (refusalLine (setupOf ps .answer))) 0 ≡ allOf goodPair ps
 refusal-none ps = by-test (allOf goodPair ps) (λ e. rw (refusal-line ps, e)) (λ e. rw (refusal-line ps, e))
-
--- a refusal's line
-pub refusal-by : (a : Answer) (r : Refusal) (end : ℕ) (out o : List ℕ) → a ≡ Refused r → (end ≡ 0 + length (lineOf a)) × (o ≡ sets out 0 (lineOf a))
-    → (end ≡ length (refusalLine a)) × (o ≡ sets out 0 (refusalLine a))
-unfolding refusalLine
-refusal-by a r end out o e p =
-    let q : refusalLine a ≡ lineOf a = rw e in
-    (p .0 ∙ zero-add (length (lineOf a)) ∙ ap length (sym q), p .1 ∙ ap (sets out 0) (sym q))
 
 -- the beginning: a setup that is cut
 pub begin-cut : (bs m n out o : List ℕ) (b : Bus) (end : ℕ) → length m ≡ memoryBytes → n ≡ replicate (length m) 0xFF → length bs < 16

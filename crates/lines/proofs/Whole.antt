@@ -17,7 +17,8 @@ use Rattle.rules.specs.Modelled.{slotCount}
 use Rattle.rules.specs.Refusals.{goodPair, setupOf}
 use Rattle.rules.specs.Runs.{Bench}
 use Rattle.lines.specs.declared.Turned.{Turned}
-use Rattle.lines.specs.Script.{pairAt, pairsTo, pairsOf, recordsIn, leftOf, benchTo, linesTo, lastLine, ending, badSetupLine, startingMemory, begunAt, scriptOf}
+use Rattle.records.specs.Records.{pairAt, pairsTo, pairsOf}
+use Rattle.lines.specs.Script.{recordsIn, leftOf, benchTo, linesTo, lastLine, ending, badSetupLine, startingMemory, begunAt, scriptOf}
 use Rattle.lines.specs.Steps.{cutSetup, firstLine, goesOn, firstBus, beginOf, runOf, turnOf, finishOf}
 use Rattle.lines.specs.Program.{Read, readInto, inputOf, Fits, turnsWrite, programWrites}
 use Rattle.lines.proofs.Laws.{lines-length, left-length, first-length, last-length}

@@ -8,15 +8,15 @@ use lib.Dec.{ltb}
 use lib.ListN.{length, take, drop}
 use lib.Seq.{sets}
 use Rattle.lists.specs.Each.{allOf}
-use Rattle.rules.specs.declared.Answer.{Answer}
-use Rattle.rules.specs.declared.Answer.the-variants.{Nothing, Ack, Nack, Data, Refused}
 use Rattle.rules.specs.declared.Bus.{Bus}
 use Rattle.rules.specs.Refusals.{goodPair, emptyBus, setupOf}
 use Rattle.rules.specs.Runs.{Bench}
 use Rattle.lines.specs.declared.Begun.{Begun}
 use Rattle.lines.specs.declared.Ran.{Ran}
 use Rattle.lines.specs.declared.Turned.{Turned}
-use Rattle.lines.specs.Script.{pairsOf, lineOf, benchTo, linesTo, recordsIn, leftOf, shortLine, badSetupLine, lastLine, startingMemory}
+use Rattle.records.specs.Records.{pairsOf}
+use Rattle.letters.specs.Letters.{shortLine}
+use Rattle.lines.specs.Script.{benchTo, linesTo, recordsIn, leftOf, lastLine, badSetupLine, startingMemory}
 
 -- "An incomplete setup": fewer bytes than eight pairs have
 unfoldable pub cutSetup : List ℕ → Bool
@@ -33,14 +33,6 @@ goesOn bs = not (cutSetup bs) && allOf goodPair (pairsOf bs)
 -- the bus; a setup that is cut yields that of a refused one
 unfoldable pub firstBus : List ℕ → Bus
 firstBus bs = cond (cutSetup bs) emptyBus (setupOf (pairsOf bs) .bus)
-
--- the line of a setup's answer: a refusal has one
-unfoldable pub refusalLine : Answer → List ℕ
-refusalLine Nothing = []
-refusalLine Ack = []
-refusalLine Nack = []
-refusalLine (Data b) = []
-refusalLine (Refused r) = lineOf (Refused r)
 
 -- the beginning, from the bytes that were read as setup: then the memory and the output
 unfoldable pub beginOf : List ℕ → List ℕ → Begun × List ℕ × List ℕ

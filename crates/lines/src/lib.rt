@@ -3,167 +3,23 @@
 // sizes of the buffers, the counts in them and the bus's range; the program meets them, and is proved to.
 ghost use mathlib.Core.Path.{_≡_};
 ghost use mathlib.Core.Bool.{true};
-ghost use mathlib.Core.List.{_∷_, []};
-ghost use Prim.Native.Nat.{_+_, _≤_, _<_};
+ghost use Prim.Native.Nat.{_+_, _≤_};
 ghost use lib.ListN.{length, drop, replicate};
-ghost use lib.Seq.{sets};
 ghost use Rattle.lists.specs.Each.{filled};
 ghost use Rattle.rules.specs.Modelled.{memoryBytes};
-ghost use Rattle.rules.specs.Events.{refusalNumber};
 ghost use Rattle.rules.specs.Refusals.{inRange, emptyBus, setupOf};
-ghost use Rattle.lines.specs.Script.{pairAt, pairsOf, valueAt, recordAt, hexDigit, lineOf, shortLine};
-ghost use Rattle.lines.specs.Steps.{refusalLine, beginOf, runOf, turnOf, finishOf};
-use rules::Answer;
+ghost use Rattle.records.specs.Records.{pairsOf};
+ghost use Rattle.lines.specs.Steps.{beginOf, runOf, turnOf, finishOf};
 use rules::Bus;
-use rules::Event;
 use rules::Outcome;
-use rules::Pair;
-use rules::Refusal;
 use rules::Slot;
-use rules::SlotNo;
-
-// A record's value: two bytes in two's complement, the high byte first.
-fn value_at(high: u8, low: u8) -> i16
-    ensures { λ r. ⌜ r ≡ valueAt high low ⌝ }
-{
-    if high < 128 {
-        return ((high as u16) * 256 + (low as u16)) as i16;
-    }
-    let below = ((255 - high) as u16) * 256 + ((255 - low) as u16);
-    -1 - (below as i16)
-}
-
-// The record that begins at a place.
-fn record_at(bytes: &[u8], at: usize) -> Event
-    requires { ⌜ at + 4 ≤ length (now bytes) ⌝ }
-    ensures { λ r. ⌜ r ≡ recordAt (now (bytes .entry)) at ⌝ }
-{
-    let value = value_at(bytes[at + 2], bytes[at + 3]);
-    Event {
-        kind: bytes[at],
-        slot: SlotNo(bytes[at + 1]),
-        value,
-    }
-}
-
-// A digit below sixteen as a hexadecimal one, in capitals.
-fn hex_digit(n: u8) -> u8
-    requires { ⌜ n < 16 ⌝ }
-    ensures { λ r. ⌜ r ≡ hexDigit n ⌝ }
-{
-    if n < 10 { 0x30 + n } else { 0x37 + n }
-}
-
-// The paper's number of a refusal.
-fn number_of(r: Refusal) -> u8
-    ensures { λ n. ⌜ n ≡ refusalNumber r ⌝ }
-{
-    match r {
-        Refusal::MemoryLength => 1,
-        Refusal::UnknownKind => 2,
-        Refusal::WrongSlot => 3,
-        Refusal::WrongValue => 4,
-        Refusal::WrongSetup => 5,
-        Refusal::WrongState => 6,
-    }
-}
-
-// A line of one, two or three characters, put at a place; the place after it.
-fn put_one(out: &mut [u8], at: usize, a: u8) -> usize
-    requires { ⌜ at + 4 ≤ length (now out) ⌝ }
-    ensures { λ r. ⌜ (r ≡ at + 2) × (now (out .exit) ≡ sets (now (out .entry)) at (a ∷ 10 ∷ [])) ⌝ }
-{
-    out[at] = a;
-    out[at + 1] = b'\n';
-    at + 2
-}
-
-fn put_two(out: &mut [u8], at: usize, a: u8, b: u8) -> usize
-    requires { ⌜ at + 4 ≤ length (now out) ⌝ }
-    ensures { λ r. ⌜ (r ≡ at + 3) × (now (out .exit) ≡ sets (now (out .entry)) at (a ∷ b ∷ 10 ∷ [])) ⌝ }
-{
-    out[at] = a;
-    out[at + 1] = b;
-    out[at + 2] = b'\n';
-    at + 3
-}
-
-fn put_three(out: &mut [u8], at: usize, a: u8, b: u8, c: u8) -> usize
-    requires { ⌜ at + 4 ≤ length (now out) ⌝ }
-    ensures { λ r. ⌜ (r ≡ at + 4) × (now (out .exit) ≡ sets (now (out .entry)) at (a ∷ b ∷ c ∷ 10 ∷ [])) ⌝ }
-{
-    out[at] = a;
-    out[at + 1] = b;
-    out[at + 2] = c;
-    out[at + 3] = b'\n';
-    at + 4
-}
-
-// An answer's line, put at a place; the place after it.
-fn put_line(out: &mut [u8], at: usize, a: Answer) -> usize
-    requires { ⌜ at + 4 ≤ length (now out) ⌝ }
-    ensures { λ r. ⌜ (r ≡ at + length (lineOf a)) × (now (out .exit) ≡ sets (now (out .entry)) at (lineOf a)) ⌝ }
-{
-    match a {
-        Answer::Nothing => put_one(out, at, b'-'),
-        Answer::Ack => put_one(out, at, b'A'),
-        Answer::Nack => put_one(out, at, b'N'),
-        Answer::Data(b) => put_three(out, at, b'D', hex_digit(b / 16), hex_digit(b % 16)),
-        Answer::Refused(r) => put_two(out, at, b'R', 0x30 + number_of(r)),
-    }
-}
-
-// `short`, put at the beginning; the place after it.
-fn put_short(out: &mut [u8]) -> usize
-    requires { ⌜ 6 ≤ length (now out) ⌝ }
-    ensures { λ r. ⌜ (r ≡ 6) × (now (out .exit) ≡ sets (now (out .entry)) 0 shortLine) ⌝ }
-{
-    out[0] = b's';
-    out[1] = b'h';
-    out[2] = b'o';
-    out[3] = b'r';
-    out[4] = b't';
-    out[5] = b'\n';
-    6
-}
-
-// A refusal's line, put at the beginning; the place after it. Any other answer puts nothing.
-fn put_refusal(out: &mut [u8], a: Answer) -> usize
-    requires { ⌜ 4 ≤ length (now out) ⌝ }
-    ensures { λ r. ⌜ (r ≡ length (refusalLine a)) × (now (out .exit) ≡ sets (now (out .entry)) 0 (refusalLine a)) ⌝ }
-{
-    match a {
-        Answer::Nothing => 0,
-        Answer::Ack => 0,
-        Answer::Nack => 0,
-        Answer::Data(_) => 0,
-        Answer::Refused(_) => put_line(out, 0, a),
-    }
-}
-
-// A pair of the setup's bytes.
-fn pair_at(bytes: &[u8], at: usize) -> Pair
-    requires { ⌜ at + 2 ≤ length (now bytes) ⌝ }
-    ensures { λ r. ⌜ r ≡ pairAt (now (bytes .entry)) at ⌝ }
-{
-    Pair {
-        kind: bytes[at],
-        length: bytes[at + 1],
-    }
-}
 
 // The bus of a setup's sixteen bytes, or refusal 5.
 fn setup(bytes: &[u8]) -> Outcome
     requires { ⌜ 16 ≤ length (now bytes) ⌝ }
     ensures { λ r. ⌜ r ≡ setupOf (pairsOf (now (bytes .entry))) ⌝ }
 {
-    let none = Pair { kind: 0, length: 0 };
-    let mut pairs = [none; 8];
-    for i in 0..8usize {
-        let p = pair_at(bytes, 2 * i);
-        pairs[i] = p;
-    }
-    bus::setup(pairs)
+    bus::setup(records::pairs(bytes))
 }
 
 // The bus of a refused setup.
@@ -200,7 +56,7 @@ pub fn begin(bytes: &[u8], mem: &mut [u8], out: &mut [u8]) -> Begun
     fill(mem);
     if bytes.len() < 16 {
         let none = empty_bus();
-        let end = put_short(out);
+        let end = letters::put_short(out);
         return Begun {
             bus: none,
             end,
@@ -210,7 +66,7 @@ pub fn begin(bytes: &[u8], mem: &mut [u8], out: &mut [u8]) -> Begun
     let made = setup(bytes);
     let bus = made.bus;
     let answer = made.answer;
-    let end = put_refusal(out, answer);
+    let end = letters::put_refusal(out, answer);
     Begun {
         bus,
         end,
@@ -234,11 +90,11 @@ fn run(bus: Bus, mem: &mut [u8], records: &[u8], out: &mut [u8]) -> Ran
     let mut state = bus;
     let mut end = 0;
     for i in 0..count {
-        let e = record_at(records, 4 * i);
+        let e = records::record_at(records, 4 * i);
         let x = bus::event_in_range(state, mem, e);
         let next = x.bus;
         let answer = x.answer;
-        end = put_line(out, end, answer);
+        end = letters::put_line(out, end, answer);
         state = next;
     }
     Ran { bus: state, end }
@@ -296,5 +152,5 @@ pub fn finish(held: usize, out: &mut [u8]) -> usize
     if held == 0 {
         return 0;
     }
-    put_short(out)
+    letters::put_short(out)
 }

@@ -270,9 +270,10 @@ module _ (n : ℕ) (s : Slot) (c : commanding (standing s) ≡ true) where
 
   pub read-cancels : (more : Bool) → (drives s ≡ false) × (slotNext n (Read more) s ≡ inPhase Deaf (expecting (s .protection) s))
   unfolding readIn letGo lost drives open-memory
-  read-cancels more =
-      (commands (λ p. drivesIn p ≡ false) refl refl refl (standing s) c,
-      at-read n s (standing s) refl more ∙ commands (λ p. readIn p more s ≡ inPhase Deaf (expecting (s .protection) s)) refl refl refl (standing s) c)
+  read-cancels more = (
+    commands (λ p. drivesIn p ≡ false) refl refl refl (standing s) c,
+    at-read n s (standing s) refl more ∙ commands (λ p. readIn p more s ≡ inPhase Deaf (expecting (s .protection) s)) refl refl refl (standing s) c,
+  )
 
   pub voltage-cancels : s .voltage ≡ true → slotNext n (Voltage (record { 0 = n }) false) s ≡ withVoltage false (inPhase Deaf (expecting (s .protection) s))
   unfolding presentNext switched
@@ -397,9 +398,10 @@ start-sensor n s e =
 -- events of another slot's pin or temperature
 pub another-slot : (n : ℕ) (k : SlotNo) (on : Bool) (t : ℤ) (s : Slot) → (k .0 ≡ n → ⊥) → (slotNext n (Voltage k on) s ≡ s) × (slotNext n (Temperature k t) s ≡ s)
 unfolding presentNext
-another-slot n k on t s ne =
-    (next-cases (λ (r : Slot). r ≡ s) n (Voltage k on) s (λ a. refl) (λ a. rw (ne-eqb (k .0) n ne)),
-    next-cases (λ (r : Slot). r ≡ s) n (Temperature k t) s (λ a. refl) (λ a. rw (ne-eqb (k .0) n ne)))
+another-slot n k on t s ne = (
+  next-cases (λ (r : Slot). r ≡ s) n (Voltage k on) s (λ a. refl) (λ a. rw (ne-eqb (k .0) n ne)),
+  next-cases (λ (r : Slot). r ≡ s) n (Temperature k t) s (λ a. refl) (λ a. rw (ne-eqb (k .0) n ne)),
+)
 
 pub own-temperature : (n : ℕ) (t : ℤ) (s : Slot) → absent s ≡ false → slotNext n (Temperature (record { 0 = n }) t) s ≡ withSensor (converted (s .sensor) t) s
 unfolding presentNext

@@ -239,9 +239,11 @@ module _ (n : ℕ) (s₀ : Slot) where
       → (isTick a ≡ true) × ((at r) .left ≡ 1) × CommandBegun r ((slotNext n a (at r)) .protection)
   protection-story reach calm r a ne = by-test ends
       (λ e. let one : (at r) .left ≡ 1 = eqb-true ((at r) .left) 1 (and-right (isTick a && not (absent (at r))) (eqb ((at r) .left) 1) e) in
-      let q : (slotNext n a (at r)) .protection ≡ (at r) .coming = protection-next n a (at r) ∙ cond-true ends _ _ e in
-      (and-left (isTick a) (not (absent (at r))) (and-left (isTick a && not (absent (at r))) (eqb ((at r) .left) 1) e), one,
-      ⊎-elim (λ w. absurd (let z = w .0 in omega arith)) (λ w. subst (CommandBegun r) (sym q) w) (told reach calm r (λ c. ne (q ∙ c)))))
+      let q : (slotNext n a (at r)) .protection ≡ (at r) .coming = protection-next n a (at r) ∙ cond-true ends _ _ e in (
+        and-left (isTick a) (not (absent (at r))) (and-left (isTick a && not (absent (at r))) (eqb ((at r) .left) 1) e),
+        one,
+        ⊎-elim (λ w. absurd (let z = w .0 in omega arith)) (λ w. subst (CommandBegun r) (sym q) w) (told reach calm r (λ c. ne (q ∙ c))),
+      ))
       (λ e. absurd (ne (protection-next n a (at r) ∙ cond-false ends _ _ e)))
     where
       ends : Bool

@@ -5,8 +5,8 @@ use Prim.Native.Nat.{suc, _+_}
 use native.Mathlib.Omega.{arith}
 use borrow.Author.Needs.{needs}
 use lib.ListN.{length-set}
-use Rattle.lines.proofs.put_three.Statement.{statement}
-use Rattle.lines.proofs.put_three.Tie as tie
+use Rattle.letters.proofs.put_three.Statement.{statement}
+use Rattle.letters.proofs.put_three.Tie as tie
 
 pub put-three-spec : {M : Type 1} → statement M
 put-three-spec =

@@ -2,9 +2,9 @@
 -- Assumes nothing.
 use borrow.Author.Needs.{needs}
 use borrow.Author.Tests.{lt-ltb, le-ltb}
-use Rattle.lines.specs.Script.{hexDigit}
-use Rattle.lines.proofs.hex_digit.Statement.{statement}
-use Rattle.lines.proofs.hex_digit.Tie as tie
+use Rattle.letters.specs.Letters.{hexDigit}
+use Rattle.letters.proofs.hex_digit.Statement.{statement}
+use Rattle.letters.proofs.hex_digit.Tie as tie
 
 pub hex-digit-spec : {M : Type 1} → statement M
 unfolding hexDigit

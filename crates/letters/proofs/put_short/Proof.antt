@@ -4,8 +4,8 @@ use mathlib.Core.Path.{refl}
 use native.Mathlib.Omega.{arith}
 use borrow.Author.Needs.{needs}
 use lib.ListN.{length-set}
-use Rattle.lines.proofs.put_short.Statement.{statement}
-use Rattle.lines.proofs.put_short.Tie as tie
+use Rattle.letters.proofs.put_short.Statement.{statement}
+use Rattle.letters.proofs.put_short.Tie as tie
 
 pub put-short-spec : {M : Type 1} → statement M
 put-short-spec =

@@ -6,12 +6,12 @@ use native.Mathlib.Omega.{arith}
 use borrow.Author.Needs.{needs}
 use borrow.Author.Tests.{lt-ltb, le-ltb}
 use lib.IntN.{negsuc}
-use Rattle.lines.specs.Script.{valueAt}
+use Rattle.records.specs.Records.{valueAt}
 use mir.Syntax.{w16}
 use mir.Facts.{toZ-pos, toZ-neg}
-use Rattle.lines.proofs.Laws.{below-zero}
-use Rattle.lines.proofs.value_at.Statement.{statement}
-use Rattle.lines.proofs.value_at.Tie as tie
+use Rattle.records.proofs.Laws.{below-zero}
+use Rattle.records.proofs.value_at.Statement.{statement}
+use Rattle.records.proofs.value_at.Tie as tie
 
 pub value-at-spec : {M : Type 1} → statement M
 unfolding valueAt

@@ -1,10 +1,10 @@
 -- Each answer's line, if any.
 -- Assumes nothing.
 use borrow.Author.Needs.{needs}
-use Rattle.lines.specs.Steps.{refusalLine}
-use Rattle.lines.proofs.StepLaws.{refusal-by}
-use Rattle.lines.proofs.put_refusal.Statement.{statement}
-use Rattle.lines.proofs.put_refusal.Tie as tie
+use Rattle.letters.specs.Letters.{refusalLine}
+use Rattle.letters.proofs.Laws.{refusal-by}
+use Rattle.letters.proofs.put_refusal.Statement.{statement}
+use Rattle.letters.proofs.put_refusal.Tie as tie
 
 pub put-refusal-spec : {M : Type 1} → statement M
 unfolding refusalLine

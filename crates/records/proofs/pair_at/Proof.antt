@@ -2,9 +2,9 @@
 -- Assumes nothing.
 use mathlib.Core.Path.{refl}
 use borrow.Author.Needs.{needs}
-use Rattle.lines.specs.Script.{pairAt}
-use Rattle.lines.proofs.pair_at.Statement.{statement}
-use Rattle.lines.proofs.pair_at.Tie as tie
+use Rattle.records.specs.Records.{pairAt}
+use Rattle.records.proofs.pair_at.Statement.{statement}
+use Rattle.records.proofs.pair_at.Tie as tie
 
 pub pair-at-spec : {M : Type 1} → statement M
 unfolding pairAt

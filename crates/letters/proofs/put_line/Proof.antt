@@ -3,10 +3,10 @@
 use native.Mathlib.Omega.{arith}
 use borrow.Author.Needs.{needs}
 use Rattle.rules.specs.Events.{letterOf}
-use Rattle.lines.specs.Script.{lineOf, digitsOf}
-use Rattle.lines.proofs.Laws.{digit-small, data-by}
-use Rattle.lines.proofs.put_line.Statement.{statement}
-use Rattle.lines.proofs.put_line.Tie as tie
+use Rattle.letters.specs.Letters.{lineOf, digitsOf}
+use Rattle.letters.proofs.Laws.{digit-small, data-by}
+use Rattle.letters.proofs.put_line.Statement.{statement}
+use Rattle.letters.proofs.put_line.Tie as tie
 
 pub put-line-spec : {M : Type 1} → statement M
 unfolding lineOf digitsOf letterOf

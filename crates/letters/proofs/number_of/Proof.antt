@@ -2,8 +2,8 @@
 -- Assumes nothing.
 use borrow.Author.Needs.{needs}
 use Rattle.rules.specs.Events.{refusalNumber}
-use Rattle.lines.proofs.number_of.Statement.{statement}
-use Rattle.lines.proofs.number_of.Tie as tie
+use Rattle.letters.proofs.number_of.Statement.{statement}
+use Rattle.letters.proofs.number_of.Tie as tie
 
 pub number-of-spec : {M : Type 1} → statement M
 unfolding refusalNumber

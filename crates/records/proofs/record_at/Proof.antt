@@ -1,10 +1,10 @@
 -- The four bytes of the record.
 -- Assumes nothing.
 use borrow.Author.Needs.{needs}
-use Rattle.lines.specs.Script.{recordAt}
+use Rattle.records.specs.Records.{recordAt}
 use Rattle.sensor.proofs.Signed.{back}
-use Rattle.lines.proofs.record_at.Statement.{statement}
-use Rattle.lines.proofs.record_at.Tie as tie
+use Rattle.records.proofs.record_at.Statement.{statement}
+use Rattle.records.proofs.record_at.Tie as tie
 
 pub record-at-spec : {M : Type 1} → statement M
 unfolding recordAt
