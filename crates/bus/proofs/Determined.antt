@@ -7,7 +7,7 @@ use contract.Lifetimes.{Lfts}
 use borrow.Fn.World.{ArgsD, ResD}
 use borrow.Fn.Kinds.{endedOf}
 use denote.Triple.Clauses.{AtExit}
-use denote.Ref.{now}
+use denote.Ref.{now, ptr}
 use Rattle.rules.specs.declared.Outcome.{Outcome}
 use Rattle.bus.proofs.setup as setup
 use Rattle.bus.proofs.setup.Kinds as setupKinds
@@ -39,7 +39,7 @@ pub event-in-range-decides : (κs : Lfts 1) (a : ArgsD inRange.signature κs) (r
     → inRangeReads.Post κs a r s → inRangeReads.Post κs a q o → (r ≡ q) × (now (s .1 .0) ≡ now (o .1 .0))
 event-in-range-decides κs a r q s o p t = both _ _ (sym p ∙ t)
 
--- block: the bytes of the part; where it lies no clause can say
+-- block: the bytes of the part, and where it lies
 pub block-decides : (κs : Lfts 1) (a : ArgsD block.signature κs) (r q : ResD block.signature κs) (s o : AtExit (endedOf 1 blockKinds.ps blockKinds.r) κs)
-    → blockReads.Post κs a r s → blockReads.Post κs a q o → now r ≡ now q
-block-decides κs a r q s o p t = p ∙ sym t
+    → blockReads.Post κs a r s → blockReads.Post κs a q o → (now r ≡ now q) × (ptr r .0 ≡ ptr q .0) × (ptr r .1 ≡ ptr q .1)
+block-decides κs a r q s o p t = (p .0 ∙ sym (t .0), p .1 ∙ sym (t .1), p .2 ∙ sym (t .2))

@@ -10,7 +10,7 @@ use native.Mathlib.Omega.{arith}
 use borrow.Author.Tests.{eq-eqb, ne-eqb}
 use lib.Dec.{eqb}
 use lib.ListN.{length, getD, set, take, drop, replicate, drop-of-length-le}
-use lib.Seq.{drop-cons, take-suc, take-all, length-take-le, set-at, append-snoc}
+use lib.Seq.{drop-cons, take-suc, take-all, length-take-le, set-at, set-getD, append-snoc}
 
 module _ {A : Type 0} where
   -- each element x at its place n becomes f n x; the first place is n
@@ -66,6 +66,11 @@ module _ {A : Type 0} where
   pub mapTo-step : (f : ℕ → A → A) (k : ℕ) (xs : List A) (d : A) → k < length xs
       → set (mapTo f 0 k xs) k (f k (getD xs k d)) ≡ mapTo f 0 (k + 1) xs
   mapTo-step f k xs d h = rw add-one (rw zero-add at (mapTo-suc f 0 k xs d h))
+
+  -- one turn that leaves its element
+  pub mapTo-same : (f : ℕ → A → A) (k : ℕ) (xs : List A) (d : A) → k < length xs → f k (getD xs k d) ≡ getD xs k d → mapTo f 0 k xs ≡ mapTo f 0 (k + 1) xs
+  mapTo-same f k xs d h e =
+      sym (set-getD (mapTo f 0 k xs) k d) ∙ ap (λ (x : A). set (mapTo f 0 k xs) k x) (mapTo-next f 0 k xs d ∙ sym e) ∙ mapTo-step f k xs d h
 
   -- some element of those not yet asked
   pub anyFrom-step : (p : ℕ → A → Bool) (k : ℕ) (xs : List A) (d : A) (a : Bool) → k < length xs

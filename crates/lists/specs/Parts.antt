@@ -76,6 +76,12 @@ module _ {A : Type 0} (w : ℕ) (f : A → List ℕ → List ℕ) where
   partsTo-all [] m = refl
   partsTo-all (x ∷ xs) m = ap (λ (l : List ℕ). f x (take w m) ++ l) (partsTo-all xs (drop w m))
 
+  -- where no part is changed
+  pub eachPart-same : ((x : A) (p : List ℕ) → f x p ≡ p) → (xs : List A) (m : List ℕ) → eachPart xs m ≡ m
+  unfolding eachPart
+  eachPart-same e [] m = refl
+  eachPart-same e (x ∷ xs) m = ap₂ _++_ (e x (take w m)) (eachPart-same e xs (drop w m)) ∙ take-append-drop w m
+
   module _ (keeps : (x : A) (p : List ℕ) → length (f x p) ≡ length p) where
     pub length-partsTo : (k : ℕ) (xs : List A) (m : List ℕ) → length (partsTo k xs m) ≡ length m
     unfolding partsTo
@@ -120,6 +126,17 @@ module _ {A : Type 0} (w : ℕ) (f : A → List ℕ → List ℕ) where
         → take a (partsTo k xs m) ++ (f (getD xs k d) (take (e - a) (drop a (partsTo k xs m))) ++ drop (e - a) (drop a (partsTo k xs m)))
         ≡ partsTo (k + 1) xs m
     partsTo-step k a e xs m d ha he l h = rw (he, ha, add-one) (partsTo-suc k xs m d l (rw (← add-one) h))
+
+    -- one turn that leaves its part
+    pub partsTo-same : (k : ℕ) (xs : List A) (m : List ℕ) (d : A) → k < length xs → w * (k + 1) ≤ length m → ((p : List ℕ) → f (getD xs k d) p ≡ p)
+        → partsTo k xs m ≡ partsTo (k + 1) xs m
+    partsTo-same k xs m d l h e =
+        let P = partsTo k xs m in
+        let i : w * suc k ≤ length m = rw (← add-one) h in
+        sym (take-append-drop (w * k) P)
+        ∙ ap (λ (q : List ℕ). take (w * k) P ++ q) (sym (take-append-drop w (drop (w * k) P)) ∙ ap (λ (q : List ℕ). q ++ drop w (drop (w * k) P)) (sym (e (take w (drop (w * k) P)))))
+        ∙ partsTo-suc k xs m d l i
+        ∙ ap (λ (n : ℕ). partsTo n xs m) (sym (add-one k))
 
     pub length-eachPart : (xs : List A) (m : List ℕ) → length (eachPart xs m) ≡ length m
     length-eachPart xs m = ap length (sym (partsTo-all xs m)) ∙ length-partsTo (length xs) xs m

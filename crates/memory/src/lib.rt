@@ -1,21 +1,18 @@
-// The memory of a slot: its counter, its latch, its protection, its write cycle.
+// The memory of a slot in an exchange: its counter, its latch, its protection.
 ghost use mathlib.Core.Path.{_≡_};
 ghost use mathlib.Core.Bool.{true, false, cond};
-ghost use Prim.Native.Nat.{_+_, _≤_};
 ghost use lib.ListN.{length, getD, set};
 ghost use Rattle.rules.specs.Modelled.{addressOf, slotBytes};
 ghost use Rattle.rules.specs.Control.{protects};
-ghost use Rattle.rules.specs.Memory.{loaded, guarded, latching, fetched, anyMark, begun, dataStop, putUpTo, tickedPart};
-ghost use Rattle.rules.specs.Slot.{slotNext};
+ghost use Rattle.rules.specs.Memory.{loaded, guarded, latching, fetched};
 ghost use Rattle.rules.specs.Refusals.{slotInRange};
-use rules::Act;
 use rules::Address;
 use rules::BlockNo;
 use rules::Phase;
 use rules::Slot;
 
 // The address that the counter points to in the selected half.
-fn address_of(s: Slot) -> Address
+pub fn address_of(s: Slot) -> Address
     ensures { λ r. ⌜ r ≡ addressOf s ⌝ }
 {
     Address(256 * (s.half as u16) + (s.counter as u16))
@@ -118,84 +115,6 @@ pub fn fetched(more: bool, s: Slot) -> Slot
     Slot {
         counter: ((s.counter as u16 + 1) % 256) as u8,
         phase,
-        ..s
-    }
-}
-
-// At least one byte is latched.
-fn any_mark(marks: [bool; 16]) -> bool
-    ensures { λ r. ⌜ r ≡ anyMark marks ⌝ }
-{
-    let mut any = false;
-    for i in 0..16usize {
-        any = any | marks[i];
-    }
-    any
-}
-
-// A stop that begins the write cycle, at its full length.
-pub fn begun(s: Slot) -> Slot
-    ensures { λ r. ⌜ r ≡ begun s ⌝ }
-{
-    Slot {
-        left: s.length,
-        place: 0,
-        ..s
-    }
-}
-
-// A stop after data bytes: the write cycle begins if at least one is latched.
-pub fn data_stop(s: Slot) -> Slot
-    ensures { λ r. ⌜ r ≡ dataStop s ⌝ }
-{
-    let marks = s.marks;
-    if any_mark(marks) {
-        return begun(s);
-    }
-    phase::abandoned(s)
-}
-
-// The marked bytes of the latch go to their page, which begins at `at`.
-fn put(part: &mut [u8], at: usize, latch: [u8; 16], marks: [bool; 16])
-    requires { ⌜ at + 16 ≤ length (now part) ⌝ }
-    ensures { λ _. ⌜ now (part .exit) ≡ putUpTo latch marks at 16 (now (part .entry)) ⌝ }
-{
-    for i in 0..Slot::PAGE {
-        if marks[i] {
-            part[at + i] = latch[i];
-        }
-    }
-}
-
-// A tick; part is the slot's own 512 bytes, which change where a write cycle ends. An absent slot is left alone.
-pub fn tick(s: Slot, part: &mut [u8]) -> Slot
-    requires { ⌜ (slotInRange s ≡ true) × (length (now part) ≡ slotBytes) ⌝ }
-    ensures { λ r. ⌜ (r ≡ slotNext 0 Act.Tick s) × (now (part .exit) ≡ tickedPart s (now (part .entry))) ⌝ }
-{
-    if s.kind == 0 {
-        return s;
-    }
-    let left = s.left;
-    if left == 1 {
-        let a = address_of(s);
-        let at = (a.0 / 16 * 16) as usize;
-        let latch = s.latch;
-        let marks = s.marks;
-        put(part, at, latch, marks);
-        let protection = s.coming;
-        return Slot {
-            left: 0,
-            protection,
-            latch: [0u8; 16],
-            marks: [false; 16],
-            ..s
-        };
-    }
-    if left == 0 {
-        return s;
-    }
-    Slot {
-        left: left - 1,
         ..s
     }
 }

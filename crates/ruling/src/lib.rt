@@ -142,7 +142,7 @@ fn slot_in_range(s: Slot) -> bool
         & (s.half <= 1)
         & (s.counter <= 255)
         & (s.place <= 15)
-        & sensor::in_range(x)
+        & registers::in_range(x)
 }
 
 // Row 6 lets the state pass: every number of every slot is in its range.

@@ -1,37 +1,169 @@
 -- The definitions in the form in which a function's proof asks for them: a premise for each fact of the way to a return.
 -- Assumes nothing.
-use mathlib.Core.Path.{_≡_, sym, _∙_, ap}
-use mathlib.Core.Bool.{Bool, not, cond, _&&_}
+use mathlib.Core.Path.{_≡_, refl, sym, _∙_, ap}
+use mathlib.Core.Bool.{Bool, true, false, false≢true, cond, _&&_, _||_}
 use mathlib.Core.List.{List}
-use Prim.Native.Nat.{ℕ}
+use Prim.Native.Nat.{ℕ, _-_}
+use native.Mathlib.Omega.{arith}
+use borrow.Author.Tests.{eq-eqb, ne-eqb}
+use lib.Dec.{eqb}
+use lib.IntN.{ℤ}
+use Rattle.lists.specs.Tests.{cond-cases, cond-same, or-left-false, or-right-false}
+use Rattle.rules.specs.declared.Act.{Act}
+use Rattle.rules.specs.declared.Act.the-variants.{Start, Byte, Read, Stop, Timeout, Tick, Voltage, Temperature}
 use Rattle.rules.specs.declared.Phase.{Phase}
+use Rattle.rules.specs.declared.Phase.the-variants.{Idle, Control, Deaf, MemoryCounter, MemoryData, MemoryRead, HalfSelected, CommandAddress, CommandData, CommandStop, SensorPointer, SensorHigh, SensorLow, SensorReadHigh, SensorReadLow}
 use Rattle.rules.specs.declared.Slot.{Slot}
+use Rattle.rules.specs.declared.SlotNo.{SlotNo}
 use Rattle.rules.specs.declared.Traits.{Traits}
-use Rattle.rules.specs.Fields.{withVoltage}
-use Rattle.rules.specs.Slot.{traits, commanding, standing, lost, switched, byteIn, acksIn, readIn, drivesIn, drivenIn, acks, drives, driven}
-use Rattle.rules.proofs.Run.Cases.{byte-next, read-next}
-use Rattle.slot.specs.declared.Heed.{Heed}
-use Rattle.slot.specs.declared.Drive.{Drive}
-use Rattle.slot.specs.Shown.{heeded, readOut}
+use Rattle.rules.specs.Modelled.{absent}
+use Rattle.rules.specs.declared.Heard.{Heard}
+use Rattle.rules.specs.Control.{heardOf, acksHeard, acksControl, obeyed, controlled}
+use Rattle.rules.specs.Fields.{inPhase, withLeft}
+use Rattle.rules.specs.Memory.{ticked, tickedPart}
+use Rattle.rules.specs.Slot.{traits, standing, letGo, stopIn, byteIn, acksIn, readIn, drivesIn, presentNext, slotNext, acks, drives}
+use Rattle.rules.proofs.Run.Cases.{absent-next, present-next, byte-next, read-next}
+use Rattle.slot.specs.declared.Change.{Change}
+use Rattle.slot.specs.declared.Change.the-variants as change
+use Rattle.slot.specs.declared.Step.{Step}
+use Rattle.slot.specs.Shown.{heardIn, acksAt, drivesAt, partNext, stepped, Silent, Foreseen}
 
--- by the phase that the slot stands in
-pub heeded-by : (r : Heed) (n b : ℕ) (s : Slot) (q p : Phase) → q ≡ standing s → q ≡ p → r ≡ record { slot = byteIn p n b s; ack = acksIn p n b s } → r ≡ heeded n b s
-unfolding heeded acks
-heeded-by r n b s q p e f g =
-    g ∙ ap (λ (x : Phase). record { slot = byteIn x n b s; ack = acksIn x n b s }) (sym f ∙ e)
-    ∙ ap (λ (t : Slot). record { slot = t; ack = acks n b s }) (sym (byte-next n b s))
+-- an exchange that is left in the phase lets something go
+abbrev pub holdsIn : Phase → Bool
+holdsIn p = traits p .sensor || traits p .command || traits p .takes
 
-pub read-by : (r : Drive) (more : Bool) (m : List ℕ) (s : Slot) (q p : Phase) → q ≡ standing s → q ≡ p
-    → r ≡ record { slot = readIn p more s; drives = drivesIn p; byte = drivenIn p s m } → r ≡ readOut more m s
-unfolding readOut drives driven
-read-by r more m s q p e f g =
-    g ∙ ap (λ (x : Phase). record { slot = readIn x more s; drives = drivesIn x; byte = drivenIn x s m }) (sym f ∙ e)
-    ∙ ap (λ (t : Slot). record { slot = t; drives = drives s; byte = driven m s }) (sym (read-next 0 more s))
+let-go-none : (p : Phase) (s : Slot) → holdsIn p ≡ false → letGo p s ≡ s
+unfolding letGo
+let-go-none p s e =
+    let f = or-left-false (traits p .sensor || traits p .command) (traits p .takes) e in
+    rw (or-left-false (traits p .sensor) (traits p .command) f, or-right-false (traits p .sensor) (traits p .command) f, or-right-false (traits p .sensor || traits p .command) (traits p .takes) e)
 
--- high voltage, by the traits of that phase
-pub switched-by : (r s : Slot) (on : Bool) (q : Phase) (t : Traits) (going : Bool) → q ≡ standing s → t ≡ traits q → (t .command && s .voltage && not on) ≡ going
-    → r ≡ withVoltage on (cond going (lost q s) s) → r ≡ switched on s
-unfolding switched
-switched-by r s on q t going e f g h =
-    h ∙ ap (λ (x : Bool). withVoltage on (cond x (lost q s) s)) (sym g ∙ ap (λ (x : Traits). x .command && s .voltage && not on) f)
-    ∙ ap (λ (p : Phase). withVoltage on (cond (commanding p && s .voltage && not on) (lost p s) s)) e
+stop-none : (p : Phase) (s : Slot) → holdsIn p ≡ false → stopIn p s ≡ s
+unfolding stopIn
+stop-none Idle s e = refl
+stop-none Control s e = refl
+stop-none Deaf s e = refl
+stop-none MemoryCounter s e = refl
+stop-none MemoryData s e = absurd (false≢true (sym e))
+stop-none MemoryRead s e = refl
+stop-none HalfSelected s e = refl
+stop-none CommandAddress s e = absurd (false≢true (sym e))
+stop-none CommandData s e = absurd (false≢true (sym e))
+stop-none CommandStop s e = absurd (false≢true (sym e))
+stop-none SensorPointer s e = absurd (false≢true (sym e))
+stop-none SensorHigh s e = absurd (false≢true (sym e))
+stop-none SensorLow s e = absurd (false≢true (sym e))
+stop-none SensorReadHigh s e = absurd (false≢true (sym e))
+stop-none SensorReadLow s e = absurd (false≢true (sym e))
+
+-- where there is more to it nothing is told
+pub more : (n : ℕ) (a : Act) (s : Slot) → Foreseen change.More n a s
+unfolding Foreseen
+more n a s = tt
+
+module _ (n : ℕ) (s : Slot) where
+  pub by-act : (c : Change) (a q : Act) → a ≡ q → Foreseen c n q s → Foreseen c n a s
+  by-act c a q e h = rw e h
+
+  -- what a start, stop or timeout does to a slot that is absent, holds something, or holds nothing
+  passing : (c : Change) (a : Act) (q : Phase) → Silent n a s → (absent s ≡ false → holdsIn (standing s) ≡ false → slotNext n a s ≡ inPhase q s)
+      → c ≡ cond (absent s) change.Nothing (cond (holdsIn (standing s)) change.More (change.To q)) → Foreseen c n a s
+  unfolding Foreseen
+  passing c a q z h e =
+      rw e
+      (cond-cases (λ (x : Change). Foreseen x n a s) (absent s) (λ t. (absent-next n a s t, z)) λ f.
+      cond-cases (λ (x : Change). Foreseen x n a s) (holdsIn (standing s)) (λ t. tt) (λ g. (h f g, z)))
+
+  pub at-start : (c : Change) → c ≡ cond (absent s) change.Nothing (cond (holdsIn (standing s)) change.More (change.To Control)) → Foreseen c n Start s
+  unfolding partNext presentNext
+  at-start c e =
+      passing c Start Control (record { mute = refl; still = refl; kept = λ m. refl })
+      (λ f g. present-next n Start s f ∙ ap (inPhase Control) (let-go-none (standing s) s g)) e
+
+  pub at-stop : (c : Change) → c ≡ cond (absent s) change.Nothing (cond (holdsIn (standing s)) change.More (change.To Idle)) → Foreseen c n Stop s
+  unfolding partNext presentNext
+  at-stop c e =
+      passing c Stop Idle (record { mute = refl; still = refl; kept = λ m. refl })
+      (λ f g. present-next n Stop s f ∙ ap (inPhase Idle) (stop-none (standing s) s g)) e
+
+  pub at-timeout : (c : Change) → c ≡ cond (absent s) change.Nothing (cond (holdsIn (standing s)) change.More (change.To Idle)) → Foreseen c n Timeout s
+  unfolding partNext presentNext
+  at-timeout c e =
+      passing c Timeout Idle (record { mute = refl; still = refl; kept = λ m. refl })
+      (λ f g. present-next n Timeout s f ∙ ap (inPhase Idle) (let-go-none (standing s) s g)) e
+
+  -- a byte that is not acknowledged, in the phase that the slot stands in
+  byte-silent : (b : ℕ) (p : Phase) → standing s ≡ p → acksIn p n b s ≡ false → Silent n (Byte b) s
+  unfolding partNext acks
+  byte-silent b p e f = record { mute = ap (λ (x : Phase). acksIn x n b s) e ∙ f; still = refl; kept = λ m. refl }
+
+  byte-to : (b : ℕ) (p : Phase) (t : Slot) → standing s ≡ p → byteIn p n b s ≡ t → acksIn p n b s ≡ false → (slotNext n (Byte b) s ≡ t) × Silent n (Byte b) s
+  byte-to b p t e g f = (byte-next n b s ∙ ap (λ (x : Phase). byteIn x n b s) e ∙ g, byte-silent b p e f)
+
+  pub byte-idle : (b : ℕ) (q : Phase) → q ≡ standing s → q ≡ Idle → Foreseen change.Nothing n (Byte b) s
+  unfolding Foreseen byteIn acksIn
+  byte-idle b q e f = byte-to b Idle s (sym e ∙ f) refl refl
+
+  pub byte-deaf : (b : ℕ) (q : Phase) → q ≡ standing s → q ≡ Deaf → Foreseen change.Nothing n (Byte b) s
+  unfolding Foreseen byteIn acksIn
+  byte-deaf b q e f = byte-to b Deaf s (sym e ∙ f) refl refl
+
+  pub byte-control : (b : ℕ) (q : Phase) (d : Heard) (k : Bool) → q ≡ standing s → q ≡ Control → d ≡ heardOf b → k ≡ (eqb (s .left) 0 && acksHeard d n s) → k ≡ false
+      → Foreseen (change.To Deaf) n (Byte b) s
+  unfolding Foreseen byteIn acksIn controlled acksControl
+  byte-control b q d k e f w g h =
+      let z : acksControl n b s ≡ false = ap (λ (x : Heard). eqb (s .left) 0 && acksHeard x n s) (sym w) ∙ sym g ∙ h in
+      byte-to b Control (inPhase Deaf s) (sym e ∙ f) (ap (λ (x : Bool). cond x (obeyed (heardOf b) s) (inPhase Deaf s)) z) z
+
+  -- a read that is not driven
+  read-same : (more : Bool) (p : Phase) → standing s ≡ p → readIn p more s ≡ s → drivesIn p ≡ false → Foreseen change.Nothing n (Read more) s
+  unfolding Foreseen partNext drives
+  read-same more p e g f = (
+    read-next n more s ∙ ap (λ (x : Phase). readIn x more s) e ∙ g,
+    record { mute = refl; still = ap (λ (x : Phase). drivesIn x) e ∙ f; kept = λ m. refl },
+  )
+
+  pub read-idle : (more : Bool) (q : Phase) → q ≡ standing s → q ≡ Idle → Foreseen change.Nothing n (Read more) s
+  unfolding readIn
+  read-idle more q e f = read-same more Idle (sym e ∙ f) refl refl
+
+  pub read-deaf : (more : Bool) (q : Phase) → q ≡ standing s → q ≡ Deaf → Foreseen change.Nothing n (Read more) s
+  unfolding readIn
+  read-deaf more q e f = read-same more Deaf (sym e ∙ f) refl refl
+
+  -- a tick without a write cycle
+  pub tick-rests : s .left ≡ 0 → Foreseen change.Nothing n Tick s
+  unfolding Foreseen partNext slotNext presentNext ticked tickedPart withLeft
+  tick-rests e =
+      let f : withLeft (s .left - 1) s ≡ s = ap (λ (x : ℕ). withLeft x s) (omega arith) in
+      let g : eqb (s .left) 1 ≡ false = ne-eqb (s .left) 1 (omega arith) in
+      (rw (g, f) (cond-same (absent s) s), record { mute = refl; still = refl; kept = λ m. rw g (cond-same (absent s) m) })
+
+  -- another slot's voltage or temperature
+  pub voltage-other : (c : Change) (k : SlotNo) (on : Bool) → c ≡ cond (eqb (k .0) n) change.More change.Nothing → Foreseen c n (Voltage k on) s
+  unfolding Foreseen partNext slotNext presentNext
+  voltage-other c k on e =
+      rw e (cond-cases (λ (x : Change). Foreseen x n (Voltage k on) s) (eqb (k .0) n) (λ t. tt)
+      (λ f. (rw f (cond-same (absent s) s), record { mute = refl; still = refl; kept = λ m. refl })))
+
+  pub temperature-other : (c : Change) (k : SlotNo) (t : ℤ) → c ≡ cond (eqb (k .0) n) change.More change.Nothing → Foreseen c n (Temperature k t) s
+  unfolding Foreseen partNext slotNext presentNext
+  temperature-other c k t e =
+      rw e (cond-cases (λ (x : Change). Foreseen x n (Temperature k t) s) (eqb (k .0) n) (λ h. tt)
+      (λ f. (rw f (cond-same (absent s) s), record { mute = refl; still = refl; kept = λ m. refl })))
+
+-- the traits of the phase that a slot stands in, by the tests
+pub passes : (r : Change) (s : Slot) (next q : Phase) (t : Traits) (b : Bool) → (s .kind ≡ 0 → ⊥) → q ≡ standing s → t ≡ traits q → (t .sensor || t .command || t .takes) ≡ b
+    → r ≡ cond b change.More (change.To next) → r ≡ cond (absent s) change.Nothing (cond (holdsIn (standing s)) change.More (change.To next))
+unfolding absent
+passes r s next q t b k e f g h =
+    h
+    ∙ ap (λ (x : Bool). cond x change.More (change.To next)) (sym g ∙ ap (λ (x : Traits). x .sensor || x .command || x .takes) (f ∙ ap traits e))
+    ∙ sym (ap (λ (x : Bool). cond x change.Nothing (cond (holdsIn (standing s)) change.More (change.To next))) (ne-eqb (s .kind) 0 k))
+
+-- a step by its act
+pub stepped-by : (r : Step) (n : ℕ) (a q : Act) (m p : List ℕ) (s : Slot) → a ≡ q → r ≡ stepped n q m s → p ≡ partNext q s m → (r ≡ stepped n a m s) × (p ≡ partNext a s m)
+stepped-by r n a q m p s e f g = (f ∙ ap (λ (x : Act). stepped n x m s) (sym e), g ∙ ap (λ (x : Act). partNext x s m) (sym e))
+
+pub heard-byte : (d : Heard) (a : Act) (b : ℕ) → d ≡ heardIn a → a ≡ Byte b → d ≡ heardOf b
+heard-byte d a b e f = e ∙ ap heardIn f

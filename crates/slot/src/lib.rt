@@ -1,404 +1,213 @@
-// One slot of the bus: what it does at each event, and what it shows. It looks at no other slot.
-// The public functions ask for a slot in range, which the bus has tested or kept.
+// One slot at an event of any kind: what it does, and what it shows. It looks at no other slot.
 ghost use mathlib.Core.Path.{_≡_};
-ghost use mathlib.Core.Bool.{true, false, not, cond, _&&_};
-ghost use Prim.Native.Nat.{_/_, _%_};
-ghost use lib.Dec.{eqb, leb};
-ghost use lib.ListN.{length, getD, set};
-ghost use Rattle.rules.specs.Modelled.{addressOf, slotBytes};
-ghost use Rattle.rules.specs.Fields.{inPhase, expecting, withSensor, holding};
-ghost use Rattle.rules.specs.Fresh.{powered};
-ghost use Rattle.rules.specs.Sensor.{registerOf, converted};
-ghost use Rattle.rules.specs.Control.{heardOf, acksHeard, obeyed};
+ghost use mathlib.Core.Bool.{true, false, cond, _||_};
+ghost use lib.Dec.{eqb};
+ghost use lib.ListN.{length};
+ghost use Rattle.rules.specs.Control.{heardOf};
 ghost use Rattle.rules.specs.Modelled.{absent};
-ghost use Rattle.rules.specs.Memory.{guarded, dataByte, fetched};
-ghost use Rattle.rules.specs.Slot.{standing, letGo, lost, pointer, firstByte, secondByte, readIn, stopIn, switched, slotNext};
-ghost use Rattle.rules.specs.Refusals.{slotInRange, lengthInRange};
-ghost use Rattle.slot.specs.Shown.{heeded, readOut, signalled};
-use rules::BlockNo;
+ghost use Rattle.rules.specs.Slot.{traits, standing, slotNext, acks, drives, driven};
+ghost use Rattle.rules.specs.Modelled.{slotBytes};
+ghost use Rattle.rules.specs.Refusals.{slotInRange};
+ghost use Rattle.slot.specs.Shown.{heardIn, stepped, partNext, Foreseen};
+use rules::Act;
 use rules::Heard;
 use rules::Phase;
-use rules::Sensor;
 use rules::Slot;
 use rules::SlotNo;
+use signal::Signal;
 
-// A slot after a byte from the master, and whether it acknowledges.
-pub struct Heed {
+// A slot after an act, whether it acknowledges, whether it drives a byte, and which; FFh where it drives none.
+pub struct Step {
     pub slot: Slot,
     pub ack: bool,
-}
-
-// A slot after a read, whether it drives a byte, and which; FFh where it drives none.
-pub struct Drive {
-    pub slot: Slot,
     pub drives: bool,
     pub byte: u8,
 }
 
-fn ack(slot: Slot) -> Heed
-    ensures { λ r. ⌜ r ≡ record { slot = slot; ack = true } ⌝ }
-{
-    Heed { slot, ack: true }
+// What can be told of a step before it is done: the slot stays, or moves to another phase and no more, and shows nothing; or there is more to it.
+pub enum Change {
+    Nothing,
+    To(Phase),
+    More,
 }
 
-fn nack(slot: Slot) -> Heed
-    ensures { λ r. ⌜ r ≡ record { slot = slot; ack = false } ⌝ }
+// What a control byte asks for, if the act is a byte.
+pub fn heard_in(a: Act) -> Heard
+    ensures { λ r. ⌜ r ≡ heardIn a ⌝ }
 {
-    Heed { slot, ack: false }
-}
-
-// Which present slot acknowledges a control byte, if it is in no write cycle.
-fn acks_heard(h: Heard, n: SlotNo, s: Slot) -> bool
-    ensures { λ r. ⌜ r ≡ acksHeard h (n .0) s ⌝ }
-{
-    match h {
-        Heard::Memory { select, read: _ } => select.0 == n.0,
-        Heard::Sensor { select, read: _ } => (select.0 == n.0) & (s.kind == 2),
-        Heard::Protect(k) => s.voltage & !memory::protects(k, s),
-        Heard::ClearAll => s.voltage,
-        Heard::ReadProtection(k) => !memory::protects(k, s),
-        Heard::SelectHalf(_) => true,
-        Heard::ReadHalf => s.half == 0,
-        Heard::Nothing => false,
+    match a {
+        Act::Start => Heard::Nothing,
+        Act::Byte(b) => control::hear(b),
+        Act::Read(_) => Heard::Nothing,
+        Act::Stop => Heard::Nothing,
+        Act::Timeout => Heard::Nothing,
+        Act::Tick => Heard::Nothing,
+        Act::Voltage(_, _) => Heard::Nothing,
+        Act::Power => Heard::Nothing,
+        Act::Temperature(_, _) => Heard::Nothing,
     }
 }
 
-// The slot with a protect begun: block k is to come to the protection that stands.
-fn protecting(k: BlockNo, s: Slot) -> Slot
-    ensures { λ r. ⌜ r ≡ inPhase Phase.CommandAddress (expecting (set (s .protection) (k .0) true) s) ⌝ }
+// Of a slot whose exchange holds nothing of it a start, stop or timeout changes the phase alone.
+fn at_signal(next: Phase, s: Slot) -> Change
+    ensures { λ r. ⌜ r ≡ cond (absent s) Change.Nothing (cond (traits (standing s) .sensor || traits (standing s) .command || traits (standing s) .takes) Change.More (Change.To next)) ⌝ }
 {
-    let protection = s.protection;
-    let coming = memory::with_block(k, protection);
-    Slot {
-        coming,
-        phase: Phase::CommandAddress,
-        ..s
+    if s.kind == 0 {
+        return Change::Nothing;
     }
+    let p = phase::standing(s);
+    let t = phase::traits(p);
+    if t.sensor | t.command | t.takes {
+        return Change::More;
+    }
+    Change::To(next)
 }
 
-// The slot with a sensor read begun: both bytes are fixed.
-fn fixed(s: Slot) -> Slot
-    ensures { λ r. ⌜ r ≡ inPhase Phase.SensorReadHigh (holding (registerOf (s .sensor) (s .sensor .pointer)) s) ⌝ }
+// An idle or deaf slot ignores a byte, and one that does not acknowledge its control byte goes deaf.
+fn at_byte(b: u8, h: Heard, n: SlotNo, s: Slot) -> Change
+    requires { ⌜ h ≡ heardOf b ⌝ }
+    ensures { λ r. ⌜ Foreseen r (n .0) (Act.Byte b) s ⌝ }
 {
-    let x = s.sensor;
-    let word = sensor::register(x, x.pointer);
-    let sensor = Sensor { word, ..x };
-    Slot {
-        phase: Phase::SensorReadHigh,
-        sensor,
-        ..s
-    }
-}
-
-// What the ACK of a control byte does.
-fn obeyed(h: Heard, s: Slot) -> Slot
-    ensures { λ r. ⌜ r ≡ obeyed h s ⌝ }
-{
-    match h {
-        Heard::Memory { select: _, read } => {
-            if read {
-                return phase::in_phase(Phase::MemoryRead, s);
+    let p = phase::standing(s);
+    match p {
+        Phase::Idle => Change::Nothing,
+        Phase::Deaf => Change::Nothing,
+        Phase::Control => {
+            if obey::acks_control(h, n, s) {
+                return Change::More;
             }
-            phase::in_phase(Phase::MemoryCounter, s)
+            Change::To(Phase::Deaf)
         }
-        Heard::Sensor { select: _, read } => {
-            if read {
-                return fixed(s);
-            }
-            phase::in_phase(Phase::SensorPointer, s)
-        }
-        Heard::Protect(k) => protecting(k, s),
-        Heard::ClearAll => Slot {
-            coming: [false; 4],
-            phase: Phase::CommandAddress,
-            ..s
-        },
-        Heard::ReadProtection(_) => phase::in_phase(Phase::Deaf, s),
-        Heard::SelectHalf(half) => Slot {
-            half,
-            phase: Phase::HalfSelected,
-            ..s
-        },
-        Heard::ReadHalf => phase::in_phase(Phase::Deaf, s),
-        Heard::Nothing => phase::in_phase(Phase::Deaf, s),
+        _ => Change::More,
     }
 }
 
-// A control byte, which asks for h, at slot n.
-fn controlled(h: Heard, n: SlotNo, s: Slot) -> Heed
-    ensures { λ r. ⌜ r ≡ record { slot = cond (eqb (s .left) 0 && acksHeard h (n .0) s) (obeyed h s) (inPhase Phase.Deaf s); ack = eqb (s .left) 0 && acksHeard h (n .0) s } ⌝ }
+// An idle or deaf slot ignores a read.
+fn at_read(more: bool, n: SlotNo, s: Slot) -> Change
+    ensures { λ r. ⌜ Foreseen r (n .0) (Act.Read more) s ⌝ }
 {
-    if (s.left == 0) & acks_heard(h, n, s) {
-        return ack(obeyed(h, s));
-    }
-    nack(phase::in_phase(Phase::Deaf, s))
-}
-
-// A data byte: refused in a protected block, else latched.
-fn data_byte(b: u8, s: Slot) -> Heed
-    requires { ⌜ slotInRange s ≡ true ⌝ }
-    ensures { λ r. ⌜ r ≡ record { slot = dataByte b s; ack = not (guarded s) } ⌝ }
-{
-    if memory::guarded(s) {
-        return nack(phase::in_phase(Phase::Deaf, phase::abandoned(s)));
-    }
-    ack(memory::latching(b, s))
-}
-
-// A sensor write's pointer byte.
-fn pointed(b: u8, s: Slot) -> Heed
-    ensures { λ r. ⌜ r ≡ record { slot = pointer b s; ack = leb b 9 } ⌝ }
-{
-    if b <= 9 {
-        let x = s.sensor;
-        let sensor = Sensor { pointer: b, ..x };
-        return ack(Slot {
-            phase: Phase::SensorHigh,
-            sensor,
-            ..s
-        });
-    }
-    nack(phase::lost(Phase::SensorPointer, s))
-}
-
-// A sensor write's first byte is held.
-fn first_byte(b: u8, s: Slot) -> Slot
-    ensures { λ r. ⌜ r ≡ firstByte b s ⌝ }
-{
-    let x = s.sensor;
-    let sensor = Sensor {
-        word: (b as u16) * 256,
-        ..x
-    };
-    Slot {
-        phase: Phase::SensorLow,
-        sensor,
-        ..s
+    let p = phase::standing(s);
+    match p {
+        Phase::Idle => Change::Nothing,
+        Phase::Deaf => Change::Nothing,
+        _ => Change::More,
     }
 }
 
-// With its second byte the register changes, and nothing more is taken.
-fn second_byte(b: u8, s: Slot) -> Slot
-    ensures { λ r. ⌜ r ≡ secondByte b s ⌝ }
+// A tick touches a slot in a write cycle.
+fn at_tick(n: SlotNo, s: Slot) -> Change
+    ensures { λ r. ⌜ Foreseen r (n .0) Act.Tick s ⌝ }
 {
-    let x = s.sensor;
-    let sensor = sensor::written(x, x.pointer, x.word / 256 * 256 + (b as u16));
-    phase::lost(Phase::SensorLow, Slot { sensor, ..s })
+    if s.left == 0 {
+        return Change::Nothing;
+    }
+    Change::More
 }
 
-// A byte from the master at slot n; h is what it asks for as a control byte.
-pub fn byte(s: Slot, n: SlotNo, b: u8, h: Heard) -> Heed
-    requires { ⌜ (slotInRange s ≡ true) × (h ≡ heardOf b) ⌝ }
-    ensures { λ r. ⌜ r ≡ heeded (n .0) b s ⌝ }
+// A voltage or a temperature touches the slot that it names.
+fn at_one(k: SlotNo, n: SlotNo) -> Change
+    ensures { λ r. ⌜ r ≡ cond (eqb (k .0) (n .0)) Change.More Change.Nothing ⌝ }
 {
-    let phase = phase::standing(s);
-    match phase {
-        Phase::Idle => nack(s),
-        Phase::Control => controlled(h, n, s),
-        Phase::Deaf => nack(s),
-        Phase::MemoryCounter => ack(memory::loaded(b, s)),
-        Phase::MemoryData => data_byte(b, s),
-        Phase::MemoryRead => nack(phase::lost(Phase::MemoryRead, s)),
-        Phase::HalfSelected => ack(s),
-        Phase::CommandAddress => ack(phase::in_phase(Phase::CommandData, s)),
-        Phase::CommandData => ack(phase::in_phase(Phase::CommandStop, s)),
-        Phase::CommandStop => nack(phase::lost(Phase::CommandStop, s)),
-        Phase::SensorPointer => pointed(b, s),
-        Phase::SensorHigh => ack(first_byte(b, s)),
-        Phase::SensorLow => ack(second_byte(b, s)),
-        Phase::SensorReadHigh => nack(phase::lost(Phase::SensorReadHigh, s)),
-        Phase::SensorReadLow => nack(phase::lost(Phase::SensorReadLow, s)),
+    if k.0 == n.0 {
+        return Change::More;
+    }
+    Change::Nothing
+}
+
+// What can be told of slot n's step at an act.
+pub fn foresee(a: Act, n: SlotNo, h: Heard, s: Slot) -> Change
+    requires { ⌜ h ≡ heardIn a ⌝ }
+    ensures { λ r. ⌜ Foreseen r (n .0) a s ⌝ }
+{
+    match a {
+        Act::Start => at_signal(Phase::Control, s),
+        Act::Byte(b) => at_byte(b, h, n, s),
+        Act::Read(more) => at_read(more, n, s),
+        Act::Stop => at_signal(Phase::Idle, s),
+        Act::Timeout => at_signal(Phase::Idle, s),
+        Act::Tick => at_tick(n, s),
+        Act::Voltage(k, _) => at_one(k, n),
+        Act::Power => Change::More,
+        Act::Temperature(k, _) => at_one(k, n),
     }
 }
 
-fn silent(slot: Slot) -> Drive
-    ensures { λ r. ⌜ r ≡ record { slot = slot; drives = false; byte = 255 } ⌝ }
+// A slot that shows nothing.
+fn quiet(slot: Slot) -> Step
+    ensures { λ r. ⌜ r ≡ record { slot = slot; ack = false; drives = false; byte = 255 } ⌝ }
 {
-    Drive {
+    Step {
         slot,
+        ack: false,
         drives: false,
         byte: 255,
     }
 }
 
-// A memory read's byte.
-fn memory_byte(s: Slot, part: &[u8], more: bool) -> Drive
+// A step at a byte.
+fn heeding(b: u8, h: Heard, n: SlotNo, s: Slot) -> Step
+    requires { ⌜ (slotInRange s ≡ true) × (h ≡ heardOf b) ⌝ }
+    ensures { λ r. ⌜ r ≡ record { slot = slotNext (n .0) (Act.Byte b) s; ack = acks (n .0) b s; drives = false; byte = 255 } ⌝ }
+{
+    let x = listen::byte(s, n, b, h);
+    let slot = x.slot;
+    Step {
+        slot,
+        ack: x.ack,
+        drives: false,
+        byte: 255,
+    }
+}
+
+// A step at a read.
+fn driving(more: bool, s: Slot, part: &[u8]) -> Step
     requires { ⌜ (slotInRange s ≡ true) × (length (now part) ≡ slotBytes) ⌝ }
-    ensures { λ r. ⌜ r ≡ record { slot = fetched more s; drives = true; byte = getD (now (part .entry)) (addressOf s .0) 0 } ⌝ }
+    ensures { λ r. ⌜ r ≡ record { slot = slotNext 0 (Act.Read more) s; ack = false; drives = drives s; byte = driven (now (part .entry)) s } ⌝ }
 {
-    let byte = memory::byte_at(s, part);
-    let slot = memory::fetched(more, s);
-    Drive {
+    let x = drive::read(s, part, more);
+    let slot = x.slot;
+    Step {
         slot,
-        drives: true,
-        byte,
+        ack: false,
+        drives: x.drives,
+        byte: x.byte,
     }
 }
 
-// A sensor read's high byte; the low byte follows if the master acknowledges.
-fn high_byte(s: Slot, more: bool) -> Drive
-    ensures { λ r. ⌜ r ≡ record { slot = readIn Phase.SensorReadHigh more s; drives = true; byte = s .sensor .word / 256 } ⌝ }
+// The step at a voltage for slot k.
+fn voltage(k: SlotNo, on: bool, n: SlotNo, s: Slot) -> Step
+    ensures { λ r. ⌜ r ≡ record { slot = slotNext (n .0) (Act.Voltage k on) s; ack = false; drives = false; byte = 255 } ⌝ }
 {
-    let byte = (s.sensor.word / 256) as u8;
-    if more {
-        let slot = phase::in_phase(Phase::SensorReadLow, s);
-        return Drive {
-            slot,
-            drives: true,
-            byte,
-        };
+    if k.0 == n.0 {
+        return quiet(signal::switched(on, s));
     }
-    let slot = phase::lost(Phase::SensorReadHigh, s);
-    Drive {
-        slot,
-        drives: true,
-        byte,
-    }
+    quiet(s)
 }
 
-// A sensor read's low byte; nothing more is driven.
-fn low_byte(s: Slot) -> Drive
-    ensures { λ r. ⌜ r ≡ record { slot = lost Phase.SensorReadLow s; drives = true; byte = s .sensor .word % 256 } ⌝ }
+// The step at a temperature of slot k.
+fn temperature(k: SlotNo, t: i16, n: SlotNo, s: Slot) -> Step
+    ensures { λ r. ⌜ r ≡ record { slot = slotNext (n .0) (Act.Temperature k t) s; ack = false; drives = false; byte = 255 } ⌝ }
 {
-    let byte = (s.sensor.word % 256) as u8;
-    let slot = phase::lost(Phase::SensorReadLow, s);
-    Drive {
-        slot,
-        drives: true,
-        byte,
+    if k.0 == n.0 {
+        return quiet(signal::heated(t, s));
     }
+    quiet(s)
 }
 
-// A read; part is the slot's own 512 bytes, and more says that the master then acknowledges.
-pub fn read(s: Slot, part: &[u8], more: bool) -> Drive
-    requires { ⌜ (slotInRange s ≡ true) × (length (now part) ≡ slotBytes) ⌝ }
-    ensures { λ r. ⌜ r ≡ readOut more (now (part .entry)) s ⌝ }
+// Slot n's step at an act; part is its own 512 bytes, which a tick may change.
+pub fn next(a: Act, n: SlotNo, h: Heard, s: Slot, part: &mut [u8]) -> Step
+    requires { ⌜ (h ≡ heardIn a) × (slotInRange s ≡ true) × (length (now part) ≡ slotBytes) ⌝ }
+    ensures { λ r. ⌜ (r ≡ stepped (n .0) a (now (part .entry)) s) × (now (part .exit) ≡ partNext a s (now (part .entry))) ⌝ }
 {
-    let phase = phase::standing(s);
-    match phase {
-        Phase::Idle => silent(s),
-        Phase::Control => silent(phase::in_phase(Phase::Deaf, s)),
-        Phase::Deaf => silent(s),
-        Phase::MemoryCounter => silent(phase::lost(Phase::MemoryCounter, s)),
-        Phase::MemoryData => silent(phase::lost(Phase::MemoryData, s)),
-        Phase::MemoryRead => memory_byte(s, part, more),
-        Phase::HalfSelected => silent(phase::lost(Phase::HalfSelected, s)),
-        Phase::CommandAddress => silent(phase::lost(Phase::CommandAddress, s)),
-        Phase::CommandData => silent(phase::lost(Phase::CommandData, s)),
-        Phase::CommandStop => silent(phase::lost(Phase::CommandStop, s)),
-        Phase::SensorPointer => silent(phase::lost(Phase::SensorPointer, s)),
-        Phase::SensorHigh => silent(phase::lost(Phase::SensorHigh, s)),
-        Phase::SensorLow => silent(phase::lost(Phase::SensorLow, s)),
-        Phase::SensorReadHigh => high_byte(s, more),
-        Phase::SensorReadLow => low_byte(s),
+    match a {
+        Act::Start => quiet(signal::signalled(Signal::Start, s)),
+        Act::Byte(b) => heeding(b, h, n, s),
+        Act::Read(more) => driving(more, s, part),
+        Act::Stop => quiet(signal::signalled(Signal::Stop, s)),
+        Act::Timeout => quiet(signal::signalled(Signal::Timeout, s)),
+        Act::Tick => quiet(cycle::tick(s, part)),
+        Act::Voltage(k, on) => voltage(k, on, n, s),
+        Act::Power => quiet(signal::signalled(Signal::Power, s)),
+        Act::Temperature(k, t) => temperature(k, t, n, s),
     }
-}
-
-// What a stop begins or drops, by the phase.
-fn stop_in(p: Phase, s: Slot) -> Slot
-    ensures { λ r. ⌜ r ≡ stopIn p s ⌝ }
-{
-    match p {
-        Phase::Idle => s,
-        Phase::Control => s,
-        Phase::Deaf => s,
-        Phase::MemoryCounter => s,
-        Phase::MemoryData => memory::data_stop(s),
-        Phase::MemoryRead => s,
-        Phase::HalfSelected => s,
-        Phase::CommandAddress => phase::cancelled(s),
-        Phase::CommandData => phase::cancelled(s),
-        Phase::CommandStop => memory::begun(s),
-        Phase::SensorPointer => phase::let_go(Phase::SensorPointer, s),
-        Phase::SensorHigh => phase::let_go(Phase::SensorHigh, s),
-        Phase::SensorLow => phase::let_go(Phase::SensorLow, s),
-        Phase::SensorReadHigh => phase::let_go(Phase::SensorReadHigh, s),
-        Phase::SensorReadLow => phase::let_go(Phase::SensorReadLow, s),
-    }
-}
-
-// The events that reach every slot and carry nothing.
-pub enum Signal {
-    Start,
-    Stop,
-    Timeout,
-    Power,
-}
-
-fn start(s: Slot) -> Slot
-    ensures { λ r. ⌜ r ≡ inPhase Phase.Control (letGo (standing s) s) ⌝ }
-{
-    phase::in_phase(Phase::Control, phase::let_go(phase::standing(s), s))
-}
-
-fn stop(s: Slot) -> Slot
-    ensures { λ r. ⌜ r ≡ inPhase Phase.Idle (stopIn (standing s) s) ⌝ }
-{
-    phase::in_phase(Phase::Idle, stop_in(phase::standing(s), s))
-}
-
-fn timeout(s: Slot) -> Slot
-    ensures { λ r. ⌜ r ≡ inPhase Phase.Idle (letGo (standing s) s) ⌝ }
-{
-    phase::in_phase(Phase::Idle, phase::let_go(phase::standing(s), s))
-}
-
-// A power cycle keeps protection and voltage.
-fn powered(s: Slot) -> Slot
-    ensures { λ r. ⌜ r ≡ powered s ⌝ }
-{
-    let t = Slot::fresh(s.kind, s.length);
-    let protection = s.protection;
-    Slot {
-        protection,
-        coming: protection,
-        voltage: s.voltage,
-        ..t
-    }
-}
-
-// A start, stop, timeout or power cycle; an absent slot is left alone, as by every event.
-pub fn signalled(x: Signal, s: Slot) -> Slot
-    ensures { λ r. ⌜ r ≡ signalled x s ⌝ }
-{
-    if s.kind == 0 {
-        return s;
-    }
-    match x {
-        Signal::Start => start(s),
-        Signal::Stop => stop(s),
-        Signal::Timeout => timeout(s),
-        Signal::Power => powered(s),
-    }
-}
-
-// High voltage on or off: a protect or clear that its stop has not begun is cancelled when it goes off.
-pub fn switched(on: bool, s: Slot) -> Slot
-    ensures { λ r. ⌜ r ≡ cond (absent s) s (switched on s) ⌝ }
-{
-    if s.kind == 0 {
-        return s;
-    }
-    let p = phase::standing(s);
-    let t = phase::traits(p);
-    if t.command & s.voltage & !on {
-        let gone = phase::lost(p, s);
-        return Slot {
-            voltage: on,
-            ..gone
-        };
-    }
-    Slot { voltage: on, ..s }
-}
-
-// A temperature.
-pub fn heated(t: i16, s: Slot) -> Slot
-    ensures { λ r. ⌜ r ≡ cond (absent s) s (withSensor (converted (s .sensor) t) s) ⌝ }
-{
-    if s.kind == 0 {
-        return s;
-    }
-    let x = s.sensor;
-    let sensor = sensor::converted(x, t);
-    Slot { sensor, ..s }
 }

@@ -1,11 +1,13 @@
 -- Rows 2, 3 and 4 are left: an act is taken, and a refusal given.
 -- Assumes nothing.
 use borrow.Author.Needs.{needs}
+use Rattle.rules.specs.Refusals.{inRange}
 use Rattle.bus.proofs.Laws.{event-taken, event-refused, ruling-in-range}
 use Rattle.bus.proofs.event_in_range.Statement.{statement}
 use Rattle.bus.proofs.event_in_range.Tie as tie
 
 pub event-in-range-spec : {M : Type 1} → statement M
+unfolding inRange
 event-in-range-spec =
     tie.close
     (tie.spec

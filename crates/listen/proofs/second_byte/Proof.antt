@@ -1,0 +1,18 @@
+-- The register is written, and the exchange is over.
+-- Assumes nothing.
+use borrow.Author.Needs.{needs}
+use Rattle.rules.specs.Open.{open-fields}
+use Rattle.rules.specs.Slot.{secondByte}
+use Rattle.listen.proofs.second_byte.Statement.{statement}
+use Rattle.listen.proofs.second_byte.Tie as tie
+
+pub second-byte-spec : {M : Type 1} → statement M
+unfolding secondByte open-fields
+second-byte-spec =
+    tie.close
+    (tie.spec
+    (λ c. search needs)
+    (λ c. search needs)
+    (λ c κs. search needs)
+    (λ c κs. search needs)
+    (λ c. rw (c .lost .ensures, c .before .before .before .before .before .written .ensures)))

@@ -1,0 +1,92 @@
+// A byte from the master at one slot: what the slot makes of it, and whether it acknowledges.
+ghost use mathlib.Core.Path.{_≡_};
+ghost use mathlib.Core.Bool.{true, not};
+ghost use lib.Dec.{leb};
+ghost use Rattle.rules.specs.Control.{heardOf};
+ghost use Rattle.rules.specs.Memory.{guarded, dataByte};
+ghost use Rattle.rules.specs.Slot.{pointer, firstByte, secondByte};
+ghost use Rattle.rules.specs.Refusals.{slotInRange};
+ghost use Rattle.listen.specs.Heeded.{heeded};
+use obey::Heed;
+use rules::Heard;
+use rules::Phase;
+use rules::Sensor;
+use rules::Slot;
+use rules::SlotNo;
+
+// A data byte: refused in a protected block, else latched.
+fn data_byte(b: u8, s: Slot) -> Heed
+    requires { ⌜ slotInRange s ≡ true ⌝ }
+    ensures { λ r. ⌜ r ≡ record { slot = dataByte b s; ack = not (guarded s) } ⌝ }
+{
+    if memory::guarded(s) {
+        return obey::nack(phase::in_phase(Phase::Deaf, phase::abandoned(s)));
+    }
+    obey::ack(memory::latching(b, s))
+}
+
+// A sensor write's pointer byte.
+fn pointed(b: u8, s: Slot) -> Heed
+    ensures { λ r. ⌜ r ≡ record { slot = pointer b s; ack = leb b 9 } ⌝ }
+{
+    if b <= 9 {
+        let x = s.sensor;
+        let sensor = Sensor { pointer: b, ..x };
+        return obey::ack(Slot {
+            phase: Phase::SensorHigh,
+            sensor,
+            ..s
+        });
+    }
+    obey::nack(phase::lost(Phase::SensorPointer, s))
+}
+
+// A sensor write's first byte is held.
+fn first_byte(b: u8, s: Slot) -> Slot
+    ensures { λ r. ⌜ r ≡ firstByte b s ⌝ }
+{
+    let x = s.sensor;
+    let sensor = Sensor {
+        word: (b as u16) * 256,
+        ..x
+    };
+    Slot {
+        phase: Phase::SensorLow,
+        sensor,
+        ..s
+    }
+}
+
+// With its second byte the register changes, and nothing more is taken.
+fn second_byte(b: u8, s: Slot) -> Slot
+    ensures { λ r. ⌜ r ≡ secondByte b s ⌝ }
+{
+    let x = s.sensor;
+    let sensor = registers::written(x, x.pointer, x.word / 256 * 256 + (b as u16));
+    phase::lost(Phase::SensorLow, Slot { sensor, ..s })
+}
+
+// A byte from the master at slot n; h is what it asks for as a control byte.
+pub fn byte(s: Slot, n: SlotNo, b: u8, h: Heard) -> Heed
+    requires { ⌜ (slotInRange s ≡ true) × (h ≡ heardOf b) ⌝ }
+    ensures { λ r. ⌜ r ≡ heeded (n .0) b s ⌝ }
+{
+    let phase = phase::standing(s);
+    match phase {
+        Phase::Idle => obey::nack(s),
+        Phase::Control => obey::controlled(h, n, s),
+        Phase::Deaf => obey::nack(s),
+        Phase::MemoryCounter => obey::ack(memory::loaded(b, s)),
+        Phase::MemoryData => data_byte(b, s),
+        Phase::MemoryRead => obey::nack(phase::lost(Phase::MemoryRead, s)),
+        Phase::HalfSelected => obey::ack(s),
+        Phase::CommandAddress => obey::ack(phase::in_phase(Phase::CommandData, s)),
+        Phase::CommandData => obey::ack(phase::in_phase(Phase::CommandStop, s)),
+        Phase::CommandStop => obey::nack(phase::lost(Phase::CommandStop, s)),
+        Phase::SensorPointer => pointed(b, s),
+        Phase::SensorHigh => obey::ack(first_byte(b, s)),
+        Phase::SensorLow => obey::ack(second_byte(b, s)),
+        Phase::SensorReadHigh => obey::nack(phase::lost(Phase::SensorReadHigh, s)),
+        Phase::SensorReadLow => obey::nack(phase::lost(Phase::SensorReadLow, s)),
+    }
+}

@@ -1,0 +1,14 @@
+-- The register at the pointer is held.
+-- Assumes nothing.
+use borrow.Author.Needs.{needs}
+use Rattle.rules.specs.Open.{open-fields}
+use Rattle.obey.proofs.fixed.Statement.{statement}
+use Rattle.obey.proofs.fixed.Tie as tie
+
+pub fixed-spec : {M : Type 1} → statement M
+unfolding open-fields
+fixed-spec =
+    tie.close
+    (tie.spec
+    (λ c κs. search needs)
+    (λ c. cc))

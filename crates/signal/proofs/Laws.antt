@@ -1,0 +1,17 @@
+-- The definitions in the form in which a function's proof asks for them: a premise for each fact of the way to a return.
+-- Assumes nothing.
+use mathlib.Core.Path.{_≡_, sym, _∙_, ap}
+use mathlib.Core.Bool.{Bool, not, cond, _&&_}
+use Rattle.rules.specs.declared.Phase.{Phase}
+use Rattle.rules.specs.declared.Slot.{Slot}
+use Rattle.rules.specs.declared.Traits.{Traits}
+use Rattle.rules.specs.Fields.{withVoltage}
+use Rattle.rules.specs.Slot.{traits, commanding, standing, lost, switched}
+
+-- high voltage, by the traits of the phase that the slot stands in
+pub switched-by : (r s : Slot) (on : Bool) (q : Phase) (t : Traits) (going : Bool) → q ≡ standing s → t ≡ traits q → (t .command && s .voltage && not on) ≡ going
+    → r ≡ withVoltage on (cond going (lost q s) s) → r ≡ switched on s
+unfolding switched
+switched-by r s on q t going e f g h =
+    h ∙ ap (λ (x : Bool). withVoltage on (cond x (lost q s) s)) (sym g ∙ ap (λ (x : Traits). x .command && s .voltage && not on) f)
+    ∙ ap (λ (p : Phase). withVoltage on (cond (commanding p && s .voltage && not on) (lost p s) s)) e

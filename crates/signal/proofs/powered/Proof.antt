@@ -1,0 +1,15 @@
+-- A fresh slot with the protection and the voltage.
+-- Assumes nothing.
+use borrow.Author.Needs.{needs}
+use Rattle.rules.specs.Fresh.{powered}
+use Rattle.rules.specs.Open.{open-fields}
+use Rattle.signal.proofs.powered.Statement.{statement}
+use Rattle.signal.proofs.powered.Tie as tie
+
+pub powered-spec : {M : Type 1} → statement M
+unfolding powered open-fields
+powered-spec =
+    tie.close
+    (tie.spec
+    (λ c κs. search needs)
+    (λ c. rw (c .before .before .before .before .fresh .ensures)))

@@ -1,0 +1,28 @@
+-- A slot that is there does what the signal says.
+-- Assumes nothing.
+use borrow.Author.Needs.{needs}
+use borrow.Author.Tests.{eq-eqb, ne-eqb}
+use Rattle.rules.specs.Modelled.{absent}
+use Rattle.rules.specs.Slot.{presentNext, slotNext}
+use Rattle.signal.specs.Signals.{actFor, signalled}
+use Rattle.signal.proofs.signalled.Statement.{statement}
+use Rattle.signal.proofs.signalled.Tie as tie
+
+pub signalled-spec : {M : Type 1} → statement M
+unfolding signalled actFor slotNext presentNext absent
+signalled-spec =
+    tie.close
+    (tie.spec
+    (λ c. rw (eq-eqb _ _ (c .if1 .taken)))
+    (λ c. search needs)
+    (λ c κs. search needs)
+    (λ c. search needs)
+    (λ c κs. search needs)
+    (λ c. search needs)
+    (λ c κs. search needs)
+    (λ c. search needs)
+    (λ c κs. search needs)
+    (λ c. rw (c .before .enum-told .given .1, ne-eqb _ _ (c .before .before .before .if1 .left), c .start .ensures))
+    (λ c. rw (c .before .enum-told2 .given .1, ne-eqb _ _ (c .before .before .before .if1 .left), c .stop .ensures))
+    (λ c. rw (c .before .enum-told3 .given .1, ne-eqb _ _ (c .before .before .before .if1 .left), c .timeout .ensures))
+    (λ c. rw (c .before .enum-told4 .given .1, ne-eqb _ _ (c .before .before .before .if1 .left), c .powered .ensures)))

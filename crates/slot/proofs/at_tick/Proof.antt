@@ -1,0 +1,13 @@
+use Rattle.slot.proofs.Laws.{tick-rests, more}
+use borrow.Author.Needs.{needs}
+use Rattle.slot.proofs.at_tick.Statement.{statement}
+use Rattle.slot.proofs.at_tick.Tie as tie
+
+returns : tie.Need-returns
+returns c = search tick-rests
+
+returns-2 : tie.Need-returns-2
+returns-2 c = more _ _ _
+
+pub at-tick-spec : {M : Type 1} → statement M
+at-tick-spec = tie.close (tie.spec returns returns-2)

@@ -1,0 +1,14 @@
+use Rattle.drive.specs.ReadOut.{readOut}
+use borrow.Author.Needs.{needs}
+use Rattle.slot.proofs.driving.Statement.{statement}
+use Rattle.slot.proofs.driving.Tie as tie
+
+read-requires : tie.Need-read-requires
+read-requires c κs = search needs
+
+returns : tie.Need-returns
+unfolding readOut
+returns c = rw (c .before .read .ensures)
+
+pub driving-spec : {M : Type 1} → statement M
+driving-spec = tie.close (tie.spec read-requires returns)

@@ -1,0 +1,217 @@
+use borrow.Author.Needs.{needs}
+use mathlib.Core.Path.{_≡_, refl, sym, _∙_}
+use mathlib.Core.Bool.{true}
+use mathlib.Core.Logic.{⊎-elim}
+use Prim.Native.Nat.{ℕ, _≤_, _<_, _-_, _+_, _*_}
+use native.Mathlib.Omega.{arith}
+use lib.ListN.{length, length-take, length-drop}
+use Rattle.lists.specs.Each.{allOf, allOf-at}
+use Rattle.rules.specs.Refusals.{slotInRange}
+use Rattle.slot.specs.Shown.{heardIn}
+use Rattle.ruling.proofs.Laws.{noSlot}
+use Rattle.slots.proofs.Laws.{Turned, turned-none, turned-all, turn-nothing, turn-to, turn-more, old}
+use Rattle.slots.proofs.taken.Statement.{statement}
+use Rattle.slots.proofs.taken.Tie as tie
+use Rattle.slots.proofs.taken.Reads as reads
+use Rattle.slots.proofs.taken.Lts as lts
+use Rattle.slots.proofs.answer_of.Reads as answer-of-reads
+use Rattle.slots.proofs.either.Reads as either-reads
+use Rattle.phase.proofs.in_phase.Reads as in-phase-reads
+use Rattle.slot.proofs.foresee.Reads as foresee-reads
+use Rattle.slot.proofs.heard_in.Reads as heard-in-reads
+use Rattle.slot.proofs.next.Reads as next-reads
+
+abbrev Inv-loop : tie.InvT-loop
+Inv-loop mem₀ a h all₀ ack₀ driven₀ byte₀ i₀ mem all ack driven byte i =
+    (i ≤ 8) × (length all₀ ≡ 8) × (length mem₀ ≡ 4096) × (length mem ≡ 4096) × (allOf slotInRange all₀ ≡ true) × (h ≡ heardIn a)
+    × Turned a all₀ mem₀ i all mem ack driven byte
+
+abbrev μ-loop : tie.MeasureT-loop
+μ-loop mem₀ a h all₀ ack₀ driven₀ byte₀ i₀ mem all ack driven byte i = 8 - i
+
+-- src/lib.rt:78:9
+heard-in-requires : tie.Need-heard-in-requires Inv-loop μ-loop
+heard-in-requires c κs = search needs
+
+-- src/lib.rt:83:5
+loop-holds : tie.Need-loop-holds Inv-loop μ-loop
+loop-holds c = (omega arith, search needs, c .before .before .pre .1, c .before .before .pre .1, c .before .before .pre .0, c .heard-in .ensures, turned-none _ _ _)
+
+-- src/lib.rt:84:18
+cast-at : tie.Need-cast-at Inv-loop μ-loop
+cast-at c = search needs
+
+-- src/lib.rt:85:48
+mul-foresee : tie.Need-mul-foresee Inv-loop μ-loop
+mul-foresee c = search needs
+
+-- src/lib.rt:85:48
+array-copy-out-foresee : tie.Need-array-copy-out-foresee Inv-loop μ-loop
+array-copy-out-foresee c = search needs
+
+-- src/lib.rt:85:13
+foresee-requires : tie.Need-foresee-requires Inv-loop μ-loop
+foresee-requires c κs = search needs
+
+enum-told : tie.Need-enum-told Inv-loop μ-loop
+enum-told c = search needs
+
+-- src/lib.rt:88:24
+enum-known-c : tie.Need-enum-known-c Inv-loop μ-loop
+enum-known-c c = search needs
+
+-- src/lib.rt:89:46
+mul-in-phase : tie.Need-mul-in-phase Inv-loop μ-loop
+mul-in-phase c = search needs
+
+-- src/lib.rt:89:46
+array-copy-out-in-phase : tie.Need-array-copy-out-in-phase Inv-loop μ-loop
+array-copy-out-in-phase c = search needs
+
+-- src/lib.rt:89:27
+in-phase-requires : tie.Need-in-phase-requires Inv-loop μ-loop
+in-phase-requires c κs = search needs
+
+-- src/lib.rt:89:17
+mul-all : tie.Need-mul-all Inv-loop μ-loop
+mul-all c = search needs
+
+-- src/lib.rt:89:17
+array-set-from-all : tie.Need-array-set-from-all Inv-loop μ-loop
+array-set-from-all c = search needs
+
+-- src/lib.rt:92:28
+enum-told-2 : tie.Need-enum-told-2 Inv-loop μ-loop
+enum-told-2 c = search needs
+
+-- src/lib.rt:92:28
+mul-from : tie.Need-mul-from Inv-loop μ-loop
+mul-from c = search needs
+
+-- src/lib.rt:93:26
+add-to : tie.Need-add-to Inv-loop μ-loop
+add-to c = search needs
+
+-- src/lib.rt:94:53
+mul-next : tie.Need-mul-next Inv-loop μ-loop
+mul-next c = search needs
+
+-- src/lib.rt:94:53
+array-copy-out-next : tie.Need-array-copy-out-next Inv-loop μ-loop
+array-copy-out-next c = search needs
+
+-- src/lib.rt:94:62
+sub-next : tie.Need-sub-next Inv-loop μ-loop
+sub-next c = search needs
+
+-- src/lib.rt:94:62
+part-next-start : tie.Need-part-next-start Inv-loop μ-loop
+part-next-start c = search needs
+
+-- src/lib.rt:94:62
+part-next-end : tie.Need-part-next-end Inv-loop μ-loop
+part-next-end c = search needs
+
+-- src/lib.rt:94:21
+next-requires : tie.Need-next-requires Inv-loop μ-loop
+next-requires c κs =
+    let f = c .before .before .before .before in
+    let l = f .before .before .before .loop in
+    let g = f .before .before .before .before .before .before .args in
+    let h : l .i < length (g .slots) = omega arith in
+    let r : 512 * (l .i + 1) ≤ length (g .mem .now) = omega arith in
+    (l .inv .5, rw (old (g .a) (g .slots) (g .mem .now) (l .i) h r (l .all) (l .mem) (l .ack) (l .driven) (l .byte) (l .inv .6)) (allOf-at slotInRange (l .i) (g .slots) noSlot h (l .inv .4)), simp (length-take, length-drop) (omega arith))
+
+-- src/lib.rt:96:17
+mul-all-2 : tie.Need-mul-all-2 Inv-loop μ-loop
+mul-all-2 c = search needs
+
+-- src/lib.rt:96:17
+array-set-from-all-2 : tie.Need-array-set-from-all-2 Inv-loop μ-loop
+array-set-from-all-2 c = search needs
+
+-- src/lib.rt:98:17
+either-requires : tie.Need-either-requires Inv-loop μ-loop
+either-requires c κs = search needs
+
+-- src/lib.rt:83:9
+add-i : tie.Need-add-i Inv-loop μ-loop
+add-i c = search needs
+
+-- src/lib.rt:83:5
+loop-less : tie.Need-loop-less Inv-loop μ-loop
+loop-less c = search needs
+
+-- src/lib.rt:83:5
+loop-again : tie.Need-loop-again Inv-loop μ-loop
+loop-again c =
+    let f = c .before in
+    let l = f .before .before .before .loop in
+    let g = f .before .before .before .before .before .before .args in
+    let h : l .i < length (g .slots) = omega arith in
+    let r : 512 * (l .i + 1) ≤ length (g .mem .now) = omega arith in
+    ⊎-elim
+    (λ w. (omega arith, l .inv .1, l .inv .2, rw (w .2) (l .inv .3), l .inv .4, l .inv .5, rw (w .2, w .3, w .4, w .5, w .6) (turn-nothing (g .a) (g .slots) (g .mem .now) (l .i) h r (l .all) (l .mem) (l .ack) (l .driven) (l .byte) (l .inv .6) (f .foresee .result) (f .foresee .ensures) (w .1 .given .1))))
+    (λ w. ⊎-elim
+    (λ v. (omega arith, l .inv .1, l .inv .2, rw (v .5) (l .inv .3), l .inv .4, l .inv .5, rw (v .5, v .6, v .7, v .8, v .9) (turn-to (g .a) (g .slots) (g .mem .now) (l .i) h r (l .all) (l .mem) (l .ack) (l .driven) (l .byte) (l .inv .6) (f .foresee .result) _ (v .4 .result) (f .foresee .ensures) (v .1 .given .1) (v .4 .ensures))))
+    (λ v. (omega arith, l .inv .1, l .inv .2, rw (v .11) (omega arith), l .inv .4, l .inv .5, rw (v .11, v .12, v .13, v .14, v .15, v .9 .ensures) (turn-more (g .a) (g .slots) (g .mem .now) (l .i) h r (l .all) (l .mem) (l .ack) (l .driven) (l .byte) (l .inv .6) (512 * l .i) (512 * l .i + 512) (v .4 .result) _ refl (omega arith) (v .4 .ensures .0) (v .4 .ensures .1))))
+    w)
+    (c .match .came)
+
+-- src/lib.rt:103:9
+either-requires-2 : tie.Need-either-requires-2 Inv-loop μ-loop
+either-requires-2 c κs = search needs
+
+-- src/lib.rt:104:9
+answer-of-requires : tie.Need-answer-of-requires Inv-loop μ-loop
+answer-of-requires c κs = search needs
+
+-- src/lib.rt:74:1
+same-length : tie.Need-same-length Inv-loop μ-loop
+same-length c = search needs
+
+-- src/lib.rt:74:1
+returns : tie.Need-returns Inv-loop μ-loop
+returns c =
+    let l = c .before .before .before .loop in
+    let g = c .before .before .before .before .before .before .args in
+    turned-all (g .a) (g .slots) (g .mem .now) (l .i) (l .all) (l .mem) (l .ack) (l .driven) (l .byte) (c .before .either2 .result) (c .answer-of .result) (omega arith) (l .inv .6) (c .before .either2 .ensures) (c .answer-of .ensures)
+
+pub taken-spec : {M : Type 1} → statement M
+taken-spec =
+    tie.close
+    (tie.spec
+    Inv-loop
+    μ-loop
+    heard-in-requires
+    loop-holds
+    cast-at
+    mul-foresee
+    array-copy-out-foresee
+    foresee-requires
+    enum-told
+    enum-known-c
+    mul-in-phase
+    array-copy-out-in-phase
+    in-phase-requires
+    mul-all
+    array-set-from-all
+    enum-told-2
+    mul-from
+    add-to
+    mul-next
+    array-copy-out-next
+    sub-next
+    part-next-start
+    part-next-end
+    next-requires
+    mul-all-2
+    array-set-from-all-2
+    either-requires
+    add-i
+    loop-less
+    loop-again
+    either-requires-2
+    answer-of-requires
+    same-length
+    returns)

@@ -1,0 +1,86 @@
+// All slots at an act: each does its step, and the answer is made of what they show.
+ghost use mathlib.Core.Path.{_≡_};
+ghost use mathlib.Core.Bool.{true, cond};
+ghost use lib.ListN.{length};
+ghost use Rattle.lists.specs.Each.{allOf};
+ghost use Rattle.rules.specs.Modelled.{memoryBytes};
+ghost use Rattle.rules.specs.Refusals.{slotInRange};
+ghost use Rattle.slots.specs.Taken.{answerFor, takenThen};
+use rules::Act;
+use rules::Answer;
+use rules::Bus;
+use rules::Outcome;
+use rules::Slot;
+use rules::SlotNo;
+use slot::Change;
+
+// One of two bytes.
+fn either(first: bool, x: u8, y: u8) -> u8
+    ensures { λ r. ⌜ r ≡ cond first x y ⌝ }
+{
+    if first { x } else { y }
+}
+
+// The answer to a byte.
+fn ack_of(ack: bool) -> Answer
+    ensures { λ r. ⌜ r ≡ cond ack Answer.Ack Answer.Nack ⌝ }
+{
+    if ack { Answer::Ack } else { Answer::Nack }
+}
+
+// What the bus shows at an act: whether a slot acknowledges, or the byte read.
+fn answer_of(a: Act, ack: bool, byte: u8) -> Answer
+    ensures { λ r. ⌜ r ≡ answerFor a ack byte ⌝ }
+{
+    match a {
+        Act::Start => Answer::Nothing,
+        Act::Byte(_) => ack_of(ack),
+        Act::Read(_) => Answer::Data(byte),
+        Act::Stop => Answer::Nothing,
+        Act::Timeout => Answer::Nothing,
+        Act::Tick => Answer::Nothing,
+        Act::Voltage(_, _) => Answer::Nothing,
+        Act::Power => Answer::Nothing,
+        Act::Temperature(_, _) => Answer::Nothing,
+    }
+}
+
+// An act that is not refused: every slot does its step, by its number and with its own part of the memory. Slots that the act leaves
+// where they are, or only moves to another phase, are most of them, and are not taken out. The bus acknowledges if one of them does; the
+// lowest slot that drives a byte is read, and FFh if none does.
+pub fn taken(slots: [Slot; 8], mem: &mut [u8], a: Act) -> Outcome
+    requires { ⌜ (allOf slotInRange slots ≡ true) × (length (now mem) ≡ memoryBytes) ⌝ }
+    ensures { λ r. ⌜ takenThen (record { slots = slots }) (now (mem .entry)) a ≡ (r, now (mem .exit)) ⌝ }
+{
+    let h = slot::heard_in(a);
+    let mut all = slots;
+    let mut ack = false;
+    let mut driven = false;
+    let mut byte: u8 = 255;
+    for i in 0..8u8 {
+        let at = i as usize;
+        let c = slot::foresee(a, SlotNo(i), h, all[at]);
+        match c {
+            Change::Nothing => {}
+            Change::To(p) => {
+                all[at] = phase::in_phase(p, all[at]);
+            }
+            Change::More => {
+                let from = Slot::BYTES * at;
+                let to = from + Slot::BYTES;
+                let x = slot::next(a, SlotNo(i), h, all[at], &mut mem[from..to]);
+                let next = x.slot;
+                all[at] = next;
+                ack = ack | x.ack;
+                byte = either(driven, byte, x.byte);
+                driven = driven | x.drives;
+            }
+        }
+    }
+    let last = either(driven, byte, 255);
+    let answer = answer_of(a, ack, last);
+    Outcome {
+        bus: Bus { slots: all },
+        answer,
+    }
+}
