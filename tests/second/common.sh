@@ -1,8 +1,8 @@
 # shellcheck shell=bash
 # Shared by compare, fuzz and faults; sourced, not run.
 #
-# Finds the repository root (two folders up), builds the C programs into a
-# temporary folder that goes away at the end, and runs the two programs.
+# Finds the repository root (two folders up), builds the C programs (build.sh)
+# into a temporary folder that goes away at the end, and runs the two programs.
 # FIRST, if set, is the command line of the program under test, a filter from
 # a script on standard input to lines on standard output.
 
@@ -23,20 +23,9 @@ for argument; do                  # all arguments of all three are numbers
     esac
 done
 
-compiler() {
-    local name
-    for name in cc gcc clang; do
-        command -v "$name" && return
-    done
-    die "no C compiler (cc, gcc or clang) found"
-}
-
-# build PROGRAM SOURCE [OPTION]: into the temporary folder.
-build() { "$cc" -std=c99 "${3:--O1}" -w -o "$work/$1" "$2" || die "$2 does not build"; }
-
-cc=$(compiler) || exit 2
+. "$second_dir/build.sh"
 for name in second generate shrink; do
-    build "$name" "$second_dir/$name.c"
+    build "$work/$name" "$second_dir/$name.c" -O1
 done
 
 # plan EVENTS SEED: a line `seed events mode` for each script: a bare setup, up

@@ -8,11 +8,9 @@ use mathlib.Core.List.{List, _++_, append-nil, append-assoc}
 use lib.ListN.{length, getD, drop, length-append, length-drop, List·getD-append}
 use lib.Seq.{getD-drop, drop-append-le}
 use Rattle.rules.specs.Runs.{Bench, next, answered}
-use Rattle.lines.specs.Script.{valueAt, recordAt, lineOf, recordsIn, benchTo, linesTo, ending}
-
--- what is left over of a piece
-unfoldable pub leftOf : List ℕ → List ℕ
-leftOf p = drop (4 * recordsIn p) p
+use Rattle.records.specs.Records.{valueAt, recordAt}
+use Rattle.letters.specs.Letters.{lineOf}
+use Rattle.lines.specs.Script.{recordsIn, leftOf, benchTo, linesTo, ending}
 
 -- a record is its four bytes
 same-record : (p q : List ℕ) (i j : ℕ) → ((k : ℕ) → k < 4 → getD p (i + k) 0 ≡ getD q (j + k) 0) → recordAt p i ≡ recordAt q j

@@ -16,9 +16,12 @@ use Rattle.rules.specs.Refusals.{inRange}
 use Rattle.rules.specs.Runs.{Bench, next, answered, eventOf}
 use Rattle.rules.proofs.Range.Kept.{next-in-range}
 use Rattle.rules.proofs.Memory.Stored.{memory-length-next}
-use Rattle.lines.specs.Script.{recordAt, lineOf, recordsIn, benchTo, linesTo}
-use Rattle.lines.specs.Ended.{Ended}
-use Rattle.lines.proofs.Laws.{bench-step, lines-step, line-length, sets-append, event-bench, event-answer}
+use Rattle.records.specs.Records.{recordAt}
+use Rattle.letters.specs.Letters.{lineOf}
+use Rattle.lines.specs.Script.{recordsIn, benchTo, linesTo}
+use Rattle.lines.specs.Steps.{runOf}
+use Rattle.letters.proofs.Laws.{line-length}
+use Rattle.lines.proofs.Laws.{bench-step, lines-step, sets-append, event-bench, event-answer}
 
 -- bus b, memory m, output out and its end, after k records of bs from the bench x and the output o
 pub record Going (x : Bench) (bs o : List ℕ) (k : ℕ) (b : Bus) (m out : List ℕ) (end : ℕ) : Type 0 where
@@ -55,15 +58,11 @@ module _ (x : Bench) (bs o : List ℕ) (k : ℕ) (b : Bus) (m out : List ℕ) (e
       }
 
 -- after the last whole record
-pub going-ended : (x : Bench) (bs o : List ℕ) (k : ℕ) (b : Bus) (m out : List ℕ) (end : ℕ) → Going x bs o k b m out end → k ≡ recordsIn bs → length bs ≤ length o
-    → Ended x bs o (record { bus = b; end = end }) m out
-unfolding recordsIn
-going-ended x bs o k b m out end g e h =
-    record {
-      bus = ap (λ (v : Bench). v .bus) (g .bench) ∙ ap (λ i. (benchTo x bs i) .bus) e;
-      memory = ap (λ (v : Bench). v .memory) (g .bench) ∙ ap (λ i. (benchTo x bs i) .memory) e;
-      end = g .ends ∙ ap (λ i. length (linesTo x bs i)) e;
-      lines = g .wrote ∙ ap (λ i. sets o 0 (linesTo x bs i)) e;
-      fits = omega (arith, g .most, e);
-      ranged = g .ranged;
-    }
+pub going-ended : (x : Bench) (bs o : List ℕ) (k : ℕ) (b : Bus) (m out : List ℕ) (end : ℕ) → Going x bs o k b m out end → k ≡ recordsIn bs
+    → runOf x bs o ≡ (record { bus = b; end = end }, m, out)
+unfolding runOf
+going-ended x bs o k b m out end g e =
+    let p : benchTo x bs (recordsIn bs) ≡ record { bus = b; memory = m } = ap (benchTo x bs) (sym e) ∙ sym (g .bench) in
+    let q : length (linesTo x bs (recordsIn bs)) ≡ end = ap (λ i. length (linesTo x bs i)) (sym e) ∙ sym (g .ends) in
+    let s : sets o 0 (linesTo x bs (recordsIn bs)) ≡ out = ap (λ i. sets o 0 (linesTo x bs i)) (sym e) ∙ sym (g .wrote) in
+    λ t. (record { bus = (p t) .bus; end = q t }, (p t) .memory, s t)

@@ -1,47 +1,28 @@
 -- Laws for the script's lines: what fits, and lines put one after another.
 -- Assumes nothing.
-use mathlib.Core.Path.{_≡_, refl, sym, _∙_, ap}
+use mathlib.Core.Path.{_≡_, refl, sym, _∙_, ap, ap₂}
+use mathlib.Core.Bool.{true}
 use mathlib.Core.List.{List, [], _∷_, _++_}
-use Prim.Native.Nat.{ℕ, zero, suc, _+_, _-_, _*_, _≤_, _<_}
-use native.Mathlib.Nat.{zero-add, add-zero, add-suc, suc-add}
+use Prim.Native.Nat.{ℕ, zero, suc, _+_, _-_, _*_, _/_, _%_, _≤_, _<_}
+use native.Mathlib.Nat.{add-zero, add-suc, suc-add}
 use native.Mathlib.Numerals.{add-one}
 use native.Mathlib.Omega.{arith}
-use lib.IntN.{pos, negsuc, _-ℤ_}
-use borrow.Author.Tests.{ltb-true, ltb-false}
-use lib.Dec.{ltb}
-use lib.ListN.{length, getD, set, take, drop, length-append, List·getD-append}
-use lib.Seq.{sets, getD-at, getD-drop, getD-append-add, length-take-le}
-use Rattle.lists.specs.Each.{filled}
-use Rattle.lists.specs.Tests.{by-test}
-use Rattle.rules.specs.declared.Answer.{Answer}
-use Rattle.rules.specs.declared.Answer.the-variants.{Nothing, Ack, Nack, Data, Refused}
+use lib.Dec.{eqb}
+use lib.ListN.{length, getD, set, take, drop, length-append, length-drop}
+use lib.Seq.{sets, getD-drop, getD-append-add, length-take-le}
+use Rattle.lists.specs.Each.{allOf, filled, filled-step}
+use Rattle.lists.specs.Tests.{by-test, cond-cases}
 use Rattle.rules.specs.declared.Bus.{Bus}
 use Rattle.rules.specs.declared.Event.{Event}
 use Rattle.rules.specs.declared.Outcome.{Outcome}
-use Rattle.rules.specs.declared.Pair.{Pair}
-use Rattle.rules.specs.declared.Refusal.{Refusal}
-use Rattle.rules.specs.declared.Refusal.the-variants.{MemoryLength, UnknownKind, WrongSlot, WrongValue, WrongSetup, WrongState}
-use Rattle.rules.specs.Events.{refusalNumber}
+use Rattle.rules.specs.Refusals.{inRange, goodPair, emptyBus, setupOf}
 use Rattle.rules.specs.Runs.{Bench, rulingOn, next, answered, ruledOutcome, eventOf}
-use Rattle.lines.specs.Script.{pairAt, pairsTo, recordAt, digitsOf, lineOf, benchTo, linesTo}
-
--- a refusal's number is a digit
-refusal-small : (r : Refusal) → refusalNumber r ≤ 6
-unfolding refusalNumber
-refusal-small MemoryLength = omega arith
-refusal-small UnknownKind = omega arith
-refusal-small WrongSlot = omega arith
-refusal-small WrongValue = omega arith
-refusal-small WrongSetup = omega arith
-refusal-small WrongState = omega arith
-
-pub digit-small : (r : Refusal) (n : ℕ) → n ≡ refusalNumber r → n ≤ 6
-digit-small r n e = omega (arith, refusal-small r)
-
--- one below zero, and so many more
-pub below-zero : (m : ℕ) → negsuc 0 -ℤ pos m ≡ negsuc m
-below-zero zero = refl
-below-zero (suc m) = ap (λ (n : ℕ). negsuc (suc n)) (zero-add m)
+use Rattle.rules.proofs.Range.Kept.{setup-in-range}
+use Rattle.records.specs.Records.{pairsOf, recordAt}
+use Rattle.letters.specs.Letters.{lineOf}
+use Rattle.lines.specs.Script.{benchTo, linesTo, recordsIn, leftOf, lastLine}
+use Rattle.lines.specs.Steps.{cutSetup, firstLine}
+use Rattle.letters.proofs.Laws.{line-length}
 
 -- one record more
 pub bench-step : (x : Bench) (bs : List ℕ) (k : ℕ) → benchTo x bs (k + 1) ≡ next (recordAt bs (4 * k)) (benchTo x bs k)
@@ -56,14 +37,33 @@ pub lines-none : (x : Bench) (bs out : List ℕ) → out ≡ sets out 0 (linesTo
 unfolding linesTo
 lines-none x bs out = refl
 
--- a line has at most four bytes
-pub line-length : (a : Answer) → length (lineOf a) ≤ 4
-unfolding lineOf digitsOf
-line-length Nothing = omega arith
-line-length Ack = omega arith
-line-length Nack = omega arith
-line-length (Data b) = omega arith
-line-length (Refused r) = omega arith
+pub lines-length : (x : Bench) (bs : List ℕ) (n : ℕ) → length (linesTo x bs n) ≤ 4 * n
+unfolding linesTo
+lines-length x bs zero = omega arith
+lines-length x bs (suc n) =
+    let l : List ℕ = lineOf (answered (recordAt bs (4 * n)) (benchTo x bs n)) in
+    rw (length-append (linesTo x bs n) l) (omega (arith, lines-length x bs n, line-length (answered (recordAt bs (4 * n)) (benchTo x bs n))))
+
+-- and the lines of a step at most six
+pub first-length : (bs : List ℕ) → length (firstLine bs) ≤ 6
+unfolding firstLine
+first-length bs =
+    cond-cases (λ (l : List ℕ). length l ≤ 6) (cutSetup bs) (λ e. omega arith)
+    (λ e. cond-cases (λ (l : List ℕ). length l ≤ 6) (allOf goodPair (pairsOf bs)) (λ e. omega arith) (λ e. omega arith))
+
+pub last-length : (n : ℕ) → length (lastLine n) ≤ 6
+unfolding lastLine
+last-length n = by-test (eqb n 0) (λ e. rw e (omega arith)) (λ e. rw e (omega arith))
+
+-- what is left of some bytes
+pub left-length : (bs : List ℕ) → length (leftOf bs) ≡ length bs % 4
+unfolding leftOf recordsIn
+left-length bs = length-drop (4 * (length bs / 4)) bs ∙ omega arith
+
+-- the bus of a refused setup is in range
+pub empty-in-range : inRange emptyBus ≡ true
+unfolding setupOf allOf goodPair
+empty-in-range = setup-in-range (record { kind = 3; length = 0 } ∷ [])
 
 -- stores after stores
 pub sets-append : (l : List ℕ) (i : ℕ) (p q : List ℕ) → sets l i (p ++ q) ≡ sets (sets l i p) (i + length p) q
@@ -80,32 +80,17 @@ module _ (b : Bus) (m : List ℕ) (e : Event) (o : Outcome) (n : List ℕ) (p : 
   unfolding eventOf ruledOutcome answered rulingOn
   event-answer = ap (λ (z : Outcome × List ℕ). z .0 .answer) (sym p)
 
--- the setup's pairs
-pub length-pairs : (bs : List ℕ) (n : ℕ) → length (pairsTo bs n) ≡ n
-unfolding pairsTo
-length-pairs bs zero = refl
-length-pairs bs (suc n) = length-append (pairsTo bs n) (pairAt bs (2 * n) ∷ []) ∙ omega (arith, length-pairs bs n)
-
-pub pairs-at : (bs : List ℕ) (n k : ℕ) (z : Pair) → k < n → getD (pairsTo bs n) k z ≡ pairAt bs (2 * k)
-unfolding pairsTo
-pairs-at bs zero k z h = absurd (none h)
-  where
-    none : {i : ℕ} → i < 0 → ⊥
-    none h = omega arith
-pairs-at bs (suc n) k z h =
-    by-test (ltb k n)
-    (λ e. List·getD-append (pairsTo bs n) (pairAt bs (2 * n) ∷ []) z k (rw (length-pairs bs n) (ltb-true k n e)) ∙ pairs-at bs n k z (ltb-true k n e))
-    (λ e.
-    let f : n ≡ k = let g : n ≤ k = ltb-false k n e in omega arith in
-    getD-at (pairsTo bs n) (pairAt bs (2 * n)) [] z k (length-pairs bs n ∙ f) ∙ ap (λ i. pairAt bs (2 * i)) f)
-
--- past the end of an array of pairs
-abbrev pub noPair : Pair
-noPair = record { kind = 0; length = 0 }
-
 -- past what has been filled stands what stood there
-pub filled-later : (d s : List ℕ) (k j : ℕ) → k ≤ length s → k ≤ j → getD (filled d s k) j 0 ≡ getD d j 0
+filled-later : (d s : List ℕ) (k j : ℕ) → k ≤ length s → k ≤ j → getD (filled d s k) j 0 ≡ getD d j 0
 unfolding filled
 filled-later d s k j h l =
     let e : length (take k s) + (j - k) ≡ j = rw (length-take-le k s h) (omega arith) in
     sym (ap (λ n. getD (take k s ++ drop k d) n 0) e) ∙ getD-append-add (take k s) (drop k d) (j - k) 0 ∙ getD-drop k d (j - k) 0 ∙ ap (λ n. getD d n 0) (omega arith)
+
+-- so the next byte of a record that is cut is still where it was, and moves to the front
+pub keep-step : (d u : List ℕ) (from i : ℕ) → u ≡ filled d (drop from d) i → from + i < length d → set u i (getD u (from + i) 0) ≡ filled d (drop from d) (i + 1)
+keep-step d u from i e h =
+    let l : i < length (drop from d) = rw (length-drop from d) (omega arith) in
+    let f : getD (filled d (drop from d) i) (from + i) 0 ≡ getD (drop from d) i 0 =
+    filled-later d (drop from d) i (from + i) (omega arith) (omega arith) ∙ sym (getD-drop from d i 0) in
+    ap₂ (λ (v : List ℕ) (x : ℕ). set v i x) e (ap (λ (v : List ℕ). getD v (from + i) 0) e ∙ f) ∙ filled-step d (drop from d) i 0 (omega arith) l

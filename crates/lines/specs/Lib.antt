@@ -1,2 +1,3 @@
 pub mod Script
-pub mod Ended
+pub mod Steps
+pub mod Program

@@ -2,7 +2,7 @@
 -- Assumes nothing.
 use mathlib.Core.Path.{_≡_, refl, sym, _∙_, ap, ap₂}
 use mathlib.Core.List.{List, [], _∷_, _++_, map, append-nil}
-use mathlib.Core.Bool.{Bool, true, false, _&&_, _||_, cond, or-assoc, and-assoc, or-false, and-true, and-eq-true-iff}
+use mathlib.Core.Bool.{Bool, true, false, _&&_, _||_, cond, or-assoc, and-assoc, or-false, and-true, and-eq-true-iff, or-true}
 use Prim.Native.Nat.{ℕ, zero, suc, _+_, _<_, _≤_, suc-le-suc}
 use native.Mathlib.Nat.{add-suc, add-zero, suc-add, zero-add, suc-inj}
 use native.Mathlib.Numerals.{add-one}
@@ -211,7 +211,7 @@ module _ {A : Type 0} where
   filled-full d s n hd hs = rw (take-all n s hs, drop-of-length-le d hd, append-nil)
 
   -- none has a value, and none but the kth
-  firstFrom-no : {B : Type 0} (p : ℕ → A → Bool) (q : ℕ → A → B) (e : B) (n : ℕ) (xs : List A) (d : A)
+  pub firstFrom-no : {B : Type 0} (p : ℕ → A → Bool) (q : ℕ → A → B) (e : B) (n : ℕ) (xs : List A) (d : A)
       → ((i : ℕ) → i < length xs → p (n + i) (getD xs i d) ≡ false) → firstFrom p q e n xs ≡ e
   unfolding firstFrom
   firstFrom-no p q e n [] d h = refl
@@ -227,6 +227,16 @@ module _ {A : Type 0} where
   firstFrom-one p q e n (x ∷ xs) d (suc k) (suc-le-suc l) h =
       rw (rw add-zero at (h 0 (omega arith) (λ z. omega arith)), add-suc, ← suc-add)
       (firstFrom-one p q e (suc n) xs d k l (λ i m ne. rw (suc-add, ← add-suc) (h (suc i) (suc-le-suc m) (λ z. ne (suc-inj z)))))
+
+  -- the kth has one, and none before it
+  pub firstFrom-at : {B : Type 0} (p : ℕ → A → Bool) (q : ℕ → A → B) (e : B) (n : ℕ) (xs : List A) (d : A) (k : ℕ) → k < length xs
+      → p (n + k) (getD xs k d) ≡ true → ((i : ℕ) → i < k → p (n + i) (getD xs i d) ≡ false)
+      → firstFrom p q e n xs ≡ q (n + k) (getD xs k d)
+  unfolding firstFrom
+  firstFrom-at p q e n (x ∷ xs) d zero l f h = rw (rw add-zero at f, add-zero)
+  firstFrom-at p q e n (x ∷ xs) d (suc k) (suc-le-suc l) f h =
+      rw (rw add-zero at (h 0 (omega arith)), add-suc, ← suc-add)
+      (firstFrom-at p q e (suc n) xs d k l (rw (suc-add, ← add-suc) f) (λ i m. rw (suc-add, ← add-suc) (h (suc i) (suc-le-suc m))))
 
   -- some element does, as a first value
   any-first : (p : ℕ → A → Bool) (n : ℕ) (xs : List A) → anyFrom p n xs ≡ firstFrom p (λ i x. true) false n xs
@@ -246,3 +256,12 @@ module _ {A : Type 0} where
       same : (b : Bool) → cond b true false ≡ b
       same true = refl
       same false = refl
+
+  -- one that does is enough, and without one none does
+  pub anyFrom-some : (p : ℕ → A → Bool) (n : ℕ) (xs : List A) (d : A) (k : ℕ) → k < length xs → p (n + k) (getD xs k d) ≡ true → anyFrom p n xs ≡ true
+  unfolding anyFrom
+  anyFrom-some p n (x ∷ xs) d zero l f = rw (rw add-zero at f)
+  anyFrom-some p n (x ∷ xs) d (suc k) (suc-le-suc l) f = rw (anyFrom-some p (suc n) xs d k l (rw (suc-add, ← add-suc) f)) (or-true (p n x))
+
+  pub anyFrom-no : (p : ℕ → A → Bool) (n : ℕ) (xs : List A) (d : A) → ((i : ℕ) → i < length xs → p (n + i) (getD xs i d) ≡ false) → anyFrom p n xs ≡ false
+  anyFrom-no p n xs d h = any-first p n xs ∙ firstFrom-no p (λ i x. true) false n xs d h

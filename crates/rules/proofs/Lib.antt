@@ -1,6 +1,6 @@
-pub mod Paper
+pub mod Document
 pub mod Range
 pub mod Run
 pub mod Memory
 pub mod Registers
-pub mod Clerks
+pub mod TwoClerks

@@ -9,7 +9,7 @@ use Rattle.rules.specs.declared.Phase.the-variants.{Idle}
 use Rattle.rules.specs.declared.Pair.{Pair}
 use Rattle.rules.specs.declared.Sensor.{Sensor}
 use Rattle.rules.specs.declared.Slot.{Slot}
-use Rattle.rules.specs.Fields.{protecting, expecting, withVoltage}
+use Rattle.rules.specs.Fields.{inHalf, atCounter, protecting, expecting, withVoltage, withSensor, withWord}
 
 -- "08h resolution, default 0001h; 09h timeout, default 0001h. The others start at 0000h." "Pointer after power: 00h."
 unfoldable pub freshSensor : Sensor
@@ -55,3 +55,8 @@ absentSlot = freshSlot 0 0
 -- "A power cycle does the same, but keeps memory, protection and the high-voltage levels. A write cycle that is running is dropped and the old bytes stay (bench)."
 unfoldable pub powered : Slot → Slot
 powered s = withVoltage (s .voltage) (expecting (s .protection) (protecting (s .protection) (freshSlot (s .kind) (s .length))))
+
+-- a slot at rest, idle and in no cycle: what it is made of, and nothing else ("every slot idle", "no write cycle")
+unfoldable pub atRest : ℕ → ℕ → ℕ → ℕ → List Bool → Bool → Sensor → Slot
+atRest kind length half counter protection voltage registers =
+    inHalf half (atCounter counter (withVoltage voltage (expecting protection (protecting protection (withSensor (withWord 0x0000 registers) (freshSlot kind length))))))

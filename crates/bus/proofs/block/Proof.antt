@@ -1,4 +1,4 @@
-use Rattle.rules.proofs.Paper.Sentences.{block-fits}
+use Rattle.rules.proofs.Document.Reader.{block-fits}
 use Rattle.rules.specs.Reader.{blockBytes}
 use native.Mathlib.Omega.{arith}
 use Prim.Native.Nat.{_+_, _-_, _*_}

@@ -1,13 +1,12 @@
 -- The bytes passed are those that are moved; those to come are still where they were.
 -- Assumes nothing.
 use mathlib.Core.Path.{refl, _≡_}
-use Prim.Native.Nat.{_≤_, _<_, _-_, _+_}
+use Prim.Native.Nat.{_≤_, _-_}
 use native.Mathlib.Omega.{arith}
 use borrow.Author.Needs.{needs}
-use lib.ListN.{length, drop, length-drop, length-set}
-use lib.Seq.{getD-drop}
-use Rattle.lists.specs.Each.{filled, filled-none, filled-step}
-use Rattle.lines.proofs.Laws.{filled-later}
+use lib.ListN.{length, drop, length-set}
+use Rattle.lists.specs.Each.{filled, filled-none}
+use Rattle.lines.proofs.Laws.{keep-step}
 use Rattle.lines.proofs.keep.Statement.{statement}
 use Rattle.lines.proofs.keep.Tie as tie
 
@@ -29,6 +28,6 @@ keep-spec =
     (λ c. search needs)
     (λ c. search needs)
     (λ c. search needs)
-    (λ c. let l = c .before .before .loop in let b = c .before .before .before .args .bytes .now in let f = c .before .before .before .args .from in let e : l .i < length (drop f b) = rw (length-drop f b) (omega arith) in (omega arith, simp length-set (l .inv .1), rw (l .inv .2, filled-later b (drop f b) (l .i) (f + l .i) (omega arith) (omega arith), ← getD-drop f b (l .i) 0) (filled-step b (drop f b) (l .i) 0 (omega arith) e)))
+    (λ c. let l = c .before .before .loop in (omega arith, simp length-set (l .inv .1), keep-step _ _ _ _ (l .inv .2) (omega arith)))
     (λ c. search needs)
     (λ c. let l = c .before .loop in let e : l .i ≡ c .before .before .args .count = omega arith in rw e at (l .inv .2)))

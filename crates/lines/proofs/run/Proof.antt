@@ -36,4 +36,4 @@ run-spec =
     (λ c. let l = c .before .before .before .before .before .before .before .before .before .before .before .loop in (omega arith, l .inv .1, l .inv .2, l .inv .3, omega arith, going-on _ _ _ _ _ _ _ _ (l .inv .5) _ (c .before .before .before .before .before .before .before .before .before .record-at .ensures) _ _ (c .before .before .before .before .before .before .before .event-in-range .ensures) _ _ (c .before .before .put-line .ensures)))
     (λ c. search needs)
     (λ c. search needs)
-    (λ c. let l = c .before .loop in let e : l .i ≡ length (c .before .before .before .before .before .args .records .now) / 4 = omega arith in going-ended _ _ _ _ _ _ _ _ (l .inv .5) e (l .inv .2)))
+    (λ c. let l = c .before .loop in let e : l .i ≡ length (c .before .before .before .before .before .args .records .now) / 4 = omega arith in going-ended _ _ _ _ _ _ _ _ (l .inv .5) e))

@@ -1,37 +1,13 @@
--- The pairs passed are those of their bytes.
+-- The pairs of the bytes, set up.
 -- Assumes nothing.
-use mathlib.Core.Path.{_∙_, ap, _≡_}
-use Prim.Native.Nat.{_≤_, _-_}
-use native.Mathlib.Omega.{arith}
 use borrow.Author.Needs.{needs}
-use lib.ListN.{length}
-use Rattle.lists.specs.Each.{filled, filled-none, filled-step, filled-full}
-use Rattle.rules.specs.Refusals.{setupOf}
-use Rattle.lines.specs.Script.{pairsTo, pairsOf}
-use Rattle.lines.proofs.Laws.{noPair, length-pairs, pairs-at}
 use Rattle.lines.proofs.setup.Statement.{statement}
 use Rattle.lines.proofs.setup.Tie as tie
 
-abbrev Inv-loop : tie.InvT-loop
-Inv-loop bytes pairs₀ i₀ pairs i = (i ≤ 8) × (length bytes ≡ 16) × (length pairs₀ ≡ 8) × (pairs ≡ filled pairs₀ (pairsTo bytes 8) i)
-
-abbrev μ-loop : tie.MeasureT-loop
-μ-loop bytes pairs₀ i₀ pairs i = 8 - i
-
 pub setup-spec : {M : Type 1} → statement M
-unfolding pairsOf
 setup-spec =
     tie.close
     (tie.spec
-    Inv-loop
-    μ-loop
-    (λ c. (omega arith, c .before .pre, search needs, filled-none _ _))
-    (λ c. search needs)
-    (λ c κs. let l = c .before .loop in omega arith)
-    (λ c. search needs)
-    (λ c. search needs)
-    (λ c. search needs)
-    (λ c. search needs)
-    (λ c. let l = c .before .before .loop in let bs = c .before .before .before .before .args .bytes .now in (omega arith, l .inv .1, l .inv .2, rw (c .pair-at .ensures, l .inv .3, ← pairs-at bs 8 (l .i) noPair (omega arith)) (filled-step _ (pairsTo bs 8) (l .i) noPair (omega arith) (rw (length-pairs bs 8) (omega arith)))))
     (λ c κs. search needs)
-    (λ c. let l = c .before .before .loop in let bs = c .before .before .before .before .args .bytes .now in c .setup .ensures ∙ ap setupOf (l .inv .3 ∙ filled-full _ (pairsTo bs 8) (l .i) (omega arith) (rw (length-pairs bs 8) (omega arith)))))
+    (λ c κs. search needs)
+    (λ c. rw (c .setup .ensures, c .before .pairs .ensures)))

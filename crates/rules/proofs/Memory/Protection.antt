@@ -1,12 +1,14 @@
 -- When a slot's protection changes, and who decides to what: each step is calm, or is a tick, or is a control byte that the slot acknowledges.
 -- Assumes nothing.
-use Prim.Native.Nat.{ℕ, _+_, _*_, _/_}
+use Prim.Native.Nat.{ℕ, _+_, _-_, _*_, _/_}
+use native.Mathlib.Omega.{arith}
 use mathlib.Core.Path.{_≡_, refl, ap, _∙_}
 use mathlib.Core.Logic.{_⊎_, inl, inr, ⊎-elim}
 use mathlib.Core.Bool.{Bool, true, false, not, cond, _&&_}
 use mathlib.Core.List.{List, map}
 use lib.Dec.{eqb, leb}
 use lib.ListN.{length, set}
+use borrow.Author.Tests.{eqb-true}
 use Rattle.lists.specs.Tests.{cond-cases, by-test}
 use Rattle.lists.specs.Each.{map-mapFrom}
 use Rattle.rules.specs.declared.Act.{Act}
@@ -19,7 +21,7 @@ use Rattle.rules.specs.declared.Heard.the-variants.{Memory, Sensor, Prot
 use Rattle.rules.specs.declared.Phase.{Phase}
 use Rattle.rules.specs.declared.Phase.the-variants.{Idle, Control, Deaf, MemoryCounter, MemoryData, MemoryRead, HalfSelected, CommandAddress, CommandData, CommandStop, SensorPointer, SensorHigh, SensorLow, SensorReadHigh, SensorReadLow}
 use Rattle.rules.specs.declared.Slot.{Slot}
-use Rattle.rules.specs.Fields.{withVoltage, withSensor}
+use Rattle.rules.specs.Fields.{inPhase, withVoltage, withSensor}
 use Rattle.rules.specs.Fresh.{noBlocks, freshSlot, powered}
 use Rattle.rules.specs.Sensor.{written}
 use Rattle.rules.specs.Control.{heardOf, acksControl, obeyed, controlled}
@@ -32,7 +34,7 @@ use Rattle.rules.specs.Runs.{Bench, taken, next, after}
 use Rattle.rules.specs.Open.{open-fields, open-memory, open-slot}
 use Rattle.rules.proofs.Run.Cases.{next-cases, let-go-cases}
 use Rattle.rules.proofs.Run.Unchanged.{same-next, same-after}
-use Rattle.rules.proofs.Clerks.Alone.{number-taken}
+use Rattle.rules.proofs.TwoClerks.Alone.{number-taken}
 use Rattle.rules.proofs.Memory.Stored.{isTick}
 
 -- What decides the protection to come, when slot n is s and the act is a; after it `stands` is protected, and `comes` is to come.
@@ -43,30 +45,40 @@ pub data Decided (n : ℕ) (a : Act) (s : Slot) (stands comes : List Bool) : Typ
       → comes ≡ set (s .protection) (k .0) true → Decided n a s stands comes
   byClear : (b : ℕ) → a ≡ Byte b → standing s ≡ Control → acks n b s ≡ true → heardOf b ≡ ClearAll → comes ≡ noBlocks → Decided n a s stands comes
 
+-- What becomes of the write cycle when the slot is s and the act is a, and `left` ticks are left after it: only a stop begins one, of a page
+-- write or of a protect or clear with both its bytes; only a tick goes on with it, and only power drops it.
+pub data Cycle (a : Act) (s : Slot) (left : ℕ) : Type 0 where
+  asWas : left ≡ s .left → Cycle a s left
+  pageBegins : a ≡ Stop → standing s ≡ MemoryData → anyMark (s .marks) ≡ true → left ≡ s .length → Cycle a s left
+  commandBegins : a ≡ Stop → standing s ≡ CommandStop → left ≡ s .length → Cycle a s left
+  goesOn : a ≡ Tick → left ≡ s .left - 1 → Cycle a s left
+  powerDrops : a ≡ Power → left ≡ 0 → Cycle a s left
+
 -- what an act does to those fields of a slot that outlast an exchange
 record Step (n : ℕ) (a : Act) (s r : Slot) : Type 0 where
   kind : r .kind ≡ s .kind
   length : r .length ≡ s .length
   protection : r .protection ≡ cond (isTick a && not (absent s) && eqb (s .left) 1) (s .coming) (s .protection)
   coming : Decided n a s (r .protection) (r .coming)
+  cycle : Cycle a s (r .left)
 
 -- nothing decided: what is to come stays, or is dropped. As fields alone, so that a step which replaces others needs no word.
 abbrev Calm : Slot → Slot → Type 0
-Calm s r = (r .kind ≡ s .kind) × (r .length ≡ s .length) × (r .protection ≡ s .protection) × ((r .coming ≡ s .coming) ⊎ (r .coming ≡ r .protection))
+Calm s r = (r .kind ≡ s .kind) × (r .length ≡ s .length) × (r .protection ≡ s .protection) × ((r .coming ≡ s .coming) ⊎ (r .coming ≡ r .protection)) × (r .left ≡ s .left)
 
 kept : (s : Slot) → Calm s s
-kept s = (refl, refl, refl, inl refl)
+kept s = (refl, refl, refl, inl refl, refl)
 
 dropped : (s : Slot) → Calm s (cancelled s)
 unfolding open-fields open-memory
-dropped s = (refl, refl, refl, inr refl)
+dropped s = (refl, refl, refl, inr refl, refl)
 
 -- an exchange that ends early
 gone : (p : Phase) (s : Slot) → Calm s (letGo p s)
 unfolding open-fields open-memory
 gone p s = let-go-cases (Calm s) p s (kept s) (dropped s) (kept s) (kept s)
 
--- a read and a stop in each phase
+-- a read in each phase
 read-calm : (p : Phase) (more : Bool) (s : Slot) → Calm s (readIn p more s)
 unfolding open-fields open-memory open-slot
 read-calm Idle more s = kept s
@@ -85,27 +97,9 @@ read-calm SensorLow more s = gone SensorLow s
 read-calm SensorReadHigh more s = cond-cases (Calm s) more (λ e. kept s) (λ e. gone SensorReadHigh s)
 read-calm SensorReadLow more s = gone SensorReadLow s
 
-stop-calm : (p : Phase) (s : Slot) → Calm s (stopIn p s)
-unfolding open-fields open-memory open-slot
-stop-calm Idle s = kept s
-stop-calm Control s = kept s
-stop-calm Deaf s = kept s
-stop-calm MemoryCounter s = kept s
-stop-calm MemoryData s = cond-cases (Calm s) (anyMark (s .marks)) (λ e. kept s) (λ e. kept s)
-stop-calm MemoryRead s = kept s
-stop-calm HalfSelected s = kept s
-stop-calm CommandAddress s = dropped s
-stop-calm CommandData s = dropped s
-stop-calm CommandStop s = kept s
-stop-calm SensorPointer s = gone SensorPointer s
-stop-calm SensorHigh s = gone SensorHigh s
-stop-calm SensorLow s = gone SensorLow s
-stop-calm SensorReadHigh s = gone SensorReadHigh s
-stop-calm SensorReadLow s = gone SensorReadLow s
-
 -- a calm step is as it should be, unless it is a tick's
 calm : {n : ℕ} (a : Act) {s r : Slot} → isTick a ≡ false → Calm s r → Step n a s r
-calm a t c = record { kind = c .0; length = c .1; protection = rw t (c .2); coming = ⊎-elim asBefore asStands (c .3) }
+calm a t c = record { kind = c .0; length = c .1; protection = rw t (c .2); coming = ⊎-elim asBefore asStands (c .3); cycle = asWas (c .4) }
 
 module _ (n b : ℕ) (s : Slot) where
   quiet : {r : Slot} → Calm s r → Step n (Byte b) s r
@@ -119,8 +113,8 @@ module _ (n b : ℕ) (s : Slot) where
   heard-step (Memory k true) p a e = quiet (kept s)
   heard-step (Sensor k false) p a e = quiet (kept s)
   heard-step (Sensor k true) p a e = quiet (kept s)
-  heard-step (Protect k) p a e = record { kind = refl; length = refl; protection = refl; coming = byProtect b k refl p a e refl }
-  heard-step ClearAll p a e = record { kind = refl; length = refl; protection = refl; coming = byClear b refl p a e refl }
+  heard-step (Protect k) p a e = record { kind = refl; length = refl; protection = refl; coming = byProtect b k refl p a e refl; cycle = asWas refl }
+  heard-step ClearAll p a e = record { kind = refl; length = refl; protection = refl; coming = byClear b refl p a e refl; cycle = asWas refl }
   heard-step (ReadProtection k) p a e = quiet (kept s)
   heard-step (SelectHalf h) p a e = quiet (kept s)
   heard-step ReadHalf p a e = quiet (kept s)
@@ -149,24 +143,51 @@ module _ (n b : ℕ) (s : Slot) where
 tick-step : (n : ℕ) (s : Slot) → absent s ≡ false → Step n Tick s (ticked s)
 unfolding open-fields open-memory isTick
 tick-step n s a = cond-cases (Step n Tick s) (eqb (s .left) 1)
-    (λ e. record { kind = refl; length = refl; protection = rw (a, e); coming = asBefore refl })
-    (λ e. record { kind = refl; length = refl; protection = rw (a, e); coming = asBefore refl })
+    (λ e. record { kind = refl; length = refl; protection = rw (a, e); coming = asBefore refl; cycle = goesOn refl (ends (eqb-true (s .left) 1 e)) })
+    (λ e. record { kind = refl; length = refl; protection = rw (a, e); coming = asBefore refl; cycle = goesOn refl refl })
+  where
+    ends : s .left ≡ 1 → 0 ≡ s .left - 1
+    ends e = omega arith
+
+-- a stop in each phase
+begins : {n : ℕ} {s r : Slot} → r .kind ≡ s .kind → r .length ≡ s .length → r .protection ≡ s .protection → r .coming ≡ s .coming → Cycle Stop s (r .left) → Step n Stop s r
+unfolding isTick
+begins k l p c y = record { kind = k; length = l; protection = p; coming = asBefore c; cycle = y }
+
+stop-step : (n : ℕ) (p : Phase) (s : Slot) → standing s ≡ p → Step n Stop s (inPhase Idle (stopIn p s))
+unfolding open-fields open-memory open-slot isTick
+stop-step n Idle s e = calm Stop refl (kept s)
+stop-step n Control s e = calm Stop refl (kept s)
+stop-step n Deaf s e = calm Stop refl (kept s)
+stop-step n MemoryCounter s e = calm Stop refl (kept s)
+stop-step n MemoryData s e = cond-cases (λ (r : Slot). Step n Stop s (inPhase Idle r)) (anyMark (s .marks))
+    (λ m. begins refl refl refl refl (pageBegins refl e m refl)) (λ m. calm Stop refl (kept s))
+stop-step n MemoryRead s e = calm Stop refl (kept s)
+stop-step n HalfSelected s e = calm Stop refl (kept s)
+stop-step n CommandAddress s e = calm Stop refl (dropped s)
+stop-step n CommandData s e = calm Stop refl (dropped s)
+stop-step n CommandStop s e = begins refl refl refl refl (commandBegins refl e refl)
+stop-step n SensorPointer s e = calm Stop refl (gone SensorPointer s)
+stop-step n SensorHigh s e = calm Stop refl (gone SensorHigh s)
+stop-step n SensorLow s e = calm Stop refl (gone SensorLow s)
+stop-step n SensorReadHigh s e = calm Stop refl (gone SensorReadHigh s)
+stop-step n SensorReadLow s e = calm Stop refl (gone SensorReadLow s)
 
 present-step : (n : ℕ) (a : Act) (s : Slot) → absent s ≡ false → Step n a s (presentNext n a s)
 unfolding open-fields open-memory open-slot powered freshSlot isTick
 present-step n Start s h = calm Start refl (gone (standing s) s)
 present-step n (Byte b) s h = byte-step n b s (standing s) refl
 present-step n (Read more) s h = calm (Read more) refl (read-calm (standing s) more s)
-present-step n Stop s h = calm Stop refl (stop-calm (standing s) s)
+present-step n Stop s h = stop-step n (standing s) s refl
 present-step n Timeout s h = calm Timeout refl (gone (standing s) s)
 present-step n Tick s h = tick-step n s h
 present-step n (Voltage k on) s h = calm (Voltage k on) refl (cond-cases (Calm s) (eqb (k .0) n)
     (λ e. cond-cases (λ (r : Slot). Calm s (withVoltage on r)) (commanding (standing s) && s .voltage && not on) (λ e. gone (standing s) s) (λ e. kept s)) (λ e. kept s))
-present-step n Power s h = calm Power refl (dropped s)
+present-step n Power s h = record { kind = refl; length = refl; protection = refl; coming = asStands refl; cycle = powerDrops refl refl }
 present-step n (Temperature k t) s h = calm (Temperature k t) refl (cond-cases (Calm s) (eqb (k .0) n) (λ e. kept s) (λ e. kept s))
 
 untouched : (n : ℕ) (a : Act) (s : Slot) → absent s ≡ true → Step n a s s
-untouched n a s e = record { kind = refl; length = refl; protection = rw e (by-test (isTick a) (λ t. rw t) (λ t. rw t)); coming = asBefore refl }
+untouched n a s e = record { kind = refl; length = refl; protection = rw e (by-test (isTick a) (λ t. rw t) (λ t. rw t)); coming = asBefore refl; cycle = asWas refl }
 
 slot-step : (n : ℕ) (a : Act) (s : Slot) → Step n a s (slotNext n a s)
 slot-step n a s = next-cases (Step n a s) n a s (untouched n a s) (present-step n a s)
@@ -178,6 +199,10 @@ protection-next n a s = slot-step n a s .protection
 -- what is to come is decided by protect and clear alone
 pub coming-next : (n : ℕ) (a : Act) (s : Slot) → Decided n a s ((slotNext n a s) .protection) ((slotNext n a s) .coming)
 coming-next n a s = slot-step n a s .coming
+
+-- and what becomes of a write cycle
+pub cycle-next : (n : ℕ) (a : Act) (s : Slot) → Cycle a s ((slotNext n a s) .left)
+cycle-next n a s = slot-step n a s .cycle
 
 pub kind-next : (n : ℕ) (a : Act) (s : Slot) → (slotNext n a s) .kind ≡ s .kind
 kind-next n a s = slot-step n a s .kind

@@ -14,23 +14,16 @@ use Rattle.lists.specs.Tests.{cond-cases, by-test, cond-ap, and-left, and-right
 use Rattle.lists.specs.Parts.{part, length-part, getD-part, length-eachPart, part-eachPart}
 use Rattle.rules.specs.declared.Act.{Act}
 use Rattle.rules.specs.declared.Act.the-variants.{Start, Byte, Read, Stop, Timeout, Tick, Voltage, Power, Temperature}
-use Rattle.rules.specs.declared.Answer.the-variants as answer
 use Rattle.rules.specs.declared.Bus.{Bus}
 use Rattle.rules.specs.declared.Event.{Event}
-use Rattle.rules.specs.declared.Refusal.{Refusal}
 use Rattle.rules.specs.declared.Ruling.{Ruling}
 use Rattle.rules.specs.declared.Ruling.the-variants.{Taken, Refused}
 use Rattle.rules.specs.declared.Slot.{Slot}
 use Rattle.rules.specs.Modelled.{absent, slotBytes, addressOf, pageOf}
 use Rattle.rules.specs.Memory.{putUpTo, stored, tickedPart}
 use Rattle.rules.specs.Bus.{memoryNext}
-use Rattle.rules.specs.Runs.{Bench, taken, rulingOn, ruledNext, ruledAnswer, next, answered, after}
+use Rattle.rules.specs.Runs.{Bench, taken, rulingOn, ruledNext, next, after}
 use Rattle.rules.proofs.Run.Unchanged.{same-next, same-after}
-
--- an event that is refused changes nothing, and its answer is the refusal
-pub refused-nothing : (e : Event) (x : Bench) (r : Refusal) → rulingOn e x ≡ Refused r → (next e x ≡ x) × (answered e x ≡ answer.Refused r)
-unfolding next answered ruledNext ruledAnswer
-refused-nothing e x r h = (ap (λ (q : Ruling). ruledNext q x) h, ap (λ (q : Ruling). ruledAnswer q x) h)
 
 -- the act that may change the memory
 unfoldable pub isTick : Act → Bool

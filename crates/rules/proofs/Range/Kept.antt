@@ -2,7 +2,7 @@
 -- Assumes nothing.
 use Prim.Native.Nat.{ℕ, _-_, _/_, _≤_}
 use native.Mathlib.Omega.{arith}
-use mathlib.Core.Path.{_≡_, refl, sym, _∙_}
+use mathlib.Core.Path.{_≡_, refl, sym, _∙_, ap}
 use mathlib.Core.Bool.{Bool, true, false, false≢true, not, cond, _&&_, _||_}
 use mathlib.Core.List.{List, [], _∷_, map}
 use lib.Dec.{eqb, leb, ltb}
@@ -361,11 +361,11 @@ fitting (Refused r) = Unit {0}
 
 judged-fits : (b : Bus) (m : List ℕ) (e : Event) (r : Ruling) → Judged b m e r → fitting r
 unfolding fitting
-judged-fits b m e (Refused MemoryLength) (row-1 h) = tt
-judged-fits b m e (Refused WrongState) (row-6 h i) = tt
-judged-fits b m e (Refused UnknownKind) (row-2 h i j) = tt
-judged-fits b m e (Refused WrongSlot) (row-3 h i j k) = tt
-judged-fits b m e (Refused WrongValue) (row-4 h i j k l) = tt
+judged-fits b m e (Refused r) (row-1 n h) = tt
+judged-fits b m e (Refused r) (row-6 n h i) = tt
+judged-fits b m e (Refused r) (row-2 n h i j) = tt
+judged-fits b m e (Refused r) (row-3 n h i j k) = tt
+judged-fits b m e (Refused r) (row-4 n h i j k l) = tt
 judged-fits b m e (Taken a) (no-row h i j k l) = act-fits e l
 
 ruled-kept : (r : Ruling) (x : Bench) → fitting r → inRange (x .bus) ≡ true → inRange ((ruledNext r x) .bus) ≡ true
@@ -422,11 +422,11 @@ notSix (Refused r) = eqb (refusalNumber r) 6 ≡ false
 
 judged-not-six : (b : Bus) (m : List ℕ) (e : Event) (r : Ruling) → inRange b ≡ true → Judged b m e r → notSix r
 unfolding notSix refusalNumber
-judged-not-six b m e (Refused MemoryLength) v (row-1 h) = refl
-judged-not-six b m e (Refused WrongState) v (row-6 h i) = absurd (false≢true (sym i ∙ v))
-judged-not-six b m e (Refused UnknownKind) v (row-2 h i j) = refl
-judged-not-six b m e (Refused WrongSlot) v (row-3 h i j k) = refl
-judged-not-six b m e (Refused WrongValue) v (row-4 h i j k l) = refl
+judged-not-six b m e (Refused r) v (row-1 n h) = ap (λ (k : ℕ). eqb k 6) n
+judged-not-six b m e (Refused r) v (row-6 n h i) = absurd (false≢true (sym i ∙ v))
+judged-not-six b m e (Refused r) v (row-2 n h i j) = ap (λ (k : ℕ). eqb k 6) n
+judged-not-six b m e (Refused r) v (row-3 n h i j k) = ap (λ (k : ℕ). eqb k 6) n
+judged-not-six b m e (Refused r) v (row-4 n h i j k l) = ap (λ (k : ℕ). eqb k 6) n
 judged-not-six b m e (Taken a) v (no-row h i j k l) = tt
 
 shown-not-six : (a : Act) (b : Bus) (m : List ℕ) → isSix (shown a b m) ≡ false

@@ -121,11 +121,11 @@ joined x y z f g =
 
 every : Respected Holds
 unfolding open-fields shutDown
-every = record { same = same; joined = joined; worded = λ v x. search; pointed = λ b x l. search; writes = written-holds; converts = converted-holds }
+every = record { same = same; joined = joined; worded = λ v x. search; pointed = λ b x l. search; writes = written-holds }
 
 -- a slot's step and its run
 pub step-holds : (n : ℕ) (a : Act) (s : Slot) → isPower a ≡ false → Holds (s .sensor) ((slotNext n a s) .sensor)
-step-holds = step-without-power Holds every
+step-holds = step-without-power Holds every converted-holds
 
 pub run-holds : (n : ℕ) (r : List Act) (s : Slot) → withoutPower r ≡ true → Holds (s .sensor) ((slotAfter n r s) .sensor)
-run-holds = run-without-power Holds every
+run-holds = run-without-power Holds every converted-holds

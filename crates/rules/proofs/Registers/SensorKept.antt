@@ -85,9 +85,8 @@ every =
       worded = word-kept;
       pointed = pointing-kept;
       writes = written-kept;
-      converts = converted-kept;
     }
 
 -- the sensor of a slot, at every event
 pub step-kept : (n : ℕ) (a : Act) (s : Slot) → sensorInRange (s .sensor) ≡ true → sensorInRange ((slotNext n a s) .sensor) ≡ true
-step-kept n a s = step-respects Kept every n a s (λ e h. fresh-kept)
+step-kept n a s = step-respects Kept every n a s (λ e h. fresh-kept) (λ t e. converted-kept (s .sensor) t)

@@ -48,14 +48,13 @@ written-cases P x p v same configuration high low critical resolution timeout =
     (λ e. cond-cases P (eqb p 0x09) (λ e. timeout)
     (λ e. same))))))
 
--- R x y relates the sensor x to the sensor y that it becomes: every change respects it, also one after another
+-- R x y relates the sensor x to the sensor y that it becomes: every change that an exchange makes respects it, also one after another
 pub record Respected (R : Sensor → Sensor → Type 0) : Type 0 where
   pub same : (x : Sensor) → R x x
   pub joined : (x y z : Sensor) → R x y → R y z → R x z
   pub worded : (v : ℕ) (x : Sensor) → R x (withWord v x)
   pub pointed : (b : ℕ) (x : Sensor) → leb b 0x09 ≡ true → R x (pointing b x)
   pub writes : (x : Sensor) (p v : ℕ) → R x (written x p v)
-  pub converts : (x : Sensor) (t : ℤ) → R x (converted x t)
 
 unfoldable pub isPower : Act → Bool
 isPower Start = false
@@ -67,6 +66,17 @@ isPower Tick = false
 isPower (Voltage k on) = false
 isPower Power = true
 isPower (Temperature k t) = false
+
+unfoldable pub isHeat : Act → Bool
+isHeat Start = false
+isHeat (Byte b) = false
+isHeat (Read more) = false
+isHeat Stop = false
+isHeat Timeout = false
+isHeat Tick = false
+isHeat (Voltage k on) = false
+isHeat Power = false
+isHeat (Temperature k t) = true
 
 unfoldable pub withoutPower : List Act → Bool
 withoutPower r = allOf (λ a. not (isPower a)) r
@@ -156,34 +166,51 @@ module _ (R : Sensor → Sensor → Type 0) (every : Respected R) where
   stop-goes SensorReadHigh s = gone SensorReadHigh s
   stop-goes SensorReadLow s = gone SensorReadLow s
 
-  present-goes : (n : ℕ) (a : Act) (s : Slot) → (isPower a ≡ true → R (s .sensor) freshSensor) → Goes s (presentNext n a s)
-  unfolding isPower presentNext switched powered freshSlot lost open-fields open-memory
-  present-goes n Start s fresh = gone (standing s) s
-  present-goes n (Byte b) s fresh = byte-goes (standing s) n b s
-  present-goes n (Read more) s fresh = read-goes (standing s) more s
-  present-goes n Stop s fresh = stop-goes (standing s) s
-  present-goes n Timeout s fresh = gone (standing s) s
-  present-goes n Tick s fresh = cond-cases (Goes s) (eqb (s .left) 1) (λ e. still s) (λ e. still s)
-  present-goes n (Voltage k on) s fresh =
+  present-goes : (n : ℕ) (a : Act) (s : Slot) → (isPower a ≡ true → R (s .sensor) freshSensor) → ((t : ℤ) → isHeat a ≡ true → R (s .sensor) (converted (s .sensor) t))
+      → Goes s (presentNext n a s)
+  unfolding isPower isHeat presentNext switched powered freshSlot lost open-fields open-memory
+  present-goes n Start s fresh hot = gone (standing s) s
+  present-goes n (Byte b) s fresh hot = byte-goes (standing s) n b s
+  present-goes n (Read more) s fresh hot = read-goes (standing s) more s
+  present-goes n Stop s fresh hot = stop-goes (standing s) s
+  present-goes n Timeout s fresh hot = gone (standing s) s
+  present-goes n Tick s fresh hot = cond-cases (Goes s) (eqb (s .left) 1) (λ e. still s) (λ e. still s)
+  present-goes n (Voltage k on) s fresh hot =
       cond-cases (Goes s) (eqb (k .0) n)
       (λ e. cond-cases (Goes s) (commanding (standing s) && s .voltage && not on) (λ e. gone (standing s) s) (λ e. still s))
       (λ e. still s)
-  present-goes n Power s fresh = fresh refl
-  present-goes n (Temperature k t) s fresh =
-      cond-cases (Goes s) (eqb (k .0) n) (λ e. every .converts (s .sensor) t) (λ e. still s)
+  present-goes n Power s fresh hot = fresh refl
+  present-goes n (Temperature k t) s fresh hot =
+      cond-cases (Goes s) (eqb (k .0) n) (λ e. hot t refl) (λ e. still s)
 
-  -- power puts the sensor at its defaults: what that must respect is asked of the caller
-  pub step-respects : (n : ℕ) (a : Act) (s : Slot) → (isPower a ≡ true → R (s .sensor) freshSensor) → R (s .sensor) ((slotNext n a s) .sensor)
-  step-respects n a s fresh = next-cases (Goes s) n a s (λ e. still s) (λ e. present-goes n a s fresh)
+  -- power puts the sensor at its defaults, and a temperature converts: what these must respect is asked of the caller
+  pub step-respects : (n : ℕ) (a : Act) (s : Slot) → (isPower a ≡ true → R (s .sensor) freshSensor) → ((t : ℤ) → isHeat a ≡ true → R (s .sensor) (converted (s .sensor) t))
+      → R (s .sensor) ((slotNext n a s) .sensor)
+  step-respects n a s fresh hot = next-cases (Goes s) n a s (λ e. still s) (λ e. present-goes n a s fresh hot)
 
-  pub step-without-power : (n : ℕ) (a : Act) (s : Slot) → isPower a ≡ false → R (s .sensor) ((slotNext n a s) .sensor)
-  step-without-power n a s h = step-respects n a s (λ e. absurd (false≢true (sym h ∙ e)))
+  module _ (converts : (x : Sensor) (t : ℤ) → R x (converted x t)) where
+    pub step-without-power : (n : ℕ) (a : Act) (s : Slot) → isPower a ≡ false → R (s .sensor) ((slotNext n a s) .sensor)
+    step-without-power n a s h = step-respects n a s (λ e. absurd (false≢true (sym h ∙ e))) (λ t e. converts (s .sensor) t)
 
-  pub run-without-power : (n : ℕ) (r : List Act) (s : Slot) → withoutPower r ≡ true → R (s .sensor) ((slotAfter n r s) .sensor)
-  unfolding slotAfter withoutPower allOf
-  run-without-power n [] s h = still s
-  run-without-power n (a ∷ r) s h =
-      let t = slotNext n a s in
-      every .joined (s .sensor) (t .sensor) ((slotAfter n r t) .sensor)
-      (step-without-power n a s (not-true (isPower a) (and-left (not (isPower a)) (withoutPower r) h)))
-      (run-without-power n r t (and-right (not (isPower a)) (withoutPower r) h))
+    pub run-without-power : (n : ℕ) (r : List Act) (s : Slot) → withoutPower r ≡ true → R (s .sensor) ((slotAfter n r s) .sensor)
+    unfolding slotAfter withoutPower allOf
+    run-without-power n [] s h = still s
+    run-without-power n (a ∷ r) s h =
+        let t = slotNext n a s in
+        every .joined (s .sensor) (t .sensor) ((slotAfter n r t) .sensor)
+        (step-without-power n a s (not-true (isPower a) (and-left (not (isPower a)) (withoutPower r) h)))
+        (run-without-power n r t (and-right (not (isPower a)) (withoutPower r) h))
+
+-- "Only it [a temperature event] and power change 05h; a write to a limit doesn't."
+abbrev Cool : Sensor → Sensor → Type 0
+Cool x y = y .temperature ≡ x .temperature
+
+cool : Respected Cool
+unfolding open-fields
+cool = record { same = λ x. refl; joined = λ x y z f g. g ∙ f; worded = λ v x. refl; pointed = λ b x l. refl; writes = cool-writes }
+  where
+    cool-writes : (x : Sensor) (p v : ℕ) → Cool x (written x p v)
+    cool-writes x p v = written-cases (Cool x) x p v refl refl (λ e. refl) (λ e. refl) (λ e. refl) refl refl
+
+pub only-heat-and-power : (n : ℕ) (a : Act) (s : Slot) → isPower a ≡ false → isHeat a ≡ false → (slotNext n a s) .sensor .temperature ≡ s .sensor .temperature
+only-heat-and-power n a s p h = step-respects Cool cool n a s (λ e. absurd (false≢true (sym p ∙ e))) (λ t e. absurd (false≢true (sym h ∙ e)))

@@ -1,10 +1,9 @@
--- Setup's bus is in range.
+-- The beginning's bus is in range, and what is written lies in the output.
 -- Assumes nothing.
-use mathlib.Core.Path.{_∙_, ap}
+use native.Mathlib.Omega.{arith}
 use borrow.Author.Needs.{needs}
-use Rattle.rules.specs.Refusals.{inRange}
-use Rattle.rules.specs.declared.Outcome.{Outcome}
-use Rattle.rules.proofs.Range.Kept.{setup-in-range}
+use lib.ListN.{length-take}
+use Rattle.lines.proofs.Onward.{begin-onward}
 use Rattle.script.proofs.main.Statement.{statement}
 use Rattle.script.proofs.main.Tie as tie
 
@@ -12,16 +11,19 @@ pub main-spec : {M : Type 1} → statement M
 main-spec =
     tie.close
     (tie.spec
-    (λ c. search needs)
     (λ c κs. search needs)
     (λ c. search needs)
     (λ c κs. search needs)
     (λ c. search needs)
     (λ c. search needs)
-    (λ c κs. search needs)
     (λ c. search needs)
     (λ c. search needs)
     (λ c κs. search needs)
+    (λ c. let e = begin-onward _ _ _ _ _ (c .before .before .begin .ensures) (omega arith) in omega (arith, e .1))
+    (λ c. let e = begin-onward _ _ _ _ _ (c .before .before .before .begin .ensures) (omega arith) in simp length-take (omega (arith, e .1)))
+    (λ c κs. search needs)
     (λ c. search needs)
-    (λ c κs. ap (λ (o : Outcome). inRange (o .bus)) (c .before .before .setup .ensures) ∙ setup-in-range _)
+    (λ c. search needs)
+    (λ c κs. let e = begin-onward _ _ _ _ _ (c .before .before .before .before .before .before .before .before .begin .ensures) (omega arith) in (e .0, search needs, search needs))
+    (λ c. search needs)
     (λ c. search needs))

@@ -1,6 +1,6 @@
--- From turn to turn the bus is in range, the buffers keep their lengths, and at most three bytes are held.
+-- From read to read the bus is in range, the buffers keep their lengths, and at most three bytes are held.
 -- Assumes nothing.
-use mathlib.Core.Path.{refl, sym, _≡_}
+use mathlib.Core.Path.{_≡_}
 use mathlib.Core.Bool.{true}
 use Prim.Native.Nat.{_<_}
 use native.Mathlib.Omega.{arith}
@@ -11,11 +11,10 @@ use Rattle.script.proofs.serve.Statement.{statement}
 use Rattle.script.proofs.serve.Tie as tie
 
 abbrev Inv-loop : tie.InvT-loop
-Inv-loop mem₀ buf₀ out₀ state₀ held₀ turns₀ mem buf out state held turns =
-    (inRange state ≡ true) × (length mem ≡ 4096) × (length buf ≡ 65536) × (length out ≡ 65536) × (held < 4)
+Inv-loop mem₀ out₀ buf₀ g₀ turns₀ mem out buf g turns = (inRange (g .bus) ≡ true) × (length mem ≡ 4096) × (length buf ≡ 65536) × (length out ≡ 65536) × (g .held < 4)
 
 abbrev μ-loop : tie.MeasureT-loop
-μ-loop mem₀ buf₀ out₀ state₀ held₀ turns₀ mem buf out state held turns = turns
+μ-loop mem₀ out₀ buf₀ g₀ turns₀ mem out buf g turns = turns
 
 pub serve-spec : {M : Type 1} → statement M
 serve-spec =
@@ -24,14 +23,15 @@ serve-spec =
     Inv-loop
     μ-loop
     (λ c κs. search needs)
+    (λ c. search needs)
+    (λ c. search needs)
     (λ c κs. search needs)
-    (λ c. (c .before .before .pre, refl, sym (c .before .large-buffer .ensures), sym (c .large-buffer2 .ensures), omega arith))
-    (λ c. sym (c .before .before .loop .inv .1))
-    (λ c. sym (c .before .before .before .loop .inv .2))
-    (λ c. sym (c .before .before .before .before .loop .inv .3))
-    (λ c κs. c .before .before .before .before .loop .inv)
     (λ c. search needs)
     (λ c. search needs)
     (λ c. search needs)
-    (λ c. (c .before .before .before .before .before .before .turn .ensures .0, omega arith, omega arith, omega arith, c .before .before .before .before .before .before .turn .ensures .1))
+    (λ c. search needs)
+    (λ c. search needs)
+    (λ c. let r = c .before .before .before .before .before .before .before .read-on .ensures in (r .0, omega arith, omega arith, omega arith, r .1))
+    (λ c. search needs)
+    (λ c. search needs)
     (λ c. search needs))

@@ -1,0 +1,52 @@
+-- Laws of the setup's pairs and of two's complement.
+-- Assumes nothing.
+use mathlib.Core.Path.{_≡_, refl, sym, _∙_, ap, ap₂}
+use mathlib.Core.List.{List, [], _∷_}
+use Prim.Native.Nat.{ℕ, zero, suc, _+_, _*_, _≤_, _<_}
+use native.Mathlib.Nat.{zero-add}
+use native.Mathlib.Omega.{arith}
+use borrow.Author.Tests.{ltb-true, ltb-false}
+use lib.IntN.{pos, negsuc, _-ℤ_}
+use lib.Dec.{ltb}
+use lib.ListN.{length, getD, set, length-append, List·getD-append}
+use lib.Seq.{getD-at}
+use Rattle.lists.specs.Each.{filled, filled-step}
+use Rattle.lists.specs.Tests.{by-test}
+use Rattle.rules.specs.declared.Pair.{Pair}
+use Rattle.rules.specs.Runs.{next}
+use Rattle.records.specs.Records.{pairAt, pairsTo}
+
+-- one below zero, and so many more
+pub below-zero : (m : ℕ) → negsuc 0 -ℤ pos m ≡ negsuc m
+below-zero zero = refl
+below-zero (suc m) = ap (λ (n : ℕ). negsuc (suc n)) (zero-add m)
+
+-- the setup's pairs
+pub length-pairs : (bs : List ℕ) (n : ℕ) → length (pairsTo bs n) ≡ n
+unfolding pairsTo
+length-pairs bs zero = refl
+length-pairs bs (suc n) = length-append (pairsTo bs n) (pairAt bs (2 * n) ∷ []) ∙ omega (arith, length-pairs bs n)
+
+pub pairs-at : (bs : List ℕ) (n k : ℕ) (z : Pair) → k < n → getD (pairsTo bs n) k z ≡ pairAt bs (2 * k)
+unfolding pairsTo
+pairs-at bs zero k z h = absurd (none h)
+  where
+    none : {i : ℕ} → i < 0 → ⊥
+    none h = omega arith
+pairs-at bs (suc n) k z h =
+    by-test (ltb k n)
+    (λ e. List·getD-append (pairsTo bs n) (pairAt bs (2 * n) ∷ []) z k (rw (length-pairs bs n) (ltb-true k n e)) ∙ pairs-at bs n k z (ltb-true k n e))
+    (λ e.
+    let f : n ≡ k = let g : n ≤ k = ltb-false k n e in omega arith in
+    getD-at (pairsTo bs n) (pairAt bs (2 * n)) [] z k (length-pairs bs n ∙ f) ∙ ap (λ i. pairAt bs (2 * i)) f)
+
+-- past the end of an array of pairs
+abbrev pub noPair : Pair
+noPair = record { kind = 0; length = 0 }
+
+-- the next pair of the setup, stored
+pub pairs-step : (d ps : List Pair) (bs : List ℕ) (i : ℕ) (p : Pair) → ps ≡ filled d (pairsTo bs 8) i → p ≡ pairAt bs (2 * i) → i < 8 → length d ≡ 8
+    → set ps i p ≡ filled d (pairsTo bs 8) (i + 1)
+pairs-step d ps bs i p e f h l =
+    ap₂ (λ (u : List Pair) (q : Pair). set u i q) e (f ∙ sym (pairs-at bs 8 i noPair h))
+    ∙ filled-step d (pairsTo bs 8) i noPair (omega arith) (rw (length-pairs bs 8) h)

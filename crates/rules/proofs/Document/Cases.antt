@@ -1,0 +1,211 @@
+-- Document 01's whole case and its marked bench cases: one table, run on the definitions of the whole bus from setup, under one theorem.
+-- Assumes nothing.
+use Prim.Native.Nat.{ℕ, zero, suc, _%_}
+use mathlib.Core.Path.{_≡_, refl}
+use mathlib.Core.List.{List, [], _∷_, _++_, map}
+use lib.IntN.{ℤ, pos, negsuc}
+use lib.ListN.{getD, set, replicate}
+use Rattle.rules.specs.declared.Answer.{Answer}
+use Rattle.rules.specs.declared.Event.{Event}
+use Rattle.rules.specs.declared.Pair.{Pair}
+use Rattle.rules.specs.Events.{letterOf, valueOf}
+use Rattle.rules.specs.Fresh.{absentSlot}
+use Rattle.rules.specs.Refusals.{setupOf}
+use Rattle.rules.specs.Runs.{Bench, after, answers}
+use Rattle.rules.specs.Open.{open-all}
+
+-- a case: what it starts from and what is done; the answers in order, by the paper's letters and values, every byte of the memory that has
+-- changed after it (place, byte), and bits 12:0 of register 05h (slot, bits)
+pub record Case : Type 0 where
+  pub setup : List Pair
+  pub memory : List ℕ
+  pub run : List Event
+  pub shows : List (ℕ × ℕ)
+  pub bytes : List (ℕ × ℕ)
+  pub bits : List (ℕ × ℕ)
+
+-- the events' records
+abbrev event : ℕ → ℕ → ℤ → Event
+event kind slot value = record { kind = kind; slot = record { 0 = slot }; value = value }
+
+abbrev start : Event
+start = event 1 0 (pos 0)
+
+abbrev byte : ℕ → Event
+byte b = event 2 0 (pos b)
+
+-- with the master's ACK, and with its NACK
+abbrev more : Event
+more = event 3 0 (pos 1)
+
+abbrev last : Event
+last = event 3 0 (pos 0)
+
+abbrev stop : Event
+stop = event 4 0 (pos 0)
+
+abbrev tick : Event
+tick = event 6 0 (pos 0)
+
+abbrev highVoltage : Event
+highVoltage = event 7 0 (pos 1)
+
+abbrev temperature : ℤ → Event
+temperature t = event 9 0 t
+
+-- the paper's letters for answers, each with its value
+abbrev Said : Type 0
+Said = ℕ × ℕ
+
+abbrev Nothing : Said
+Nothing = (0x2D, 0)
+
+abbrev Ack : Said
+Ack = (0x41, 0)
+
+abbrev Nack : Said
+Nack = (0x4E, 0)
+
+abbrev Data : ℕ → Said
+Data b = (0x44, b)
+
+-- an exchange of bytes, and its answers; the answers of a stretch of events that answer nothing
+abbrev sent : List ℕ → List Event
+sent bs = start ∷ map byte bs ++ stop ∷ []
+
+abbrev acked : List ℕ → List Said
+acked bs = Nothing ∷ map (λ b. Ack) bs ++ Nothing ∷ []
+
+abbrev silent : ℕ → List Said
+silent n = replicate n Nothing
+
+-- register 05h of slot 0 read over the bus, and its answers
+abbrev thermometer : List Event
+thermometer = start ∷ byte 0x30 ∷ byte 0x05 ∷ start ∷ byte 0x31 ∷ more ∷ last ∷ stop ∷ []
+
+abbrev shownAs : ℕ → ℕ → List Said
+shownAs high low = Nothing ∷ Ack ∷ Ack ∷ Nothing ∷ Ack ∷ Data high ∷ Data low ∷ Nothing ∷ []
+
+-- slot 0 of a kind and a length, the others absent; memory of FFh
+abbrev alone : ℕ → ℕ → List Pair
+alone kind length = record { kind = kind; length = length } ∷ replicate 7 (record { kind = 0; length = 0 })
+
+abbrev blank : List ℕ
+blank = replicate 4096 0xFF
+
+abbrev inMemory : ℕ → List Event → List Said → List (ℕ × ℕ) → Case
+inMemory length run shows bytes = record { setup = alone 1 length; memory = blank; run = run; shows = shows; bytes = bytes; bits = [] }
+
+abbrev heated : ℤ → ℕ → Case
+heated t bits = record { setup = alone 2 1; memory = blank; run = temperature t ∷ []; shows = silent 1; bytes = []; bits = (0, bits) ∷ [] }
+
+abbrev upTo17 : List ℕ
+upTo17 = 1 ∷ 2 ∷ 3 ∷ 4 ∷ 5 ∷ 6 ∷ 7 ∷ 8 ∷ 9 ∷ 10 ∷ 11 ∷ 12 ∷ 13 ∷ 14 ∷ 15 ∷ 16 ∷ 17 ∷ []
+
+-- n places from one on, with values that go up by one
+pub pairedFrom : ℕ → ℕ → ℕ → List (ℕ × ℕ)
+pairedFrom place zero value = []
+pairedFrom place (suc n) value = (place, value) ∷ pairedFrom (suc place) n (suc value)
+
+-- protect block 0, protect block 3, clear all: each with its two bytes, stop and tick
+abbrev command : ℕ → List Event
+command b = sent (b ∷ 0 ∷ 0 ∷ []) ++ tick ∷ []
+
+abbrev commanded : List Said
+commanded = acked (0 ∷ 0 ∷ 0 ∷ []) ++ silent 1
+
+abbrev table : List Case
+table =
+    -- the whole case
+    inMemory 1
+    (start ∷ byte 0xA0 ∷ byte 0x00 ∷ byte 0x5A ∷ stop ∷ start ∷ byte 0xA0 ∷ tick ∷ start ∷ byte 0xA0 ∷ [])
+    (Nothing ∷ Ack ∷ Ack ∷ Ack ∷ Nothing ∷ Nothing ∷ Nack ∷ Nothing ∷ Nothing ∷ Ack ∷ [])
+    ((0, 0x5A) ∷ [])
+    -- 1. "Write from 1Eh: 1, 2, 3 land at 1Eh, 1Fh, 10h."
+    ∷ inMemory 1 (sent (0xA0 ∷ 0x1E ∷ 1 ∷ 2 ∷ 3 ∷ []) ++ tick ∷ []) (acked (0 ∷ 0 ∷ 0 ∷ 0 ∷ 0 ∷ []) ++ silent 1)
+    ((0x1E, 1) ∷ (0x1F, 2) ∷ (0x10, 3) ∷ [])
+    -- 2. "Seventeen bytes from 20h: the 17th stands at 20h, the 2nd at 21h."
+    ∷ inMemory 1 (sent (0xA0 ∷ 0x20 ∷ upTo17) ++ tick ∷ []) (acked (0 ∷ 0 ∷ upTo17) ++ silent 1)
+    ((0x20, 17) ∷ pairedFrom 0x21 15 2)
+    -- 3. "Counter FFh, half 1: reads address 511, then 256."
+    ∷ record {
+      setup = alone 1 1;
+      memory = set (set blank 511 0x11) 256 0x22;
+      run = sent (0x6E ∷ []) ++ start ∷ byte 0xA0 ∷ byte 0xFF ∷ start ∷ byte 0xA1 ∷ more ∷ last ∷ stop ∷ [];
+      shows = acked (0 ∷ []) ++ Nothing ∷ Ack ∷ Ack ∷ Nothing ∷ Ack ∷ Data 0x11 ∷ Data 0x22 ∷ Nothing ∷ [];
+      bytes = [];
+      bits = [];
+    }
+    -- 4. "Data, repeated start, stop: memory unchanged."
+    ∷ inMemory 1 (start ∷ byte 0xA0 ∷ byte 0x00 ∷ byte 0x5A ∷ start ∷ stop ∷ tick ∷ []) (Nothing ∷ Ack ∷ Ack ∷ Ack ∷ silent 3)
+    []
+    -- 5. "Length 3: NACK after two ticks, ACK after three."
+    ∷ inMemory 3
+    (sent (0xA0 ∷ 0x00 ∷ 0x5A ∷ []) ++ tick ∷ tick ∷ start ∷ byte 0xA0 ∷ tick ∷ start ∷ byte 0xA0 ∷ [])
+    (acked (0 ∷ 0 ∷ 0 ∷ []) ++ silent 3 ++ Nack ∷ silent 2 ++ Ack ∷ [])
+    ((0, 0x5A) ∷ [])
+    -- 6. "Protected block: ACK, ACK, NACK."
+    ∷ inMemory 1
+    (highVoltage ∷ command 0x62 ++ start ∷ byte 0xA0 ∷ byte 0x00 ∷ byte 0x5A ∷ stop ∷ tick ∷ [])
+    (Nothing ∷ commanded ++ Nothing ∷ Ack ∷ Ack ∷ Nack ∷ silent 2)
+    []
+    -- 7. "66h with blocks 0 and 3 protected: both clear."
+    ∷ inMemory 1
+    (highVoltage ∷ command 0x62 ++ command 0x60 ++ start ∷ byte 0x63 ∷ start ∷ byte 0x61 ∷ stop ∷ command 0x66 ++ start ∷ byte 0x63 ∷ start ∷ byte 0x61 ∷ stop ∷ [])
+    (Nothing ∷ commanded ++ commanded ++ Nothing ∷ Nack ∷ Nothing ∷ Nack ∷ Nothing ∷ commanded ++ Nothing ∷ Ack ∷ Nothing ∷ Ack ∷ Nothing ∷ [])
+    []
+    -- 8. "6Dh with half 1: NACK."
+    ∷ inMemory 1 (sent (0x6E ∷ []) ++ start ∷ byte 0x6D ∷ stop ∷ []) (acked (0 ∷ []) ++ Nothing ∷ Nack ∷ Nothing ∷ []) []
+    -- 9. "Given -1, step 4: bits 12:0 of 05h are 1FFCh."
+    ∷ heated (negsuc 0) 0x1FFC
+    -- 10. "Bits 12:0, given -640: 1D80h; 2000: 07D0h; 400: 0190h."
+    ∷ heated (negsuc 639) 0x1D80
+    ∷ heated (pos 2000) 0x07D0
+    ∷ heated (pos 400) 0x0190
+    -- 11. "High 0500h, critical 0640h, low 0, configuration 0200h: 1284, 1260, 1256 give 4504h, 44ECh, 04E8h."
+    ∷ record {
+      setup = alone 2 1;
+      memory = blank;
+      run =
+          sent (0x30 ∷ 0x02 ∷ 0x05 ∷ 0x00 ∷ []) ++ sent (0x30 ∷ 0x04 ∷ 0x06 ∷ 0x40 ∷ []) ++ sent (0x30 ∷ 0x03 ∷ 0x00 ∷ 0x00 ∷ [])
+          ++ sent (0x30 ∷ 0x01 ∷ 0x02 ∷ 0x00 ∷ [])
+          ++ temperature (pos 1284) ∷ thermometer
+          ++ temperature (pos 1260) ∷ thermometer
+          ++ temperature (pos 1256) ∷ thermometer;
+      shows =
+          acked (0 ∷ 0 ∷ 0 ∷ 0 ∷ []) ++ acked (0 ∷ 0 ∷ 0 ∷ 0 ∷ []) ++ acked (0 ∷ 0 ∷ 0 ∷ 0 ∷ []) ++ acked (0 ∷ 0 ∷ 0 ∷ 0 ∷ [])
+          ++ Nothing ∷ shownAs 0x45 0x04
+          ++ Nothing ∷ shownAs 0x44 0xEC
+          ++ Nothing ∷ shownAs 0x04 0xE8;
+      bytes = [];
+      bits = [];
+    }
+    ∷ []
+
+-- what the definitions give for a case
+abbrev begun : Case → Bench
+begun c = record { bus = setupOf (c .setup) .bus; memory = c .memory }
+
+-- an answer by the paper's letter and value
+abbrev said : Answer → Said
+said a = (letterOf a, valueOf a)
+
+-- the memory with some bytes changed, and no other
+pub changed : List (ℕ × ℕ) → List ℕ → List ℕ
+changed [] m = m
+changed (p ∷ ps) m = changed ps (set m (p .0) (p .1))
+
+abbrev bitsAt : Bench → ℕ × ℕ → ℕ
+bitsAt x p = (getD (x .bus .slots) (p .0) absentSlot) .sensor .temperature % 8192
+
+abbrev got : Case → List Said × List ℕ × List ℕ
+got c =
+    let x : Bench = after (c .run) (begun c) in
+    (map said (answers (c .run) (begun c)), x .memory, map (bitsAt x) (c .bits))
+
+abbrev wanted : Case → List Said × List ℕ × List ℕ
+wanted c = (c .shows, changed (c .bytes) (c .memory), map (λ p. p .1) (c .bits))
+
+pub marked-cases : map got table ≡ map wanted table
+unfolding open-all letterOf valueOf changed pairedFrom
+marked-cases = refl

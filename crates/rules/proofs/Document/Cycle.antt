@@ -1,0 +1,57 @@
+-- Document 01, "Memory exchanges": a write cycle over its N ticks, of every present slot: until the last nothing moves but the ticks left; at the
+-- last the latched bytes are in memory, and what was to come stands.
+-- Assumes nothing.
+use Prim.Native.Nat.{ℕ, zero, suc, _+_, _-_, _<_, _≤_}
+use native.Mathlib.Omega.{arith}
+use mathlib.Core.Path.{_≡_, refl, _∙_, ap}
+use mathlib.Core.Bool.{Bool, false}
+use mathlib.Core.List.{List, [], _∷_}
+use lib.Dec.{eqb}
+use lib.ListN.{replicate}
+use borrow.Author.Tests.{eq-eqb, ne-eqb}
+use Rattle.rules.specs.declared.Act.{Act}
+use Rattle.rules.specs.declared.Act.the-variants.{Tick}
+use Rattle.rules.specs.declared.Slot.{Slot}
+use Rattle.rules.specs.Modelled.{absent, addressOf}
+use Rattle.rules.specs.Fields.{withLeft, protecting, latched}
+use Rattle.rules.specs.Fresh.{noBytes, noMarks}
+use Rattle.rules.specs.Memory.{stored, tickedPart}
+use Rattle.rules.specs.Exchanges.{slotAfter, partNext, partAfter}
+use Rattle.rules.proofs.Document.Exchange.{last-tick, other-tick}
+
+abbrev ticks : ℕ → List Act
+ticks n = replicate n Tick
+
+-- j ticks of a cycle with j + l + 1 left
+module _ (n l : ℕ) where
+  pub waiting : (j : ℕ) (s : Slot) → absent s ≡ false → s .left ≡ j + suc l → slotAfter n (ticks j) s ≡ withLeft (suc l) s
+  unfolding slotAfter withLeft absent
+  waiting zero s a e = let f : s .left ≡ suc l = omega arith in ap (λ (k : ℕ). withLeft k s) f
+  waiting (suc j) s a e =
+      ap (slotAfter n (ticks j)) (other-tick n s a (λ f. omega arith))
+      ∙ waiting j (withLeft (s .left - 1) s) a (omega arith)
+
+  pub waiting-part : (j : ℕ) (s : Slot) (m : List ℕ) → absent s ≡ false → s .left ≡ j + suc l → partAfter n (ticks j) s m ≡ m
+  unfolding partAfter partNext tickedPart withLeft absent
+  waiting-part zero s m a e = refl
+  waiting-part (suc j) s m a e =
+      let still : partNext Tick s m ≡ m = rw (a, ne-eqb (s .left) 1 (λ f. omega arith)) in
+      ap (λ (t : Slot). partAfter n (ticks j) t (partNext Tick s m)) (other-tick n s a (λ f. omega arith))
+      ∙ ap (partAfter n (ticks j) (withLeft (s .left - 1) s)) still
+      ∙ waiting-part j (withLeft (s .left - 1) s) m a (omega arith)
+
+-- and the last of them: "the tick that ends it (the slot's Nth after the stop) puts the latched bytes in memory"; "protection changes when it ends"
+pub ends : (n j : ℕ) (s : Slot) → absent s ≡ false → s .left ≡ suc j → slotAfter n (ticks (suc j)) s ≡ withLeft 0 (latched noBytes noMarks (protecting (s .coming) s))
+unfolding slotAfter withLeft latched protecting absent
+ends n zero s a e = last-tick n s a e
+ends n (suc j) s a e =
+    ap (slotAfter n (ticks (suc j))) (other-tick n s a (λ f. omega arith)) ∙ ends n j (withLeft (s .left - 1) s) a (omega arith)
+
+pub ends-part : (n j : ℕ) (s : Slot) (m : List ℕ) → absent s ≡ false → s .left ≡ suc j → partAfter n (ticks (suc j)) s m ≡ stored s m
+unfolding partAfter partNext tickedPart stored addressOf withLeft absent
+ends-part n zero s m a e = rw (a, eq-eqb (s .left) 1 e)
+ends-part n (suc j) s m a e =
+    let still : partNext Tick s m ≡ m = rw (a, ne-eqb (s .left) 1 (λ f. omega arith)) in
+    ap (λ (t : Slot). partAfter n (ticks (suc j)) t (partNext Tick s m)) (other-tick n s a (λ f. omega arith))
+    ∙ ap (partAfter n (ticks (suc j)) (withLeft (s .left - 1) s)) still
+    ∙ ends-part n j (withLeft (s .left - 1) s) m a (omega arith)

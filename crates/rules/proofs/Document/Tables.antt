@@ -1,0 +1,221 @@
+-- Document 01's tables of events, refusals, setups and ranges, row by row: each number with its ends and the first value past them. Each theorem
+-- computes.
+-- Assumes nothing.
+use Prim.Native.Nat.{ℕ, _*_}
+use mathlib.Core.Path.{_≡_, refl}
+use mathlib.Core.Bool.{Bool, true, false}
+use mathlib.Core.List.{List, [], _∷_, map}
+use lib.IntN.{ℤ, pos, negsuc}
+use lib.ListN.{set, replicate}
+use Rattle.rules.specs.declared.Act.{Act}
+use Rattle.rules.specs.declared.Act.the-variants.{Start, Byte, Read, Stop, Timeout, Tick, Voltage, Power, Temperature}
+use Rattle.rules.specs.declared.Address.{Address}
+use Rattle.rules.specs.declared.Answer.{Answer}
+use Rattle.rules.specs.declared.Answer.the-variants as answer
+use Rattle.rules.specs.declared.BlockNo.{BlockNo}
+use Rattle.rules.specs.declared.Bus.{Bus}
+use Rattle.rules.specs.declared.Event.{Event}
+use Rattle.rules.specs.declared.Pair.{Pair}
+use Rattle.rules.specs.declared.Refusal.the-variants.{MemoryLength, UnknownKind, WrongSlot, WrongValue, WrongSetup, WrongState}
+use Rattle.rules.specs.declared.Sensor.{Sensor}
+use Rattle.rules.specs.declared.Slot.{Slot}
+use Rattle.rules.specs.declared.SlotNo.{SlotNo}
+use Rattle.rules.specs.Modelled.{slotCount, memoryBytes, slotBytes, absent, sensing, addressOf, blockOf, pageOf}
+use Rattle.rules.specs.Open.{open-all}
+use Rattle.rules.specs.Fields.{atCounter, inHalf, withLeft, placed, withSensor, pointing, withConfiguration, withHigh, withLow, withCritical, withTemperature, withResolution, withTimeout, withWord}
+use Rattle.rules.specs.Events.{actOf, refusalNumber, letterOf, valueOf}
+use Rattle.rules.specs.Fresh.{freshSensor, freshSlot, setupSlot, absentSlot}
+use Rattle.rules.specs.Refusals.{unknownKind, wrongSlot, wrongValue, wrongLength, goodPair, slotInRange}
+use Rattle.rules.specs.Runs.{answered}
+
+abbrev event : ℕ → ℕ → ℤ → Event
+event kind slot value = record { kind = kind; slot = record { 0 = slot }; value = value }
+
+abbrev slot : ℕ → SlotNo
+slot n = record { 0 = n }
+
+-- "What is modelled": eight slots of 512 bytes are the memory; kinds; address, block and page
+pub sizes : slotCount * slotBytes ≡ memoryBytes
+sizes = refl
+
+abbrev kindOf : ℕ → Bool × Bool
+kindOf k = (absent (freshSlot k 1), sensing (freshSlot k 1))
+
+pub kinds : map kindOf (0 ∷ 1 ∷ 2 ∷ []) ≡ (true, false) ∷ (false, false) ∷ (false, true) ∷ []
+unfolding open-all
+kinds = refl
+
+-- half, counter, and the address, block and page that they give
+abbrev placeOf : ℕ × ℕ → ℕ × ℕ × ℕ
+placeOf p = let a : Address = addressOf (inHalf (p .0) (atCounter (p .1) absentSlot)) in (a .0, blockOf a .0, pageOf a .0)
+
+pub addresses : map placeOf ((0, 0) ∷ (0, 15) ∷ (0, 16) ∷ (0, 127) ∷ (0, 128) ∷ (0, 255) ∷ (1, 0) ∷ (1, 127) ∷ (1, 128) ∷ (1, 255) ∷ [])
+    ≡ (0, 0, 0) ∷ (15, 0, 0) ∷ (16, 0, 16) ∷ (127, 0, 112) ∷ (128, 1, 128) ∷ (255, 1, 240) ∷ (256, 2, 256) ∷ (383, 2, 368) ∷ (384, 3, 384) ∷ (511, 3, 496) ∷ []
+unfolding open-all
+addresses = refl
+
+-- "Events": each kind, with its slot and value where it has them, and with rubbish in its empty cells
+pub events : map actOf
+    (event 1 9 (negsuc 4) ∷ event 2 9 (pos 0) ∷ event 2 9 (pos 255) ∷ event 3 9 (pos 0) ∷ event 3 9 (pos 1) ∷ event 4 9 (negsuc 4) ∷ event 5 9 (negsuc 4) ∷ event 6 9 (negsuc 4)
+    ∷ event 7 3 (pos 0) ∷ event 7 4 (pos 1) ∷ event 8 9 (negsuc 4) ∷ event 9 5 (negsuc 639) ∷ event 9 6 (pos 2000) ∷ [])
+    ≡ Start ∷ Byte 0 ∷ Byte 255 ∷ Read false ∷ Read true ∷ Stop ∷ Timeout ∷ Tick
+    ∷ Voltage (slot 3) false ∷ Voltage (slot 4) true ∷ Power ∷ Temperature (slot 5) (negsuc 639) ∷ Temperature (slot 6) (pos 2000) ∷ []
+unfolding open-all
+events = refl
+
+-- "Refusal numbers" and the letters of the script, with their values
+pub numbers : map refusalNumber (MemoryLength ∷ UnknownKind ∷ WrongSlot ∷ WrongValue ∷ WrongSetup ∷ WrongState ∷ []) ≡ 1 ∷ 2 ∷ 3 ∷ 4 ∷ 5 ∷ 6 ∷ []
+unfolding refusalNumber
+numbers = refl
+
+abbrev said : Answer → ℕ × ℕ
+said a = (letterOf a, valueOf a)
+
+pub letters : map said (answer.Nothing ∷ answer.Ack ∷ answer.Nack ∷ answer.Data 0x5A ∷ answer.Refused UnknownKind ∷ [])
+    ≡ (0x2D, 0) ∷ (0x41, 0) ∷ (0x4E, 0) ∷ (0x44, 0x5A) ∷ (0x52, 2) ∷ []
+unfolding letterOf valueOf refusalNumber
+letters = refl
+
+-- row 1: "the memory is not 4,096 bytes long"
+pub row-1 : map (λ n. wrongLength (replicate n 0xFF)) (0 ∷ 4095 ∷ 4096 ∷ 4097 ∷ []) ≡ true ∷ true ∷ false ∷ true ∷ []
+unfolding open-all
+row-1 = refl
+
+-- row 2: "the kind is not 1..9"
+pub row-2 : map (λ k. unknownKind (event k 0 (pos 0))) (0 ∷ 1 ∷ 2 ∷ 3 ∷ 4 ∷ 5 ∷ 6 ∷ 7 ∷ 8 ∷ 9 ∷ 10 ∷ 255 ∷ [])
+    ≡ true ∷ false ∷ false ∷ false ∷ false ∷ false ∷ false ∷ false ∷ false ∷ false ∷ true ∷ true ∷ []
+unfolding open-all
+row-2 = refl
+
+-- row 3: "kind 7 or 9: slot above 7 or absent; kind 9: slot without sensor": the named slot's kind, the event's kind, its slot
+abbrev thirdRow : ℕ × ℕ × ℕ → Bool
+thirdRow p = wrongSlot (p .0) (event (p .1) (p .2) (pos 0))
+
+pub row-3 : map thirdRow
+    ((0, 7, 0) ∷ (1, 7, 0) ∷ (2, 7, 0) ∷ (2, 7, 7) ∷ (2, 7, 8) ∷ (0, 9, 0) ∷ (1, 9, 0) ∷ (2, 9, 0) ∷ (2, 9, 7) ∷ (2, 9, 8) ∷ (2, 9, 255) ∷ [])
+    ≡ true ∷ false ∷ false ∷ false ∷ true ∷ true ∷ true ∷ false ∷ false ∷ true ∷ true ∷ []
+unfolding open-all
+row-3 = refl
+
+pub row-3-others : map (λ k. wrongSlot 0 (event k 255 (pos 0))) (0 ∷ 1 ∷ 2 ∷ 3 ∷ 4 ∷ 5 ∷ 6 ∷ 8 ∷ 10 ∷ []) ≡ replicate 9 false
+unfolding open-all
+row-3-others = refl
+
+-- row 4: "the value is outside its range", by the event's kind and its value
+abbrev fourthRow : ℕ × ℤ → Bool
+fourthRow p = wrongValue (event (p .0) 0 (p .1))
+
+pub row-4 : map fourthRow
+    ((2, negsuc 0) ∷ (2, pos 0) ∷ (2, pos 255) ∷ (2, pos 256) ∷ (3, negsuc 0) ∷ (3, pos 0) ∷ (3, pos 1) ∷ (3, pos 2) ∷ (7, negsuc 0) ∷ (7, pos 0) ∷ (7, pos 1) ∷ (7, pos 2)
+    ∷ (9, negsuc 640) ∷ (9, negsuc 639) ∷ (9, pos 2000) ∷ (9, pos 2001) ∷ [])
+    ≡ true ∷ false ∷ false ∷ true ∷ true ∷ false ∷ false ∷ true ∷ true ∷ false ∷ false ∷ true
+    ∷ true ∷ false ∷ false ∷ true ∷ []
+unfolding open-all
+row-4 = refl
+
+pub row-4-others : map (λ k. wrongValue (event k 0 (negsuc 32767))) (1 ∷ 4 ∷ 5 ∷ 6 ∷ 8 ∷ []) ≡ replicate 5 false
+unfolding open-all
+row-4-others = refl
+
+-- "Order: 1, 6, 2, 3, 4.": a bus with a sensor in slot 0 and a memory in slot 1, as it is and with a half of 2 in slot 7; memories of 4,096 and of
+-- 4,095 bytes; an event that meets all rows from 2 on, and those that meet fewer
+abbrev good : Bus
+good = record { slots = freshSlot 2 1 ∷ freshSlot 1 1 ∷ replicate 6 absentSlot }
+
+abbrev odd : Bus
+odd = record { slots = set (good .slots) 7 (inHalf 2 absentSlot) }
+
+abbrev answeredAs : Bus → ℕ → Event → ℕ × ℕ
+answeredAs b n e = said (answered e (record { bus = b; memory = replicate n 0xFF }))
+
+pub order :
+    answeredAs odd 4095 (event 0 0 (pos 0)) ∷ answeredAs odd 4096 (event 0 0 (pos 0)) ∷ answeredAs good 4095 (event 0 0 (pos 0)) ∷ answeredAs good 4096 (event 10 9 (pos 9999))
+    ∷ answeredAs good 4096 (event 7 8 (pos 2))
+    ∷ answeredAs good 4096 (event 9 1 (pos 2001))
+    ∷ answeredAs good 4096 (event 7 1 (pos 2))
+    ∷ answeredAs good 4096 (event 9 0 (pos 2001))
+    ∷ answeredAs good 4096 (event 2 9 (pos 256))
+    ∷ answeredAs good 4096 (event 2 9 (pos 255))
+    ∷ []
+    ≡ (0x52, 1) ∷ (0x52, 6) ∷ (0x52, 1) ∷ (0x52, 2) ∷ (0x52, 3) ∷ (0x52, 3) ∷ (0x52, 4) ∷ (0x52, 4) ∷ (0x52, 4) ∷ (0x4E, 0) ∷ []
+unfolding open-all letterOf valueOf refusalNumber
+order = refl
+
+-- row 5: "a slot kind not 0..2, or a present slot's length not 1..5": kind and length
+abbrev pair : ℕ × ℕ → Pair
+pair p = record { kind = p .0; length = p .1 }
+
+pub row-5 : map (λ p. goodPair (pair p)) ((0, 0) ∷ (0, 6) ∷ (0, 255) ∷ (1, 0) ∷ (1, 1) ∷ (1, 5) ∷ (1, 6) ∷ (2, 0) ∷ (2, 1) ∷ (2, 5) ∷ (2, 6) ∷ (3, 1) ∷ (255, 1) ∷ [])
+    ≡ true ∷ true ∷ true ∷ false ∷ true ∷ true ∷ false ∷ false ∷ true ∷ true ∷ false ∷ false ∷ false ∷ []
+unfolding open-all
+row-5 = refl
+
+-- "the length of an absent slot is ignored and kept as 0"
+pub lengths-kept : map (λ p. setupSlot (pair p) .length) ((0, 4) ∷ (1, 4) ∷ (2, 5) ∷ []) ≡ 0 ∷ 4 ∷ 5 ∷ []
+unfolding open-all
+lengths-kept = refl
+
+-- row 6, number by number: the slot with that number in it is in range
+abbrev present : Slot
+present = freshSlot 2 3
+
+abbrev sensed : (ℕ → Sensor → Sensor) → ℕ → Slot
+sensed f n = withSensor (f n freshSensor) present
+
+pub row-6-kind : map (λ (p : ℕ × ℕ). slotInRange (freshSlot (p .0) (p .1))) ((0, 0) ∷ (1, 1) ∷ (2, 1) ∷ (3, 1) ∷ (255, 1) ∷ []) ≡ true ∷ true ∷ true ∷ false ∷ false ∷ []
+unfolding open-all
+row-6-kind = refl
+
+pub row-6-length : map (λ (p : ℕ × ℕ). slotInRange (freshSlot (p .0) (p .1))) ((1, 0) ∷ (1, 1) ∷ (2, 5) ∷ (2, 6) ∷ (0, 0) ∷ (0, 1) ∷ []) ≡ false ∷ true ∷ true ∷ false ∷ true ∷ false ∷ []
+unfolding open-all
+row-6-length = refl
+
+pub row-6-left : map (λ n. slotInRange (withLeft n present)) (0 ∷ 1 ∷ 3 ∷ 4 ∷ 5 ∷ []) ≡ true ∷ true ∷ true ∷ false ∷ false ∷ []
+unfolding open-all
+row-6-left = refl
+
+pub row-6-half : map (λ n. slotInRange (inHalf n present)) (0 ∷ 1 ∷ 2 ∷ []) ≡ true ∷ true ∷ false ∷ []
+unfolding open-all
+row-6-half = refl
+
+pub row-6-counter : map (λ n. slotInRange (atCounter n present)) (0 ∷ 255 ∷ 256 ∷ []) ≡ true ∷ true ∷ false ∷ []
+unfolding open-all
+row-6-counter = refl
+
+pub row-6-offset : map (λ n. slotInRange (placed n present)) (0 ∷ 15 ∷ 16 ∷ []) ≡ true ∷ true ∷ false ∷ []
+unfolding open-all
+row-6-offset = refl
+
+pub row-6-pointer : map (λ n. slotInRange (sensed pointing n)) (0x00 ∷ 0x09 ∷ 0x0A ∷ []) ≡ true ∷ true ∷ false ∷ []
+unfolding open-all
+row-6-pointer = refl
+
+-- registers: all kept bits, and each bit that is not kept
+pub row-6-configuration : map (λ n. slotInRange (sensed withConfiguration n)) (0x07CF ∷ 0x0010 ∷ 0x0020 ∷ 0x0800 ∷ 0x1000 ∷ 0x2000 ∷ 0x4000 ∷ 0x8000 ∷ []) ≡ true ∷ replicate 7 false
+unfolding open-all
+row-6-configuration = refl
+
+abbrev limitTries : List ℕ
+limitTries = 0x1FFC ∷ 0x0001 ∷ 0x0002 ∷ 0x2000 ∷ 0x4000 ∷ 0x8000 ∷ []
+
+pub row-6-limits : map (λ (f : ℕ → Sensor → Sensor). map (λ n. slotInRange (sensed f n)) limitTries) (withHigh ∷ withLow ∷ withCritical ∷ []) ≡ replicate 3 (true ∷ replicate 5 false)
+unfolding open-all
+row-6-limits = refl
+
+-- "(in 05h all 16 are in range)"
+pub row-6-temperature : slotInRange (sensed withTemperature 0xFFFF) ≡ true
+unfolding open-all
+row-6-temperature = refl
+
+pub row-6-resolution : map (λ n. slotInRange (sensed withResolution n)) (0x03 ∷ 0x04 ∷ 0x08 ∷ 0x80 ∷ []) ≡ true ∷ false ∷ false ∷ false ∷ []
+unfolding open-all
+row-6-resolution = refl
+
+pub row-6-timeout : map (λ n. slotInRange (sensed withTimeout n)) (0x01 ∷ 0x02 ∷ 0x80 ∷ []) ≡ true ∷ false ∷ false ∷ []
+unfolding open-all
+row-6-timeout = refl
+
+-- "adds no other cause": the word has no range
+pub row-6-word : slotInRange (sensed withWord 0xFFFF) ≡ true
+unfolding open-all
+row-6-word = refl

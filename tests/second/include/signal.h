@@ -1,0 +1,2 @@
+#pragma once
+#define SIGINT 2

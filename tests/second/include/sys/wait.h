@@ -1,0 +1,6 @@
+#pragma once
+#define WTERMSIG(status) ((status) & 127)
+#define WIFSIGNALED(status) (WTERMSIG(status) != 0 && WTERMSIG(status) != 127)
+struct rusage;
+int waitpid(int, int *, int);
+int wait4(int, int *, int, struct rusage *);
