@@ -10,6 +10,7 @@ ghost use Rattle.rules.specs.Modelled.{memoryBytes};
 ghost use Rattle.rules.specs.Refusals.{inRange, emptyBus, setupOf};
 ghost use Rattle.records.specs.Records.{pairsOf};
 ghost use Rattle.lines.specs.Steps.{beginOf, runOf, turnOf, finishOf};
+use rules::Answer;
 use rules::Bus;
 use rules::Outcome;
 use rules::Slot;
@@ -87,17 +88,19 @@ fn run(bus: Bus, mem: &mut [u8], records: &[u8], out: &mut [u8]) -> Ran
     ensures { λ r. ⌜ runOf (record { bus = bus; memory = now (mem .entry) }) (now (records .entry)) (now (out .entry)) ≡ (r, now (mem .exit), now (out .exit)) ⌝ }
 {
     let count = records.len() / 4;
-    let mut state = bus;
+    let mut x = Outcome {
+        bus,
+        answer: Answer::Nothing,
+    };
     let mut end = 0;
     for i in 0..count {
         let e = records::record_at(records, 4 * i);
-        let x = bus::event_in_range(state, mem, e);
-        let next = x.bus;
+        x = bus::event_in_range(x.bus, mem, e);
         let answer = x.answer;
         end = letters::put_line(out, end, answer);
-        state = next;
     }
-    Ran { bus: state, end }
+    let last = x.bus;
+    Ran { bus: last, end }
 }
 
 // A record that is cut: its bytes, from `from` on, go to the front of the buffer, where the rest of it will follow.
