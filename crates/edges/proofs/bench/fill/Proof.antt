@@ -1,0 +1,29 @@
+-- The memory keeps its length.
+-- Assumes nothing.
+use mathlib.Core.Path.{_≡_}
+use Prim.Native.Nat.{_≤_, _-_}
+use borrow.Author.Needs.{needs}
+use lib.ListN.{length}
+use Rattle.edges.proofs.bench.fill.Statement.{statement}
+use Rattle.edges.proofs.bench.fill.Tie as tie
+
+abbrev Inv-loop : tie.InvT-loop
+Inv-loop mem₀ i₀ mem i = (i ≤ length mem₀) × (length mem ≡ length mem₀)
+
+abbrev μ-loop : tie.MeasureT-loop
+μ-loop mem₀ i₀ mem i = length mem₀ - i
+
+pub fill-spec : {M : Type 1} → statement M
+fill-spec =
+    tie.close
+    (tie.spec
+    Inv-loop
+    μ-loop
+    (λ c. search needs)
+    (λ c κs. search needs)
+    (λ c. search needs)
+    (λ c. search needs)
+    (λ c. search needs)
+    (λ c. search needs)
+    (λ c. search needs)
+    (λ c. search needs))
