@@ -1,4 +1,5 @@
 // Handed-in states that pass row 6. Each line: the slots as they are handed in, the events with their answers, and what is then looked at.
+use crate::alike;
 use crate::bench;
 use crate::play;
 use crate::say;
@@ -497,4 +498,80 @@ pub fn sensors() {
         5,
     );
     flags();
+}
+
+// ---- what is let go, and what is not touched
+
+// An absent slot in a memory read after one event.
+fn untouched(kind: u8) {
+    let mut mem = bench::memory();
+    say::text(b"  slot 1 (absent, half 1, counter 10h) in a memory read:");
+    let a = bus(1, Phase::MemoryRead, Besides::At(1, 0x10));
+    let b = play::act(a, &mut mem, kind);
+    if alike::slots(bench::slot(a, 1), bench::slot(b, 1)) {
+        say::text(b" slot 1 as it was\n");
+        return;
+    }
+    say::text(b" slot 1 CHANGED\n");
+}
+
+// A write that is left before its stop, beside a cycle.
+fn abandoned(kind: u8) {
+    let mut mem = bench::memory();
+    say::text(b"  slot 3 in a memory write, 5Ah latched for 15h, one tick left:");
+    let a = play::act(
+        bus(3, Phase::MemoryData, Besides::Latched(1)),
+        &mut mem,
+        kind,
+    );
+    tick(a, &mut mem);
+    say::text(b"\n");
+}
+
+// A protect that is left before its stop, beside a cycle.
+fn dropped(kind: u8) {
+    let mut mem = bench::memory();
+    say::text(b"  slot 2 in a protect of block 3, at the data byte, one tick left:");
+    let a = play::act(
+        bus(2, Phase::CommandData, Besides::Coming(1)),
+        &mut mem,
+        kind,
+    );
+    two_ticks(a, &mut mem);
+}
+
+// The byte that loads the counter, with a byte latched.
+fn loaded() {
+    let mut mem = bench::memory();
+    say::text(b"  slot 3 in a memory write, at the counter, 5Ah latched for 15h:");
+    let a = play::byte(
+        bus(3, Phase::MemoryCounter, Besides::Latched(0)),
+        &mut mem,
+        0x10,
+    );
+    let b = play::act(a, &mut mem, 4);
+    let c = tick(b, &mut mem);
+    let d = tick(c, &mut mem);
+    tick(d, &mut mem);
+    say::text(b"\n");
+}
+
+pub fn absent_untouched() {
+    untouched(1);
+    untouched(3);
+    untouched(4);
+    untouched(5);
+    untouched(6);
+    untouched(8);
+}
+
+pub fn let_go() {
+    abandoned(1);
+    abandoned(3);
+    abandoned(5);
+    dropped(1);
+    dropped(3);
+    dropped(4);
+    dropped(5);
+    loaded();
 }

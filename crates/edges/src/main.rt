@@ -39,6 +39,11 @@ fn handed_in() {
     handed::writes();
     handed::commands();
     handed::sensors();
+    say::text(
+        b"Absent slots are touched by no event, and an exchange lets go what it holds beside a write cycle too\n",
+    );
+    handed::absent_untouched();
+    handed::let_go();
 }
 
 fn main() {
