@@ -1,4 +1,4 @@
--- What was read lies in the text.
+-- The text lies in the line.
 -- Assumes nothing.
 use native.Mathlib.Omega.{arith}
 use borrow.Author.Needs.{needs}
@@ -10,13 +10,14 @@ pub piece-spec : {M : Type 1} → statement M
 piece-spec =
     tie.close
     (tie.spec
+    (λ c κs. search needs)
     (λ c. simp length-take (omega arith))
+    (λ c κs. search needs)
     (λ c κs. search needs)
     (λ c. search needs)
     (λ c. search needs)
-    (λ c. simp length-take (omega arith))
-    (λ c κs. search needs)
     (λ c. search needs)
+    (λ c κs. search needs)
     (λ c κs. search needs)
     (λ c. search needs)
     (λ c κs. search needs)
