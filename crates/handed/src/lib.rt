@@ -1,6 +1,7 @@
-// What the tries of `edges` hand in: the numbers of a slot, of a setup and of an event. The numbers of a slot are counted 1 to 57: kind, length,
+// What the tries of `edges` hand in: a memory, and the numbers of a slot, of a setup and of an event. The numbers of a slot are counted 1 to 57: kind, length,
 // ticks left, half, counter, place, voltage and phase, protection from 9, what is to come from 13, the latch from 17 and its marks from 33,
 // and the sensor from 49.
+ghost use Prim.Native.Nat.{_≤_};
 use rules::Event;
 use rules::Pair;
 use rules::Phase;
@@ -165,24 +166,6 @@ fn poke(s: Slot, k: usize, v: u16) -> Slot {
     }
 }
 
-// Whether two slots hold the same, number by number.
-fn same(a: Slot, b: Slot) -> bool {
-    let mut all = true;
-    for k in 1..58usize {
-        all = all & (peek(a, k) == peek(b, k));
-    }
-    all
-}
-
-// Which slots differ.
-pub fn differing(a: [Slot; 8], b: [Slot; 8]) -> [bool; 8] {
-    let mut all = [false; 8];
-    for i in 0..8usize {
-        all[i] = !same(a[i], b[i]);
-    }
-    all
-}
-
 // Where what a word names begins in a slot; 0 for nothing that a slot holds.
 pub fn place(word: u32) -> usize {
     match word {
@@ -278,5 +261,29 @@ fn said(kind: u32, slot: u32, value: u32) -> Event {
         kind: (kind % 256) as u8,
         slot: SlotNo((slot % 256) as u8),
         value: signed(value),
+    }
+}
+
+// The byte at a place: its slot in the high digit; in the low one its block, and 8 more if it is the block's last byte, 4 more if it is
+// neither first nor last.
+fn pattern(at: usize) -> u8 {
+    let slot = (at / 512 % 16) as u8;
+    let block = (at / 128 % 4) as u8;
+    16 * slot + block + edge(at % 128)
+}
+
+fn edge(i: usize) -> u8
+    ensures { λ r. ⌜ r ≤ 8 ⌝ }
+{
+    match i {
+        0 => 0,
+        127 => 8,
+        _ => 4,
+    }
+}
+
+pub fn fill(mem: &mut [u8; 8192]) {
+    for i in 0..8192usize {
+        mem[i] = pattern(i);
     }
 }

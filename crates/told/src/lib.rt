@@ -114,12 +114,21 @@ pub fn answer(a: Answer) {
     }
 }
 
+// Whether two slots hold the same, number by number.
+fn same(a: Slot, b: Slot) -> bool {
+    let mut all = true;
+    for k in 1..58usize {
+        all = all & (handed::peek(a, k) == handed::peek(b, k));
+    }
+    all
+}
+
 // What an event changed: slots by their numbers, and the memory.
-pub fn changes(slots: [bool; 8], memory: bool) {
+pub fn changes(was: [Slot; 8], now: [Slot; 8], memory: bool) {
     let mut none = !memory;
     text(b",");
     for i in 0..8usize {
-        if slots[i] {
+        if !same(was[i], now[i]) {
             text(b" ");
             number(i as u64);
             none = false;

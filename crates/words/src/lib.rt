@@ -2,6 +2,7 @@
 ghost use Prim.Native.Nat.{_≤_};
 ghost use lib.ListN.{length};
 use libc::STDIN_FILENO;
+use libc::STDOUT_FILENO;
 
 // Every word, in the order of its number: the commands, the last nine of them the events in the order of their kinds; what a slot holds; and
 // from PHASES on the phases.
@@ -112,7 +113,7 @@ fn number(text: &[u8], at: usize) -> u32 {
     digits(text, at, text.len(), false)
 }
 
-// A number below zero is kept in two's complement; a heading begins with nothing.
+// A number below zero is kept in two's complement; a word that begins with # is nothing.
 fn token(text: &[u8]) -> u32 {
     if text.len() == 0 {
         return MISSING;
@@ -135,7 +136,11 @@ fn token(text: &[u8]) -> u32 {
 }
 
 // The words and numbers of a command, up to eighteen.
-pub fn tokens(text: &[u8]) -> [u32; 18] {
+fn tokens(line: &[u8; 150], size: usize) -> [u32; 18]
+    requires { ⌜ size ≤ 150 ⌝ }
+{
+    let whole: &[u8] = line;
+    let text = &whole[..size];
     let mut all = [MISSING; 18];
     let mut at = 0;
     for i in 0..18usize {
@@ -146,33 +151,34 @@ pub fn tokens(text: &[u8]) -> [u32; 18] {
     all
 }
 
-// How many numbers a command takes; it has no other words.
-fn count(verb: usize) -> usize {
+// How many numbers a command takes; 99 for what is none.
+fn count(verb: u32) -> usize {
     match verb {
-        1 => 16,
-        2 | 4 | 9 | 10 => 1,
-        5 | 6 | 14 | 16 => 2,
-        7 => 3,
-        _ => 0,
+        65537 => 16,
+        65538 | 65540 | 65545 | 65546 => 1,
+        65541 | 65542 | 65550 | 65552 => 2,
+        65543 => 3,
+        65544..=65551 => 0,
+        _ => 99,
     }
 }
 
 // How large its last number may be.
-fn most(verb: usize) -> u32 {
+fn most(verb: u32) -> u32 {
     match verb {
-        2 => 8192,
-        4 => 7,
-        5 => 511,
-        1 | 6 => 255,
+        65537 | 65542 => 255,
+        65538 => 8192,
+        65540 => 7,
+        65541 => 511,
         _ => 65535,
     }
 }
 
 // Whether a command has the numbers that it takes, and no more; those before the last are bytes.
-pub fn is_whole(verb: usize, t: [u32; 18]) -> bool {
-    let n = count(verb);
-    let top = most(verb);
-    let mut ok = verb < 17;
+pub fn is_whole(t: [u32; 18]) -> bool {
+    let n = count(t[0]);
+    let top = most(t[0]);
+    let mut ok = n < 18;
     for i in 1..18usize {
         let v = t[i];
         ok = ok & (((i < n) & (v < 256)) | ((i == n) & (v <= top)) | ((n < i) & (v == MISSING)));
@@ -180,13 +186,19 @@ pub fn is_whole(verb: usize, t: [u32; 18]) -> bool {
     ok
 }
 
-// A command or a heading as it came: how long it is, and the byte behind it, a semicolon or a line's end; 0 where the input ends.
-pub struct Piece {
-    pub length: usize,
+// The words of a command, and the byte behind it: a semicolon or a line's end; 0 where the input ends.
+pub struct Said {
+    pub words: [u32; 18],
     pub end: u8,
 }
 
-// One more byte, where there is place for it; else the text is none that is understood.
+// How much of a command was read, and the byte behind it.
+struct Piece {
+    length: usize,
+    end: u8,
+}
+
+// One more byte, where there is place for it; a text that is too long is none that is understood.
 fn put(text: &mut [u8; 150], n: usize, b: u8) -> usize
     ensures { λ r. ⌜ r ≤ 150 ⌝ }
 {
@@ -204,8 +216,8 @@ fn next() -> u8 {
     one[0]
 }
 
-// A proved loop has to end, so it counts down from a number that no input uses up.
-pub fn read(text: &mut [u8; 150]) -> Piece
+// A command is written as it is read. A proved loop has to end, so it counts down from a number that no input uses up.
+fn read(text: &mut [u8; 150]) -> Piece
     ensures { λ r. ⌜ r .length ≤ 150 ⌝ }
 {
     let mut length = 0;
@@ -216,8 +228,19 @@ pub fn read(text: &mut [u8; 150]) -> Piece
         if ((end == b';') & (text[0] != b'#')) | (end == b'\n') | (end == 0) {
             return Piece { length, end };
         }
+        io::write_all(STDOUT_FILENO, &[end]);
         length = put(text, length, end);
         turns -= 1;
     }
     Piece { length, end: 0 }
+}
+
+// The next command of the input, or a heading, which has no words.
+pub fn listen() -> Said {
+    let mut text = [0u8; 150];
+    let p = read(&mut text);
+    Said {
+        words: tokens(&text, p.length),
+        end: p.end,
+    }
 }

@@ -5,10 +5,10 @@ use Rattle.edges.proofs.main.Statement.{statement}
 use Rattle.edges.proofs.main.Tie as tie
 
 abbrev Inv-loop : tie.InvT-loop
-Inv-loop mem₀ text₀ b₀ first₀ turns₀ mem text b first turns = Unit {0}
+Inv-loop mem₀ b₀ first₀ turns₀ mem b first turns = Unit {0}
 
 abbrev μ-loop : tie.MeasureT-loop
-μ-loop mem₀ text₀ b₀ first₀ turns₀ mem text b first turns = turns
+μ-loop mem₀ b₀ first₀ turns₀ mem b first turns = turns
 
 pub main-spec : {M : Type 1} → statement M
 main-spec =

@@ -6,10 +6,10 @@ use Rattle.told.proofs.changes.Statement.{statement}
 use Rattle.told.proofs.changes.Tie as tie
 
 abbrev Inv-loop : tie.InvT-loop
-Inv-loop memory slots none₀ i₀ t7 t8 t9 t10 none i = i ≤ 8
+Inv-loop memory was now none₀ i₀ t9 t10 t11 t12 none i = i ≤ 8
 
 abbrev μ-loop : tie.MeasureT-loop
-μ-loop memory slots none₀ i₀ t7 t8 t9 t10 none i = 8 - i
+μ-loop memory was now none₀ i₀ t9 t10 t11 t12 none i = 8 - i
 
 pub changes-spec : {M : Type 1} → statement M
 changes-spec =
@@ -21,6 +21,10 @@ changes-spec =
     (λ c κs. search needs)
     (λ c. search needs)
     (λ c. search needs)
+    (λ c. search needs)
+    (λ c. search needs)
+    (λ c. search needs)
+    (λ c κs. search needs)
     (λ c. search needs)
     (λ c κs. search needs)
     (λ c κs. search needs)

@@ -6,10 +6,10 @@ use Rattle.words.proofs.is_whole.Statement.{statement}
 use Rattle.words.proofs.is_whole.Tie as tie
 
 abbrev Inv-loop : tie.InvT-loop
-Inv-loop verb t n top ok₀ i₀ ok i = i ≤ 18
+Inv-loop t n top ok₀ i₀ ok i = i ≤ 18
 
 abbrev μ-loop : tie.MeasureT-loop
-μ-loop verb t n top ok₀ i₀ ok i = 18 - i
+μ-loop t n top ok₀ i₀ ok i = 18 - i
 
 pub is-whole-spec : {M : Type 1} → statement M
 is-whole-spec =
@@ -17,7 +17,9 @@ is-whole-spec =
     (tie.spec
     Inv-loop
     μ-loop
+    (λ c. search needs)
     (λ c κs. search needs)
+    (λ c. search needs)
     (λ c κs. search needs)
     (λ c. search needs)
     (λ c. search needs)

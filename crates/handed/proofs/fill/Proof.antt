@@ -2,8 +2,8 @@
 -- Assumes nothing.
 use Prim.Native.Nat.{_≤_, _-_}
 use borrow.Author.Needs.{needs}
-use Rattle.edges.proofs.fill.Statement.{statement}
-use Rattle.edges.proofs.fill.Tie as tie
+use Rattle.handed.proofs.fill.Statement.{statement}
+use Rattle.handed.proofs.fill.Tie as tie
 
 abbrev Inv-loop : tie.InvT-loop
 Inv-loop mem₀ i₀ mem i = i ≤ 8192

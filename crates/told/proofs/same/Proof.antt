@@ -2,8 +2,8 @@
 -- Assumes nothing.
 use Prim.Native.Nat.{_≤_, _-_}
 use borrow.Author.Needs.{needs}
-use Rattle.handed.proofs.same.Statement.{statement}
-use Rattle.handed.proofs.same.Tie as tie
+use Rattle.told.proofs.same.Statement.{statement}
+use Rattle.told.proofs.same.Tie as tie
 
 abbrev Inv-loop : tie.InvT-loop
 Inv-loop a b all₀ k₀ all k = k ≤ 58
