@@ -1,52 +1,145 @@
-// Tries what no script can reach: the public entries with memories of other lengths, with states out of range, and with states that no run
-// from setup leads to. It says what it got in words; `stdout` has what document 01 asks for.
-mod alike;
-mod bench;
-mod handed;
-mod numbers;
-mod order;
-mod play;
-mod reader;
-mod say;
-mod setups;
-mod tries;
+// A bench for what no script can reach: it reads tries, hands in the states and memories that they ask for, and writes each command with what
+// came of it. `stdin` says what a line may hold, and `stdout` has what document 01 asks for.
+ghost use Prim.Native.Nat.{_≤_};
+use rules::BlockNo;
+use rules::Bus;
+use rules::Event;
+use rules::Outcome;
+use rules::Pair;
+use rules::Slot;
+use rules::SlotNo;
+use words::MISSING;
 
-fn refusals() {
-    say::text(b"Memories of other lengths: a start, and the reader on block 2 of slot 3\n");
-    reader::lengths();
-    say::text(
-        b"The reader on every slot and on blocks 0, 1, 2, 3, 4 and 255: the part's length, its first and its last byte\n",
-    );
-    reader::every_block();
-    say::text(
-        b"Each number of a state, inside its range and outside: a start, and the reader on block 2 of slot 3\n",
-    );
-    numbers::all();
-    say::text(b"Events in range and out of range\n");
-    order::all();
-    say::text(b"The same out of range, on a bus with half 2 in slot 7\n");
-    order::wrong_states();
-    say::text(b"The same, and a memory of 4095 bytes\n");
-    order::wrong_memories();
-    say::text(b"Setups\n");
-    setups::all();
+// The pairs of the last setup, the slots as they stand, and how long the memory is.
+struct Bench {
+    pairs: [Pair; 8],
+    slots: [Slot; 8],
+    length: usize,
 }
 
-fn handed_in() {
-    say::text(b"States in range that no run from setup leads to, used as they stand\n");
-    handed::reads();
-    handed::deaf();
-    handed::writes();
-    handed::commands();
-    handed::sensors();
-    say::text(
-        b"Absent slots are touched by no event, and an exchange lets go what it holds beside a write cycle too\n",
-    );
-    handed::absent_untouched();
-    handed::let_go();
+// What a try begins with: the bus of the last setup, and a memory of 4096 bytes.
+fn anew(pairs: [Pair; 8], mem: &mut [u8; 8192]) -> Bench {
+    handed::fill(mem);
+    let made = bus::setup(pairs);
+    let bus = made.bus;
+    let slots = bus.slots;
+    Bench {
+        pairs,
+        slots,
+        length: 4096,
+    }
 }
 
+fn setup(b: Bench, t: [u32; 18]) -> Bench {
+    let pairs = words::pairs(t);
+    let made = bus::setup(pairs);
+    let answer = made.answer;
+    told::answer(answer);
+    let bus = made.bus;
+    let slots = bus.slots;
+    Bench {
+        pairs,
+        slots,
+        length: b.length,
+    }
+}
+
+// From now on the memory is its first n bytes.
+fn memory(old: Bench, n: u32) -> Bench {
+    let mut b = old;
+    b.length = n as usize;
+    b
+}
+
+// Numbers of a slot are handed in.
+fn slot(old: Bench, t: [u32; 18]) -> Bench {
+    let slots = old.slots;
+    let h = handed::hand_in(slots, t);
+    if !h.ok {
+        told::text(b": NOT UNDERSTOOD");
+        return old;
+    }
+    let next = h.slots;
+    let mut b = old;
+    b.slots = next;
+    b
+}
+
+fn least(a: usize, b: usize) -> usize
+    ensures { λ r. ⌜ r ≤ b ⌝ }
+{
+    if a < b { a } else { b }
+}
+
+// An event on the bus with the first `length` bytes.
+fn event(slots: [Slot; 8], mem: &mut [u8], length: usize, e: Event) -> Outcome {
+    let n = least(length, mem.len());
+    bus::event(Bus { slots }, &mut mem[..n], e)
+}
+
+// An event, and what came of it.
+fn act(b: Bench, mem: &mut [u8; 8192], e: Event) -> Bench {
+    let was = b.slots;
+    let old = *mem;
+    let out = event(was, mem, b.length, e);
+    told::came(out, was, &old, mem);
+    let bus = out.bus;
+    let slots = bus.slots;
+    let mut next = b;
+    next.slots = slots;
+    next
+}
+
+fn block(slots: [Slot; 8], mem: &[u8], length: usize, n: u32, k: u32) {
+    let end = least(length, mem.len());
+    let s = SlotNo((n % 256) as u8);
+    let b = BlockNo((k % 256) as u8);
+    told::part(bus::block(&mem[..end], Bus { slots }, s, b));
+}
+
+// What looks, and leaves all as it is.
+fn look(slots: [Slot; 8], mem: &[u8; 8192], length: usize, t: [u32; 18]) {
+    match t[0] {
+        words::SHOW => told::slot(slots, t[1]),
+        words::AT => told::at(mem, t[1], t[2]),
+        _ => block(slots, mem, length, t[1], t[2]),
+    }
+}
+
+// A command, if it is understood.
+fn run(b: Bench, mem: &mut [u8; 8192], t: [u32; 18]) -> Bench {
+    match t[0] {
+        words::SETUP => setup(b, t),
+        words::MEMORY => memory(b, t[1]),
+        words::SLOT => slot(b, t),
+        words::SHOW..=words::BLOCK => {
+            let slots = b.slots;
+            look(slots, mem, b.length, t);
+            b
+        }
+        words::EVENT..=words::TEMPERATURE => act(b, mem, words::event(t)),
+        _ => b,
+    }
+}
+
+// The first command of a line begins anew, unless it is `then`. A proved loop has to end, so it counts down from a number that no input uses up.
 fn main() {
-    refusals();
-    handed_in();
+    let mut mem = [0u8; 8192];
+    let mut b = anew([Pair { kind: 0, length: 0 }; 8], &mut mem);
+    let mut end: u8 = 0;
+    let mut turns = u64::MAX;
+    while 0 < turns {
+        let s = words::listen(end);
+        let t = s.words;
+        if (end != b';') & (t[0] != MISSING) {
+            let pairs = b.pairs;
+            b = anew(pairs, &mut mem);
+        }
+        b = run(b, &mut mem, t);
+        end = s.end;
+        if end == 0 {
+            return;
+        }
+        turns -= 1;
+    }
 }
