@@ -1,13 +1,10 @@
-// What the tries of `edges` hand in: a memory, and the numbers of a slot, of a setup and of an event. The numbers of a slot are counted 1 to 57: kind, length,
+// What the tries of `edges` hand in: a memory, and numbers of a slot. These are counted 1 to 57: kind, length,
 // ticks left, half, counter, place, voltage and phase, protection from 9, what is to come from 13, the latch from 17 and its marks from 33,
 // and the sensor from 49.
 ghost use Prim.Native.Nat.{_≤_};
-use rules::Event;
-use rules::Pair;
 use rules::Phase;
 use rules::Sensor;
 use rules::Slot;
-use rules::SlotNo;
 use words::MISSING;
 use words::UNKNOWN;
 use words::WORD;
@@ -167,20 +164,22 @@ fn poke(s: Slot, k: usize, v: u16) -> Slot {
 }
 
 // Where what a word names begins in a slot; 0 for nothing that a slot holds.
-pub fn place(word: u32) -> usize {
+fn place(word: u32) -> usize {
     match word {
-        65548 => 56,
-        65550 => 7,
-        65552 => 54,
+        words::TIMEOUT => 56,
+        words::VOLTAGE => 7,
+        words::TEMPERATURE => 54,
+        // kind, length, left, half, counter, place
         65553..=65558 => word as usize - 65552,
-        65559 => 8,
-        65560 => 9,
-        65561 => 13,
-        65562 => 17,
-        65563 => 33,
+        words::PHASE => 8,
+        words::PROTECTION => 9,
+        words::COMING => 13,
+        words::LATCH => 17,
+        words::MARK => 33,
+        // pointer, configuration, high, low, critical
         65564..=65568 => word as usize - 65515,
-        65569 => 55,
-        65570 => 57,
+        words::RESOLUTION => 55,
+        words::HELD => 57,
         _ => 0,
     }
 }
@@ -196,14 +195,19 @@ fn bound(k: usize) -> u32 {
     }
 }
 
-// A slot with what a command hands in, and whether all of it is there and fits.
+// The slots with what a command hands in, and whether all of it is there and fits.
 pub struct Handed {
-    pub slot: Slot,
+    pub slots: [Slot; 8],
     pub ok: bool,
 }
 
+struct One {
+    slot: Slot,
+    ok: bool,
+}
+
 // A name, and the numbers that go there and behind.
-pub fn hand_in(old: Slot, t: [u32; 18]) -> Handed {
+fn numbers(old: Slot, t: [u32; 18]) -> One {
     let mut slot = old;
     let mut ok = (t[3] < WORD) & (t[17] == MISSING);
     let mut at = 0;
@@ -218,50 +222,22 @@ pub fn hand_in(old: Slot, t: [u32; 18]) -> Handed {
             at = place(v);
         }
     }
-    Handed { slot, ok }
+    One { slot, ok }
 }
 
-pub fn pairs(t: [u32; 18]) -> [Pair; 8] {
-    let mut all = [Pair { kind: 0, length: 0 }; 8];
-    for i in 0..8usize {
-        all[i] = Pair {
-            kind: (t[2 * i + 1] % 256) as u8,
-            length: (t[2 * i + 2] % 256) as u8,
+pub fn hand_in(old: [Slot; 8], t: [u32; 18]) -> Handed {
+    let n = t[1] as usize;
+    if 7 < n {
+        return Handed {
+            slots: old,
+            ok: false,
         };
     }
-    all
-}
-
-// A value in two's complement.
-fn signed(v: u32) -> i16 {
-    let n = (v % 65536) as u16;
-    if n < 32768 {
-        return n as i16;
-    }
-    !((65535 - n) as i16)
-}
-
-// The event that a command asks for, by its name or by its numbers.
-pub fn event(t: [u32; 18]) -> Event {
-    let verb = t[0];
-    if verb == 65543 {
-        return said(t[1], t[2], t[3]);
-    }
-    match verb {
-        65545 => said(2, 0, t[1]),
-        65546 => said(3, 0, t[1]),
-        65550 => said(7, t[1], t[2]),
-        65552 => said(9, t[1], t[2]),
-        _ => said(verb % 65543, 0, 0),
-    }
-}
-
-fn said(kind: u32, slot: u32, value: u32) -> Event {
-    Event {
-        kind: (kind % 256) as u8,
-        slot: SlotNo((slot % 256) as u8),
-        value: signed(value),
-    }
+    let mut slots = old;
+    let one = numbers(slots[n], t);
+    let s = one.slot;
+    slots[n] = s;
+    Handed { slots, ok: one.ok }
 }
 
 // The byte at a place: its slot in the high digit; in the low one its block, and 8 more if it is the block's last byte, 4 more if it is

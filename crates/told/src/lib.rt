@@ -1,6 +1,7 @@
 // What `edges` tells of its tries.
 use libc::STDOUT_FILENO;
 use rules::Answer;
+use rules::Outcome;
 use rules::Refusal;
 use rules::Slot;
 
@@ -78,7 +79,8 @@ fn entry(all: &[u8], k: usize, v: u16) {
 }
 
 // All of a slot that is not 0.
-pub fn slot(s: Slot) {
+pub fn slot(slots: [Slot; 8], n: u32) {
+    let s = slots[(n % 8) as usize];
     text(b":");
     for k in 1..58usize {
         let v = handed::peek(s, k);
@@ -124,7 +126,7 @@ fn same(a: Slot, b: Slot) -> bool {
 }
 
 // What an event changed: slots by their numbers, and the memory.
-pub fn changes(was: [Slot; 8], now: [Slot; 8], memory: bool) {
+fn changes(was: [Slot; 8], now: [Slot; 8], memory: bool) {
     let mut none = !memory;
     text(b",");
     for i in 0..8usize {
@@ -141,6 +143,15 @@ pub fn changes(was: [Slot; 8], now: [Slot; 8], memory: bool) {
         text(b" nothing");
     }
     text(b" changed");
+}
+
+// What came of an event: the answer, and what it changed.
+pub fn came(out: Outcome, was: [Slot; 8], old: &[u8; 8192], mem: &[u8; 8192]) {
+    let a = out.answer;
+    answer(a);
+    let bus = out.bus;
+    let now = bus.slots;
+    changes(was, now, !check::same(old, mem));
 }
 
 // A block: how long the part is, its first byte and its last.
@@ -161,7 +172,8 @@ fn wide(b: u8) -> u16 {
     b as u16
 }
 
-pub fn byte(b: u8) {
+// The byte at an address of a slot.
+pub fn at(mem: &[u8; 8192], n: u32, i: u32) {
     text(b": ");
-    hex(wide(b));
+    hex(wide(mem[(512 * (n % 16) + i % 512) as usize]));
 }

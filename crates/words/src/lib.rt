@@ -3,6 +3,9 @@ ghost use Prim.Native.Nat.{_≤_};
 ghost use lib.ListN.{length};
 use libc::STDIN_FILENO;
 use libc::STDOUT_FILENO;
+use rules::Event;
+use rules::Pair;
+use rules::SlotNo;
 
 // Every word, in the order of its number: the commands, the last nine of them the events in the order of their kinds; what a slot holds; and
 // from PHASES on the phases.
@@ -11,13 +14,56 @@ pub const ALL: [u8; 413] =
 
 const PHASES: u32 = 35;
 
-// A number is itself, 0 to 65535, and a phase is its number; another word is its place in `ALL` above that. These two stand for what is
-// neither, and for nothing.
+// A number is itself, 0 to 65535, and a phase is its number; another word is its place in `ALL` above that. So `then` stands for nothing, as
+// does a word that is missing. What is neither has a number of its own.
 pub const WORD: u32 = 65536;
+
+pub const MISSING: u32 = WORD;
 
 pub const UNKNOWN: u32 = 70536;
 
-pub const MISSING: u32 = 75536;
+// The words that are asked for by name; HELD is what an exchange with the sensor holds.
+pub const SETUP: u32 = 65537;
+
+pub const MEMORY: u32 = 65538;
+
+pub const SLOT: u32 = 65539;
+
+pub const SHOW: u32 = 65540;
+
+pub const AT: u32 = 65541;
+
+pub const BLOCK: u32 = 65542;
+
+pub const EVENT: u32 = 65543;
+
+pub const START: u32 = 65544;
+
+pub const BYTE: u32 = 65545;
+
+pub const READ: u32 = 65546;
+
+pub const TIMEOUT: u32 = 65548;
+
+pub const VOLTAGE: u32 = 65550;
+
+pub const POWER: u32 = 65551;
+
+pub const TEMPERATURE: u32 = 65552;
+
+pub const PHASE: u32 = 65559;
+
+pub const PROTECTION: u32 = 65560;
+
+pub const COMING: u32 = 65561;
+
+pub const LATCH: u32 = 65562;
+
+pub const MARK: u32 = 65563;
+
+pub const RESOLUTION: u32 = 65569;
+
+pub const HELD: u32 = 65570;
 
 // From `at` on, the first place with a blank, or without one; the end if there is none. A comma is a blank, and so is what is below a space.
 pub fn until(text: &[u8], at: usize, blank: bool) -> usize
@@ -154,11 +200,11 @@ fn tokens(line: &[u8; 150], size: usize) -> [u32; 18]
 // How many numbers a command takes; 99 for what is none.
 fn count(verb: u32) -> usize {
     match verb {
-        65537 => 16,
-        65538 | 65540 | 65545 | 65546 => 1,
-        65541 | 65542 | 65550 | 65552 => 2,
-        65543 => 3,
-        65544..=65551 => 0,
+        SETUP => 16,
+        MEMORY | SHOW | BYTE | READ => 1,
+        AT | BLOCK | VOLTAGE | TEMPERATURE => 2,
+        EVENT => 3,
+        START..=POWER => 0,
         _ => 99,
     }
 }
@@ -166,16 +212,19 @@ fn count(verb: u32) -> usize {
 // How large its last number may be.
 fn most(verb: u32) -> u32 {
     match verb {
-        65537 | 65542 => 255,
-        65538 => 8192,
-        65540 => 7,
-        65541 => 511,
+        SETUP | BLOCK => 255,
+        MEMORY => 8192,
+        SHOW => 7,
+        AT => 511,
         _ => 65535,
     }
 }
 
-// Whether a command has the numbers that it takes, and no more; those before the last are bytes.
-pub fn is_whole(t: [u32; 18]) -> bool {
+// Whether a command has the numbers that it takes, and no more; those before the last are bytes. What a slot is handed is not looked at here.
+fn is_whole(t: [u32; 18]) -> bool {
+    if t[0] == SLOT {
+        return true;
+    }
     let n = count(t[0]);
     let top = most(t[0]);
     let mut ok = n < 18;
@@ -184,6 +233,50 @@ pub fn is_whole(t: [u32; 18]) -> bool {
         ok = ok & (((i < n) & (v < 256)) | ((i == n) & (v <= top)) | ((n < i) & (v == MISSING)));
     }
     ok
+}
+
+// The setup that a command asks for.
+pub fn pairs(t: [u32; 18]) -> [Pair; 8] {
+    let mut all = [Pair { kind: 0, length: 0 }; 8];
+    for i in 0..8usize {
+        all[i] = Pair {
+            kind: (t[2 * i + 1] % 256) as u8,
+            length: (t[2 * i + 2] % 256) as u8,
+        };
+    }
+    all
+}
+
+// A value in two's complement.
+fn signed(v: u32) -> i16 {
+    let n = (v % 65536) as u16;
+    if n < 32768 {
+        return n as i16;
+    }
+    !((65535 - n) as i16)
+}
+
+fn made_of(kind: u32, slot: u32, value: u32) -> Event {
+    Event {
+        kind: (kind % 256) as u8,
+        slot: SlotNo((slot % 256) as u8),
+        value: signed(value),
+    }
+}
+
+// The event that a command asks for, by its name or by its numbers.
+pub fn event(t: [u32; 18]) -> Event {
+    let verb = t[0];
+    if verb == EVENT {
+        return made_of(t[1], t[2], t[3]);
+    }
+    match verb {
+        BYTE => made_of(2, 0, t[1]),
+        READ => made_of(3, 0, t[1]),
+        VOLTAGE => made_of(7, t[1], t[2]),
+        TEMPERATURE => made_of(9, t[1], t[2]),
+        _ => made_of(verb % EVENT, 0, 0),
+    }
 }
 
 // The words of a command, and the byte behind it: a semicolon or a line's end; 0 where the input ends.
@@ -235,12 +328,24 @@ fn read(text: &mut [u8; 150]) -> Piece
     Piece { length, end: 0 }
 }
 
-// The next command of the input, or a heading, which has no words.
-pub fn listen() -> Said {
+// A command that is not understood is said to be so, and has a word that is unknown.
+fn understood(t: [u32; 18]) -> [u32; 18] {
+    if (t[0] == MISSING) | is_whole(t) {
+        return t;
+    }
+    io::write_all(STDOUT_FILENO, b": NOT UNDERSTOOD");
+    [UNKNOWN; 18]
+}
+
+// The byte behind the last command is written, and the next command is read; a heading has no words.
+pub fn listen(before: u8) -> Said {
+    if before != 0 {
+        io::write_all(STDOUT_FILENO, &[before]);
+    }
     let mut text = [0u8; 150];
     let p = read(&mut text);
     Said {
-        words: tokens(&text, p.length),
+        words: understood(tokens(&text, p.length)),
         end: p.end,
     }
 }

@@ -8,8 +8,11 @@ use Rattle.edges.proofs.block.Tie as tie
 
 pub block-spec : {M : Type 1} → statement M
 block-spec =
-    tie.close (tie.spec
+    tie.close
+    (tie.spec
     (λ c κs. search needs)
+    (λ c. search needs)
+    (λ c. search needs)
     (λ c. simp length-take (omega arith))
     (λ c κs. search needs)
     (λ c κs. search needs)

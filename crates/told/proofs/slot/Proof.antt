@@ -6,10 +6,10 @@ use Rattle.told.proofs.slot.Statement.{statement}
 use Rattle.told.proofs.slot.Tie as tie
 
 abbrev Inv-loop : tie.InvT-loop
-Inv-loop s k₀ t5 k = k ≤ 58
+Inv-loop n s k₀ t8 k = k ≤ 58
 
 abbrev μ-loop : tie.MeasureT-loop
-μ-loop s k₀ t5 k = 58 - k
+μ-loop n s k₀ t8 k = 58 - k
 
 pub slot-spec : {M : Type 1} → statement M
 slot-spec =
@@ -17,6 +17,9 @@ slot-spec =
     (tie.spec
     Inv-loop
     μ-loop
+    (λ c. search needs)
+    (λ c. search needs)
+    (λ c. search needs)
     (λ c. search needs)
     (λ c κs. search needs)
     (λ c. search needs)
