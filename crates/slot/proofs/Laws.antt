@@ -26,7 +26,8 @@ use Rattle.rules.proofs.Run.Cases.{absent-next, present-next, byte-next, read-n
 use Rattle.slot.specs.declared.Change.{Change}
 use Rattle.slot.specs.declared.Change.the-variants as change
 use Rattle.slot.specs.declared.Step.{Step}
-use Rattle.slot.specs.Shown.{heardIn, acksAt, drivesAt, partNext, stepped, Silent, Foreseen}
+use Rattle.rules.specs.Exchanges.{partNext}
+use Rattle.slot.specs.Shown.{heardIn, acksAt, drivesAt, stepped, Silent, Foreseen}
 
 -- an exchange that is left in the phase lets something go
 abbrev pub holdsIn : Phase → Bool

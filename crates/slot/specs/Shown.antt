@@ -11,8 +11,8 @@ use Rattle.rules.specs.declared.Heard.the-variants as heard
 use Rattle.rules.specs.declared.Slot.{Slot}
 use Rattle.rules.specs.Control.{heardOf}
 use Rattle.rules.specs.Fields.{inPhase}
-use Rattle.rules.specs.Memory.{tickedPart}
 use Rattle.rules.specs.Slot.{slotNext, acks, drives, driven}
+use Rattle.rules.specs.Exchanges.{partNext}
 use Rattle.slot.specs.declared.Change.{Change}
 use Rattle.slot.specs.declared.Change.the-variants as change
 use Rattle.slot.specs.declared.Step.{Step}
@@ -29,7 +29,7 @@ heardIn (Voltage k on) = heard.Nothing
 heardIn Power = heard.Nothing
 heardIn (Temperature k t) = heard.Nothing
 
--- only a byte is acknowledged, only a read is driven, only a tick reaches the slot's bytes
+-- only a byte is acknowledged, and only a read is driven
 abbrev pub acksAt : Act → ℕ → Slot → Bool
 acksAt Start n s = false
 acksAt (Byte b) n s = acks n b s
@@ -62,17 +62,6 @@ drivenAt Tick m s = 0xFF
 drivenAt (Voltage k on) m s = 0xFF
 drivenAt Power m s = 0xFF
 drivenAt (Temperature k t) m s = 0xFF
-
-unfoldable pub partNext : Act → Slot → List ℕ → List ℕ
-partNext Start s m = m
-partNext (Byte b) s m = m
-partNext (Read more) s m = m
-partNext Stop s m = m
-partNext Timeout s m = m
-partNext Tick s m = tickedPart s m
-partNext (Voltage k on) s m = m
-partNext Power s m = m
-partNext (Temperature k t) s m = m
 
 unfoldable pub stepped : ℕ → Act → List ℕ → Slot → Step
 stepped n a m s = record { slot = slotNext n a s; ack = acksAt a n s; drives = drivesAt a s; byte = drivenAt a m s }

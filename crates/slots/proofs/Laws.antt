@@ -33,7 +33,8 @@ use Rattle.rules.proofs.Range.Rulings.{ruling-by-kinds}
 use Rattle.slot.specs.declared.Change.{Change}
 use Rattle.slot.specs.declared.Change.the-variants as change
 use Rattle.slot.specs.declared.Step.{Step}
-use Rattle.slot.specs.Shown.{acksAt, drivesAt, drivenAt, partNext, stepped, Silent, Foreseen}
+use Rattle.rules.specs.Exchanges.{partNext}
+use Rattle.slot.specs.Shown.{acksAt, drivesAt, drivenAt, stepped, Silent, Foreseen}
 use Rattle.ruling.specs.Kinds.{kindsIn}
 use Rattle.ruling.proofs.Laws.{noSlot}
 use Rattle.slots.specs.Taken.{answerFor, takenThen}

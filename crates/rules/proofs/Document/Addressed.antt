@@ -3,14 +3,17 @@
 -- Assumes nothing.
 use Prim.Native.Nat.{ℕ}
 use mathlib.Core.Path.{_≡_, refl}
-use mathlib.Core.Bool.{false}
-use mathlib.Core.List.{List, [], _∷_, _++_}
+use mathlib.Core.Bool.{Bool, false, not}
+use mathlib.Core.List.{List, [], _∷_, _++_, map}
+use lib.Dec.{eqb}
+use lib.IntN.{ℤ}
 use lib.ListN.{getD, replicate}
+use Rattle.rules.specs.declared.SlotNo.{SlotNo}
 use Rattle.rules.specs.Fresh.{absentSlot}
 use Rattle.rules.specs.Refusals.{setupOf}
 use Rattle.rules.specs.Runs.{Bench}
 use Rattle.rules.specs.Exchanges as Exchanges
-use Rattle.rules.specs.Exchanges.{went, flatten, struck, again, byte, Item, exchange}
+use Rattle.rules.specs.Exchanges.{went, flatten, strayByte, strayRead, strayStop, timeout, tick, voltage, power, temperature, struckGap, struck, again, byte, Item, exchange}
 use Rattle.rules.specs.Open.{open-all}
 
 unfoldable open-items : Unit {0}
@@ -53,3 +56,11 @@ command-reaches-all = record { kept = refl; done = refl; undone = refl }
 pub second-control-byte : Reaches 1 calls-two counterAfter [] 0x05 0x00
 unfolding open-items
 second-control-byte = record { kept = refl; done = refl; undone = refl }
+
+-- "the pin and temperature events of other slots" are struck out between exchanges, and nothing else: shared events keep their place, and so do
+-- stray bytes, reads and stops, for every slot
+pub between-exchanges : (s : ℕ) (k : SlotNo) (on : Bool) (t : ℤ)
+    → map (struckGap s) (strayByte 0xA0 ∷ strayRead on ∷ strayStop ∷ timeout ∷ tick ∷ power ∷ voltage k on ∷ temperature k t ∷ [])
+    ≡ false ∷ false ∷ false ∷ false ∷ false ∷ false ∷ not (eqb (k .0) s) ∷ not (eqb (k .0) s) ∷ []
+unfolding struckGap
+between-exchanges s k on t = refl
