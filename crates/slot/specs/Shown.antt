@@ -1,57 +1,15 @@
 -- A slot's step at an act and what it shows, side by side, as the functions give them. Nothing is said here that the law does not say.
 -- Assumes nothing.
 use Prim.Native.Nat.{ℕ}
-use mathlib.Core.Path.{_≡_}
-use mathlib.Core.Bool.{Bool, false}
 use mathlib.Core.List.{List}
 use Rattle.rules.specs.declared.Act.{Act}
 use Rattle.rules.specs.declared.Act.the-variants.{Start, Byte, Read, Stop, Timeout, Tick, Voltage, Power, Temperature}
-use Rattle.rules.specs.declared.Heard.{Heard}
-use Rattle.rules.specs.declared.Heard.the-variants as heard
 use Rattle.rules.specs.declared.Slot.{Slot}
-use Rattle.rules.specs.Control.{heardOf}
-use Rattle.rules.specs.Fields.{inPhase}
-use Rattle.rules.specs.Slot.{slotNext, acks, drives, driven}
-use Rattle.rules.specs.Exchanges.{partNext}
-use Rattle.slot.specs.declared.Change.{Change}
-use Rattle.slot.specs.declared.Change.the-variants as change
+use Rattle.rules.specs.Slot.{slotNext, driven}
+use Rattle.foreseen.specs.Foreseen.{acksAt, drivesAt}
 use Rattle.slot.specs.declared.Step.{Step}
 
--- what a byte asks for as a control byte
-abbrev pub heardIn : Act → Heard
-heardIn Start = heard.Nothing
-heardIn (Byte b) = heardOf b
-heardIn (Read more) = heard.Nothing
-heardIn Stop = heard.Nothing
-heardIn Timeout = heard.Nothing
-heardIn Tick = heard.Nothing
-heardIn (Voltage k on) = heard.Nothing
-heardIn Power = heard.Nothing
-heardIn (Temperature k t) = heard.Nothing
-
--- only a byte is acknowledged, and only a read is driven
-abbrev pub acksAt : Act → ℕ → Slot → Bool
-acksAt Start n s = false
-acksAt (Byte b) n s = acks n b s
-acksAt (Read more) n s = false
-acksAt Stop n s = false
-acksAt Timeout n s = false
-acksAt Tick n s = false
-acksAt (Voltage k on) n s = false
-acksAt Power n s = false
-acksAt (Temperature k t) n s = false
-
-abbrev pub drivesAt : Act → Slot → Bool
-drivesAt Start s = false
-drivesAt (Byte b) s = false
-drivesAt (Read more) s = drives s
-drivesAt Stop s = false
-drivesAt Timeout s = false
-drivesAt Tick s = false
-drivesAt (Voltage k on) s = false
-drivesAt Power s = false
-drivesAt (Temperature k t) s = false
-
+-- the byte that is driven; FFh where none is
 abbrev pub drivenAt : Act → List ℕ → Slot → ℕ
 drivenAt Start m s = 0xFF
 drivenAt (Byte b) m s = 0xFF
@@ -65,15 +23,3 @@ drivenAt (Temperature k t) m s = 0xFF
 
 unfoldable pub stepped : ℕ → Act → List ℕ → Slot → Step
 stepped n a m s = record { slot = slotNext n a s; ack = acksAt a n s; drives = drivesAt a s; byte = drivenAt a m s }
-
--- nothing is shown, and no byte changes
-pub record Silent (n : ℕ) (a : Act) (s : Slot) : Type 0 where
-  pub mute : acksAt a n s ≡ false
-  pub still : drivesAt a s ≡ false
-  pub kept : (m : List ℕ) → partNext a s m ≡ m
-
--- what is told of a step before it is done
-unfoldable pub Foreseen : Change → ℕ → Act → Slot → Type 0
-Foreseen change.Nothing n a s = (slotNext n a s ≡ s) × Silent n a s
-Foreseen (change.To p) n a s = (slotNext n a s ≡ inPhase p s) × Silent n a s
-Foreseen change.More n a s = Unit {0}

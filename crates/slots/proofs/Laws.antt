@@ -30,11 +30,12 @@ use Rattle.rules.specs.Runs.{taken, given, ruledNext, ruledAnswer, ruledOutcome
 use Rattle.rules.specs.Slot.{slotNext, drives, driven}
 use Rattle.rules.proofs.Memory.Stored.{length-tickedPart}
 use Rattle.rules.proofs.Range.Rulings.{ruling-by-kinds}
-use Rattle.slot.specs.declared.Change.{Change}
-use Rattle.slot.specs.declared.Change.the-variants as change
+use Rattle.foreseen.specs.declared.Change.{Change}
+use Rattle.foreseen.specs.declared.Change.the-variants as change
 use Rattle.slot.specs.declared.Step.{Step}
 use Rattle.rules.specs.Exchanges.{partNext}
-use Rattle.slot.specs.Shown.{acksAt, drivesAt, drivenAt, stepped, Silent, Foreseen}
+use Rattle.foreseen.specs.Foreseen.{acksAt, drivesAt, Silent, Foreseen}
+use Rattle.slot.specs.Shown.{drivenAt, stepped}
 use Rattle.ruling.specs.Kinds.{kindsIn}
 use Rattle.ruling.proofs.Laws.{noSlot}
 use Rattle.slots.specs.Taken.{answerFor, takenThen}

@@ -6,13 +6,13 @@ ghost use Rattle.lists.specs.Each.{allOf};
 ghost use Rattle.rules.specs.Modelled.{memoryBytes};
 ghost use Rattle.rules.specs.Refusals.{slotInRange};
 ghost use Rattle.slots.specs.Taken.{answerFor, takenThen};
+use foreseen::Change;
 use rules::Act;
 use rules::Answer;
 use rules::Bus;
 use rules::Outcome;
 use rules::Slot;
 use rules::SlotNo;
-use slot::Change;
 
 // One of two bytes.
 fn either(first: bool, x: u8, y: u8) -> u8
@@ -52,14 +52,15 @@ pub fn taken(slots: [Slot; 8], mem: &mut [u8], a: Act) -> Outcome
     requires { ⌜ (allOf slotInRange slots ≡ true) × (length (now mem) ≡ memoryBytes) ⌝ }
     ensures { λ r. ⌜ takenThen (record { slots = slots }) (now (mem .entry)) a ≡ (r, now (mem .exit)) ⌝ }
 {
-    let h = slot::heard_in(a);
+    let carried = foreseen::carried(a);
+    let h = foreseen::heard_in(a);
     let mut all = slots;
     let mut ack = false;
     let mut driven = false;
     let mut byte: u8 = 255;
     for i in 0..8u8 {
         let at = i as usize;
-        let c = slot::foresee(a, SlotNo(i), h, all[at]);
+        let c = foreseen::glance(a, carried, h, SlotNo(i), all[at]);
         match c {
             Change::Nothing => {}
             Change::To(p) => {

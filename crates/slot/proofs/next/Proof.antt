@@ -5,7 +5,8 @@ use Rattle.slot.specs.Shown.{stepped}
 use Rattle.rules.specs.Slot.{presentNext, slotNext}
 use Rattle.signal.specs.Signals.{actFor, signalled}
 use mathlib.Core.Path.{refl}
-use Rattle.slot.proofs.Laws.{stepped-by, heard-byte}
+use Rattle.foreseen.proofs.Laws.{heard-byte}
+use Rattle.slot.proofs.Laws.{stepped-by}
 use borrow.Author.Needs.{needs}
 use Rattle.slot.proofs.next.Statement.{statement}
 use Rattle.slot.proofs.next.Tie as tie

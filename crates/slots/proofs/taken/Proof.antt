@@ -7,7 +7,7 @@ use native.Mathlib.Omega.{arith}
 use lib.ListN.{length, length-take, length-drop}
 use Rattle.lists.specs.Each.{allOf, allOf-at}
 use Rattle.rules.specs.Refusals.{slotInRange}
-use Rattle.slot.specs.Shown.{heardIn}
+use Rattle.foreseen.specs.Foreseen.{heardIn, carried}
 use Rattle.ruling.proofs.Laws.{noSlot}
 use Rattle.slots.proofs.Laws.{Turned, turned-none, turned-all, turn-nothing, turn-to, turn-more, old}
 use Rattle.slots.proofs.taken.Statement.{statement}
@@ -17,41 +17,45 @@ use Rattle.slots.proofs.taken.Lts as lts
 use Rattle.slots.proofs.answer_of.Reads as answer-of-reads
 use Rattle.slots.proofs.either.Reads as either-reads
 use Rattle.phase.proofs.in_phase.Reads as in-phase-reads
-use Rattle.slot.proofs.foresee.Reads as foresee-reads
-use Rattle.slot.proofs.heard_in.Reads as heard-in-reads
+use Rattle.foreseen.proofs.carried.Reads as carried-reads
+use Rattle.foreseen.proofs.glance.Reads as glance-reads
+use Rattle.foreseen.proofs.heard_in.Reads as heard-in-reads
 use Rattle.slot.proofs.next.Reads as next-reads
 
 abbrev Inv-loop : tie.InvT-loop
-Inv-loop mem₀ a h all₀ ack₀ driven₀ byte₀ i₀ mem all ack driven byte i =
-    (i ≤ 8) × (length all₀ ≡ 8) × (length mem₀ ≡ 4096) × (length mem ≡ 4096) × (allOf slotInRange all₀ ≡ true) × (h ≡ heardIn a)
+Inv-loop mem₀ a k h all₀ ack₀ driven₀ byte₀ i₀ mem all ack driven byte i =
+    (i ≤ 8) × (length all₀ ≡ 8) × (length mem₀ ≡ 4096) × (length mem ≡ 4096) × (allOf slotInRange all₀ ≡ true) × (h ≡ heardIn a) × (k ≡ carried a)
     × Turned a all₀ mem₀ i all mem ack driven byte
 
 abbrev μ-loop : tie.MeasureT-loop
-μ-loop mem₀ a h all₀ ack₀ driven₀ byte₀ i₀ mem all ack driven byte i = 8 - i
+μ-loop mem₀ a k h all₀ ack₀ driven₀ byte₀ i₀ mem all ack driven byte i = 8 - i
 
 -- src/lib.rt:78:9
+carried-requires : tie.Need-carried-requires Inv-loop μ-loop
+carried-requires c κs = search needs
+
 heard-in-requires : tie.Need-heard-in-requires Inv-loop μ-loop
 heard-in-requires c κs = search needs
 
 -- src/lib.rt:83:5
 loop-holds : tie.Need-loop-holds Inv-loop μ-loop
-loop-holds c = (omega arith, search needs, c .before .before .pre .1, c .before .before .pre .1, c .before .before .pre .0, c .heard-in .ensures, turned-none _ _ _)
+loop-holds c = (omega arith, search needs, c .before .before .before .pre .1, c .before .before .before .pre .1, c .before .before .before .pre .0, c .heard-in .ensures, c .before .carried .ensures, turned-none _ _ _)
 
 -- src/lib.rt:84:18
 cast-at : tie.Need-cast-at Inv-loop μ-loop
 cast-at c = search needs
 
 -- src/lib.rt:85:48
-mul-foresee : tie.Need-mul-foresee Inv-loop μ-loop
-mul-foresee c = search needs
+mul-glance : tie.Need-mul-glance Inv-loop μ-loop
+mul-glance c = search needs
 
 -- src/lib.rt:85:48
-array-copy-out-foresee : tie.Need-array-copy-out-foresee Inv-loop μ-loop
-array-copy-out-foresee c = search needs
+array-copy-out-glance : tie.Need-array-copy-out-glance Inv-loop μ-loop
+array-copy-out-glance c = search needs
 
 -- src/lib.rt:85:13
-foresee-requires : tie.Need-foresee-requires Inv-loop μ-loop
-foresee-requires c κs = search needs
+glance-requires : tie.Need-glance-requires Inv-loop μ-loop
+glance-requires c κs = search needs
 
 enum-told : tie.Need-enum-told Inv-loop μ-loop
 enum-told c = search needs
@@ -117,10 +121,10 @@ next-requires : tie.Need-next-requires Inv-loop μ-loop
 next-requires c κs =
     let f = c .before .before .before .before in
     let l = f .before .before .before .loop in
-    let g = f .before .before .before .before .before .before .args in
+    let g = f .before .before .before .before .before .before .before .args in
     let h : l .i < length (g .slots) = omega arith in
     let r : 512 * (l .i + 1) ≤ length (g .mem .now) = omega arith in
-    (l .inv .5, rw (old (g .a) (g .slots) (g .mem .now) (l .i) h r (l .all) (l .mem) (l .ack) (l .driven) (l .byte) (l .inv .6)) (allOf-at slotInRange (l .i) (g .slots) noSlot h (l .inv .4)), simp (length-take, length-drop) (omega arith))
+    (l .inv .5, rw (old (g .a) (g .slots) (g .mem .now) (l .i) h r (l .all) (l .mem) (l .ack) (l .driven) (l .byte) (l .inv .7)) (allOf-at slotInRange (l .i) (g .slots) noSlot h (l .inv .4)), simp (length-take, length-drop) (omega arith))
 
 -- src/lib.rt:96:17
 mul-all-2 : tie.Need-mul-all-2 Inv-loop μ-loop
@@ -147,14 +151,14 @@ loop-again : tie.Need-loop-again Inv-loop μ-loop
 loop-again c =
     let f = c .before in
     let l = f .before .before .before .loop in
-    let g = f .before .before .before .before .before .before .args in
+    let g = f .before .before .before .before .before .before .before .args in
     let h : l .i < length (g .slots) = omega arith in
     let r : 512 * (l .i + 1) ≤ length (g .mem .now) = omega arith in
     ⊎-elim
-    (λ w. (omega arith, l .inv .1, l .inv .2, rw (w .2) (l .inv .3), l .inv .4, l .inv .5, rw (w .2, w .3, w .4, w .5, w .6) (turn-nothing (g .a) (g .slots) (g .mem .now) (l .i) h r (l .all) (l .mem) (l .ack) (l .driven) (l .byte) (l .inv .6) (f .foresee .result) (f .foresee .ensures) (w .1 .given .1))))
+    (λ w. (omega arith, l .inv .1, l .inv .2, rw (w .2) (l .inv .3), l .inv .4, l .inv .5, l .inv .6, rw (w .2, w .3, w .4, w .5, w .6) (turn-nothing (g .a) (g .slots) (g .mem .now) (l .i) h r (l .all) (l .mem) (l .ack) (l .driven) (l .byte) (l .inv .7) (f .glance .result) (f .glance .ensures) (w .1 .given .1))))
     (λ w. ⊎-elim
-    (λ v. (omega arith, l .inv .1, l .inv .2, rw (v .5) (l .inv .3), l .inv .4, l .inv .5, rw (v .5, v .6, v .7, v .8, v .9) (turn-to (g .a) (g .slots) (g .mem .now) (l .i) h r (l .all) (l .mem) (l .ack) (l .driven) (l .byte) (l .inv .6) (f .foresee .result) _ (v .4 .result) (f .foresee .ensures) (v .1 .given .1) (v .4 .ensures))))
-    (λ v. (omega arith, l .inv .1, l .inv .2, rw (v .11) (omega arith), l .inv .4, l .inv .5, rw (v .11, v .12, v .13, v .14, v .15, v .9 .ensures) (turn-more (g .a) (g .slots) (g .mem .now) (l .i) h r (l .all) (l .mem) (l .ack) (l .driven) (l .byte) (l .inv .6) (512 * l .i) (512 * l .i + 512) (v .4 .result) _ refl (omega arith) (v .4 .ensures .0) (v .4 .ensures .1))))
+    (λ v. (omega arith, l .inv .1, l .inv .2, rw (v .5) (l .inv .3), l .inv .4, l .inv .5, l .inv .6, rw (v .5, v .6, v .7, v .8, v .9) (turn-to (g .a) (g .slots) (g .mem .now) (l .i) h r (l .all) (l .mem) (l .ack) (l .driven) (l .byte) (l .inv .7) (f .glance .result) _ (v .4 .result) (f .glance .ensures) (v .1 .given .1) (v .4 .ensures))))
+    (λ v. (omega arith, l .inv .1, l .inv .2, rw (v .11) (omega arith), l .inv .4, l .inv .5, l .inv .6, rw (v .11, v .12, v .13, v .14, v .15, v .9 .ensures) (turn-more (g .a) (g .slots) (g .mem .now) (l .i) h r (l .all) (l .mem) (l .ack) (l .driven) (l .byte) (l .inv .7) (512 * l .i) (512 * l .i + 512) (v .4 .result) _ refl (omega arith) (v .4 .ensures .0) (v .4 .ensures .1))))
     w)
     (c .match .came)
 
@@ -174,8 +178,8 @@ same-length c = search needs
 returns : tie.Need-returns Inv-loop μ-loop
 returns c =
     let l = c .before .before .before .loop in
-    let g = c .before .before .before .before .before .before .args in
-    turned-all (g .a) (g .slots) (g .mem .now) (l .i) (l .all) (l .mem) (l .ack) (l .driven) (l .byte) (c .before .either2 .result) (c .answer-of .result) (omega arith) (l .inv .6) (c .before .either2 .ensures) (c .answer-of .ensures)
+    let g = c .before .before .before .before .before .before .before .args in
+    turned-all (g .a) (g .slots) (g .mem .now) (l .i) (l .all) (l .mem) (l .ack) (l .driven) (l .byte) (c .before .either2 .result) (c .answer-of .result) (omega arith) (l .inv .7) (c .before .either2 .ensures) (c .answer-of .ensures)
 
 pub taken-spec : {M : Type 1} → statement M
 taken-spec =
@@ -183,12 +187,13 @@ taken-spec =
     (tie.spec
     Inv-loop
     μ-loop
+    carried-requires
     heard-in-requires
     loop-holds
     cast-at
-    mul-foresee
-    array-copy-out-foresee
-    foresee-requires
+    mul-glance
+    array-copy-out-glance
+    glance-requires
     enum-told
     enum-known-c
     mul-in-phase

@@ -1,6 +1,6 @@
 use borrow.Author.Tests.{eq-eqb, ne-eqb}
-use Rattle.slot.proofs.at_one.Statement.{statement}
-use Rattle.slot.proofs.at_one.Tie as tie
+use Rattle.foreseen.proofs.at_one.Statement.{statement}
+use Rattle.foreseen.proofs.at_one.Tie as tie
 
 returns : tie.Need-returns
 returns c = rw (eq-eqb _ _ (c .if1 .taken))

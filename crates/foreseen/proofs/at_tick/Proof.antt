@@ -1,7 +1,7 @@
-use Rattle.slot.proofs.Laws.{tick-rests, more}
+use Rattle.foreseen.proofs.Laws.{tick-rests, more}
 use borrow.Author.Needs.{needs}
-use Rattle.slot.proofs.at_tick.Statement.{statement}
-use Rattle.slot.proofs.at_tick.Tie as tie
+use Rattle.foreseen.proofs.at_tick.Statement.{statement}
+use Rattle.foreseen.proofs.at_tick.Tie as tie
 
 returns : tie.Need-returns
 returns c = search tick-rests

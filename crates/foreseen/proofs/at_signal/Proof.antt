@@ -1,9 +1,9 @@
 use borrow.Author.Tests.{eq-eqb, ne-eqb}
 use Rattle.rules.specs.Modelled.{absent}
-use Rattle.slot.proofs.Laws.{passes}
+use Rattle.foreseen.proofs.Laws.{passes}
 use borrow.Author.Needs.{needs}
-use Rattle.slot.proofs.at_signal.Statement.{statement}
-use Rattle.slot.proofs.at_signal.Tie as tie
+use Rattle.foreseen.proofs.at_signal.Statement.{statement}
+use Rattle.foreseen.proofs.at_signal.Tie as tie
 
 returns : tie.Need-returns
 unfolding absent

@@ -1,6 +1,6 @@
 use borrow.Author.Needs.{needs}
-use Rattle.slot.proofs.heard_in.Statement.{statement}
-use Rattle.slot.proofs.heard_in.Tie as tie
+use Rattle.foreseen.proofs.heard_in.Statement.{statement}
+use Rattle.foreseen.proofs.heard_in.Tie as tie
 
 enum-told : tie.Need-enum-told
 enum-told c = search needs
