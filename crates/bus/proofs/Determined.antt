@@ -7,25 +7,14 @@ use contract.Lifetimes.{Lfts}
 use borrow.Fn.World.{ArgsD, ResD}
 use borrow.Fn.Kinds.{endedOf}
 use denote.Triple.Clauses.{AtExit}
-use denote.Ref.{now, ptr}
+use denote.Ref.{now}
 use Rattle.rules.specs.declared.Outcome.{Outcome}
-use Rattle.bus.proofs.setup as setup
-use Rattle.bus.proofs.setup.Kinds as setupKinds
-use Rattle.bus.proofs.setup.Reads as setupReads
 use Rattle.bus.proofs.event as event
 use Rattle.bus.proofs.event.Kinds as eventKinds
 use Rattle.bus.proofs.event.Reads as eventReads
 use Rattle.bus.proofs.event_in_range as inRange
 use Rattle.bus.proofs.event_in_range.Kinds as inRangeKinds
 use Rattle.bus.proofs.event_in_range.Reads as inRangeReads
-use Rattle.bus.proofs.block as block
-use Rattle.bus.proofs.block.Kinds as blockKinds
-use Rattle.bus.proofs.block.Reads as blockReads
-
--- setup: the bus and the answer
-pub setup-decides : (κs : Lfts 0) (a : ArgsD setup.signature κs) (r q : ResD setup.signature κs) (s o : AtExit (endedOf 0 setupKinds.ps setupKinds.r) κs)
-    → setupReads.Post κs a r s → setupReads.Post κs a q o → r ≡ q
-setup-decides κs a r q s o p t = p ∙ sym t
 
 -- event: the next bus, the answer and every byte of the lent memory
 both : (x y : Outcome × List ℕ) → x ≡ y → (x .0 ≡ y .0) × (x .1 ≡ y .1)
@@ -38,8 +27,3 @@ event-decides κs a r q s o p t = both _ _ (sym p ∙ t)
 pub event-in-range-decides : (κs : Lfts 1) (a : ArgsD inRange.signature κs) (r q : ResD inRange.signature κs) (s o : AtExit (endedOf 1 inRangeKinds.ps inRangeKinds.r) κs)
     → inRangeReads.Post κs a r s → inRangeReads.Post κs a q o → (r ≡ q) × (now (s .1 .0) ≡ now (o .1 .0))
 event-in-range-decides κs a r q s o p t = both _ _ (sym p ∙ t)
-
--- block: the bytes of the part, and where it lies
-pub block-decides : (κs : Lfts 1) (a : ArgsD block.signature κs) (r q : ResD block.signature κs) (s o : AtExit (endedOf 1 blockKinds.ps blockKinds.r) κs)
-    → blockReads.Post κs a r s → blockReads.Post κs a q o → (now r ≡ now q) × (ptr r .0 ≡ ptr q .0) × (ptr r .1 ≡ ptr q .1)
-block-decides κs a r q s o p t = (p .0 ∙ sym (t .0), p .1 ∙ sym (t .1), p .2 ∙ sym (t .2))

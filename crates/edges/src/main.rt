@@ -20,7 +20,7 @@ struct Bench {
 // What a try begins with: the bus of the last setup, and a memory of 4096 bytes.
 fn anew(pairs: [Pair; 8], mem: &mut [u8; 8192]) -> Bench {
     handed::fill(mem);
-    let made = bus::setup(pairs);
+    let made = fresh::setup(pairs);
     let bus = made.bus;
     let slots = bus.slots;
     Bench {
@@ -32,7 +32,7 @@ fn anew(pairs: [Pair; 8], mem: &mut [u8; 8192]) -> Bench {
 
 fn setup(b: Bench, t: [u32; 18]) -> Bench {
     let pairs = words::pairs(t);
-    let made = bus::setup(pairs);
+    let made = fresh::setup(pairs);
     let answer = made.answer;
     told::answer(answer);
     let bus = made.bus;
@@ -94,7 +94,7 @@ fn block(slots: [Slot; 8], mem: &[u8], length: usize, n: u32, k: u32) {
     let end = least(length, mem.len());
     let s = SlotNo((n % 256) as u8);
     let b = BlockNo((k % 256) as u8);
-    told::part(bus::block(&mem[..end], Bus { slots }, s, b));
+    told::part(reader::block(&mem[..end], Bus { slots }, s, b));
 }
 
 // What looks, and leaves all as it is.

@@ -9,26 +9,10 @@ use borrow.Fn.World.{ArgsD, ResD}
 use borrow.Fn.Kinds.{endedOf}
 use denote.Triple.Clauses.{AtExit}
 use denote.Ref.{now}
-use Rattle.lines.specs.declared.Begun.{Begun}
 use Rattle.lines.specs.declared.Turned.{Turned}
-use Rattle.lines.proofs.begin as begin
-use Rattle.lines.proofs.begin.Kinds as beginKinds
-use Rattle.lines.proofs.begin.Reads as beginReads
 use Rattle.lines.proofs.turn as turn
 use Rattle.lines.proofs.turn.Kinds as turnKinds
 use Rattle.lines.proofs.turn.Reads as turnReads
-use Rattle.lines.proofs.finish as finish
-use Rattle.lines.proofs.finish.Kinds as finishKinds
-use Rattle.lines.proofs.finish.Reads as finishReads
-
--- begin: the bus, the end, whether records follow; every byte of the memory and of the output
-pub begin-decides : (κs : Lfts 3) (a : ArgsD begin.signature κs) (r q : ResD begin.signature κs) (s o : AtExit (endedOf 3 beginKinds.ps beginKinds.r) κs)
-    → beginReads.Post κs a r s → beginReads.Post κs a q o → (r ≡ q) × (now (s .1 .0) ≡ now (o .1 .0)) × (now (s .1 .1 .0) ≡ now (o .1 .1 .0))
-begin-decides κs a r q s o p t = each _ _ (sym p ∙ t)
-  where
-    each : (x y : Begun × List ℕ × List ℕ) → x ≡ y → (x .0 ≡ y .0) × (x .1 ≡ y .1) × (x .2 ≡ y .2)
-    each x y e =
-        (ap (λ (z : Begun × List ℕ × List ℕ). z .0) e, ap (λ (z : Begun × List ℕ × List ℕ). z .1) e, ap (λ (z : Begun × List ℕ × List ℕ). z .2) e)
 
 -- turn: the bus, the end, how many bytes are held; every byte of the memory, of the buffer and of the output
 pub turn-decides : (κs : Lfts 3) (a : ArgsD turn.signature κs) (r q : ResD turn.signature κs) (s o : AtExit (endedOf 3 turnKinds.ps turnKinds.r) κs)
@@ -43,11 +27,3 @@ turn-decides κs a r q s o p t = each _ _ (sym p ∙ t)
       ap (λ (z : Turned × List ℕ × List ℕ × List ℕ). z .2) e,
       ap (λ (z : Turned × List ℕ × List ℕ × List ℕ). z .3) e,
     )
-
--- finish: the end, and every byte of the output
-pub finish-decides : (κs : Lfts 1) (a : ArgsD finish.signature κs) (r q : ResD finish.signature κs) (s o : AtExit (endedOf 1 finishKinds.ps finishKinds.r) κs)
-    → finishReads.Post κs a r s → finishReads.Post κs a q o → (r ≡ q) × (now (s .1 .0) ≡ now (o .1 .0))
-finish-decides κs a r q s o p t = each _ _ (sym p ∙ t)
-  where
-    each : (x y : ℕ × List ℕ) → x ≡ y → (x .0 ≡ y .0) × (x .1 ≡ y .1)
-    each x y e = (ap (λ (z : ℕ × List ℕ). z .0) e, ap (λ (z : ℕ × List ℕ). z .1) e)

@@ -18,10 +18,12 @@ use Rattle.rules.specs.Refusals.{goodPair, setupOf}
 use Rattle.rules.specs.Runs.{Bench}
 use Rattle.lines.specs.declared.Turned.{Turned}
 use Rattle.records.specs.Records.{pairAt, pairsTo, pairsOf}
-use Rattle.lines.specs.Script.{recordsIn, leftOf, benchTo, linesTo, lastLine, ending, badSetupLine, startingMemory, begunAt, scriptOf}
-use Rattle.lines.specs.Steps.{cutSetup, firstLine, goesOn, firstBus, beginOf, runOf, turnOf, finishOf}
+use Rattle.lines.specs.Script.{recordsIn, leftOf, benchTo, linesTo, ending, begunAt, scriptOf}
+use Rattle.frame.specs.Frame.{badSetupLine, startingMemory, cutSetup, firstLine, goesOn, firstBus, beginOf, lastLine, finishOf}
+use Rattle.lines.specs.Steps.{runOf, turnOf}
 use Rattle.lines.specs.Program.{Read, readInto, inputOf, Fits, turnsWrite, programWrites}
-use Rattle.lines.proofs.Laws.{lines-length, left-length, first-length, last-length}
+use Rattle.lines.proofs.Laws.{lines-length, left-length}
+use Rattle.frame.proofs.Laws.{first-length, last-length}
 use Rattle.lines.proofs.Cut.{lines-cut, ending-cut}
 
 -- what was put at the front of the output and is written from there

@@ -5,9 +5,10 @@ use mathlib.Core.Bool.{cond}
 use mathlib.Core.List.{List, [], _∷_, _++_}
 use lib.ListN.{length, take}
 use Rattle.rules.specs.declared.Bus.{Bus}
-use Rattle.lines.specs.declared.Begun.{Begun}
+use Rattle.frame.specs.declared.Begun.{Begun}
+use Rattle.frame.specs.Frame.{beginOf, finishOf}
 use Rattle.lines.specs.declared.Turned.{Turned}
-use Rattle.lines.specs.Steps.{beginOf, turnOf, finishOf}
+use Rattle.lines.specs.Steps.{turnOf}
 
 -- one read: the bytes that came, and whatever then stands in the buffer behind them
 pub record Read : Type 0 where

@@ -2,16 +2,16 @@
 -- Assumes nothing.
 use Prim.Native.Nat.{ℕ, zero, suc, _*_, _/_, _%_}
 use mathlib.Core.Bool.{cond}
-use mathlib.Core.List.{List, [], _∷_, _++_}
-use lib.Dec.{eqb, ltb}
-use lib.ListN.{length, drop, replicate}
+use mathlib.Core.List.{List, [], _++_}
+use lib.Dec.{ltb}
+use lib.ListN.{length, drop}
 use Rattle.lists.specs.Each.{allOf}
 use Rattle.rules.specs.declared.Pair.{Pair}
-use Rattle.rules.specs.Modelled.{memoryBytes}
 use Rattle.rules.specs.Refusals.{goodPair, setupOf}
 use Rattle.rules.specs.Runs.{Bench, next, answered}
 use Rattle.records.specs.Records.{pairsOf, recordAt}
 use Rattle.letters.specs.Letters.{lineOf, shortLine}
+use Rattle.frame.specs.Frame.{lastLine, badSetupLine, startingMemory}
 
 -- the first n records of some bytes, from a bench: the bench after them, and their lines
 unfoldable pub benchTo : Bench → List ℕ → ℕ → Bench
@@ -30,19 +30,8 @@ unfoldable pub leftOf : List ℕ → List ℕ
 leftOf bs = drop (4 * recordsIn bs) bs
 
 -- so many bytes of a record came
-unfoldable pub lastLine : ℕ → List ℕ
-lastLine n = cond (eqb n 0) [] shortLine
-
 unfoldable pub ending : List ℕ → List ℕ
 ending bs = lastLine (length bs % 4)
-
--- "A bad setup gives `R5` alone."
-abbrev pub badSetupLine : List ℕ
-badSetupLine = 0x52 ∷ 0x35 ∷ 0x0A ∷ []
-
--- "Memory starts as FFh."
-unfoldable pub startingMemory : List ℕ
-startingMemory = replicate memoryBytes 0xFF
 
 unfoldable pub begunAt : List Pair → Bench
 begunAt ps = record { bus = setupOf ps .bus; memory = startingMemory }

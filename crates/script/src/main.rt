@@ -1,5 +1,5 @@
-// The script program: a setup and records on standard input, a line for each event on standard output. It reads, hands what came to the three
-// steps of `lines`, and writes what each has put at the front of the output: all that decides is said and proved there.
+// The script program: a setup and records on standard input, a line for each event on standard output. It reads, hands what came to `frame` and
+// `lines`, and writes what each has put at the front of the output: all that decides is said and proved there.
 ghost use mathlib.Core.Path.{_≡_};
 ghost use mathlib.Core.Bool.{true};
 ghost use Prim.Native.Nat.{_<_};
@@ -28,7 +28,7 @@ fn read_on(g: Going, mem: &mut [u8], buf: &mut [u8], out: &mut [u8]) -> Going
     let got = libc::read(STDIN_FILENO, &mut buf[held..]);
     let n = io::count(got, &buf[held..]);
     if n == 0 {
-        let end = lines::finish(held, out);
+        let end = frame::finish(held, out);
         io::write_all(STDOUT_FILENO, &out[..end]);
         return Going {
             bus,
@@ -73,7 +73,7 @@ fn main() {
     let mut out = io::large_buffer();
     let mut pairs = [0u8; 16];
     let n = io::read_full(STDIN_FILENO, &mut pairs);
-    let begun = lines::begin(&pairs[..n], &mut mem, &mut out);
+    let begun = frame::begin(&pairs[..n], &mut mem, &mut out);
     let end = begun.end;
     io::write_all(STDOUT_FILENO, &out[..end]);
     if begun.on {

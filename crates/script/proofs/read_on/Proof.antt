@@ -6,7 +6,8 @@ use native.Mathlib.Omega.{arith}
 use borrow.Rule.Slice.PartMut.{putMid, take-put}
 use borrow.Author.Needs.{needs}
 use lib.ListN.{length, length-take}
-use Rattle.lines.proofs.Onward.{turn-onward, finish-onward}
+use Rattle.frame.proofs.Onward.{finish-onward}
+use Rattle.lines.proofs.Onward.{turn-onward}
 use Rattle.script.proofs.read_on.Statement.{statement}
 use Rattle.script.proofs.read_on.Tie as tie
 
