@@ -5,38 +5,25 @@ use mathlib.Core.Bool.{Bool, false, true, cond, _||_, or-false}
 use mathlib.Core.List.{List, _++_}
 use Prim.Native.Nat.{ℕ, _+_, _-_, _*_, _≤_, _<_}
 use native.Mathlib.Omega.{arith}
-use borrow.Author.Tests.{eq-eqb, ne-eqb}
 use lib.ListN.{length, getD, set, take, drop}
-use Rattle.lists.specs.Each.{mapFrom, mapTo, mapTo-none, mapTo-next, mapTo-step, mapTo-same, mapTo-full, anyFrom, anyFrom-step, anyFrom-none, allOf, firstFrom, firstFrom-step, firstFrom-none}
+use Rattle.lists.specs.Each.{mapFrom, mapTo, mapTo-none, mapTo-next, mapTo-step, mapTo-same, mapTo-full, anyFrom, anyFrom-step, anyFrom-none, firstFrom, firstFrom-step, firstFrom-none}
 use Rattle.lists.specs.Parts.{part, part-flat, eachPart, eachPart-same, partsTo, partsTo-none, partsTo-next, partsTo-step, partsTo-same, partsTo-all}
 use Rattle.rules.specs.declared.Act.{Act}
 use Rattle.rules.specs.declared.Act.the-variants.{Start, Byte, Read, Stop, Timeout, Tick, Voltage, Power, Temperature}
 use Rattle.rules.specs.declared.Answer.{Answer}
 use Rattle.rules.specs.declared.Answer.the-variants as answer
-use Rattle.rules.specs.declared.Bus.{Bus}
-use Rattle.rules.specs.declared.Event.{Event}
-use Rattle.rules.specs.declared.Outcome.{Outcome}
 use Rattle.rules.specs.declared.Phase.{Phase}
-use Rattle.rules.specs.declared.Refusal.{Refusal}
-use Rattle.rules.specs.declared.Refusal.the-variants.{MemoryLength, WrongState}
-use Rattle.rules.specs.declared.Ruling.{Ruling}
-use Rattle.rules.specs.declared.Ruling.the-variants.{Taken, Refused}
 use Rattle.rules.specs.declared.Slot.{Slot}
 use Rattle.rules.specs.Fields.{inPhase}
-use Rattle.rules.specs.Modelled.{memoryBytes}
-use Rattle.rules.specs.Refusals.{wrongLength, kindsOf, kindAt, slotInRange, inRange, ruledFor, ruledBy, ruling}
 use Rattle.rules.specs.Bus.{busNext, memoryNext, anyAck, readByte, shown}
-use Rattle.rules.specs.Runs.{taken, given, ruledNext, ruledAnswer, ruledOutcome, eventOf}
 use Rattle.rules.specs.Slot.{slotNext, drives, driven}
 use Rattle.rules.proofs.Memory.Stored.{length-tickedPart}
-use Rattle.rules.proofs.Range.Rulings.{ruling-by-kinds}
 use Rattle.foreseen.specs.declared.Change.{Change}
 use Rattle.foreseen.specs.declared.Change.the-variants as change
 use Rattle.slot.specs.declared.Step.{Step}
 use Rattle.rules.specs.Exchanges.{partNext}
 use Rattle.foreseen.specs.Foreseen.{acksAt, drivesAt, Silent, Foreseen}
 use Rattle.slot.specs.Shown.{drivenAt, stepped}
-use Rattle.ruling.specs.Kinds.{kindsIn}
 use Rattle.ruling.proofs.Laws.{noSlot}
 use Rattle.slots.specs.Taken.{answerFor, takenThen}
 
