@@ -21,12 +21,11 @@ use Rattle.rules.specs.declared.Heard.{Heard}
 use Rattle.rules.specs.Control.{heardOf, acksHeard, acksControl, obeyed, controlled}
 use Rattle.rules.specs.Fields.{inPhase, withLeft}
 use Rattle.rules.specs.Memory.{ticked, tickedPart}
-use Rattle.rules.specs.Slot.{traits, standing, letGo, stopIn, byteIn, acksIn, readIn, drivesIn, presentNext, slotNext, acks, drives}
+use Rattle.rules.specs.Slot.{traits, standing, letGo, stopIn, byteIn, acksIn, readIn, drivesIn, presentNext, slotNext, partNext, acks, drives}
 use Rattle.rules.proofs.Run.Cases.{absent-next, present-next, byte-next, read-next}
 use Rattle.slot.specs.declared.Change.{Change}
 use Rattle.slot.specs.declared.Change.the-variants as change
 use Rattle.slot.specs.declared.Step.{Step}
-use Rattle.rules.specs.Exchanges.{partNext}
 use Rattle.slot.specs.Shown.{heardIn, acksAt, drivesAt, stepped, Silent, Foreseen}
 
 -- an exchange that is left in the phase lets something go

@@ -11,8 +11,7 @@ use Rattle.rules.specs.declared.Heard.the-variants as heard
 use Rattle.rules.specs.declared.Slot.{Slot}
 use Rattle.rules.specs.Control.{heardOf}
 use Rattle.rules.specs.Fields.{inPhase}
-use Rattle.rules.specs.Slot.{slotNext, acks, drives, driven}
-use Rattle.rules.specs.Exchanges.{partNext}
+use Rattle.rules.specs.Slot.{slotNext, partNext, acks, drives, driven}
 use Rattle.slot.specs.declared.Change.{Change}
 use Rattle.slot.specs.declared.Change.the-variants as change
 use Rattle.slot.specs.declared.Step.{Step}

@@ -27,13 +27,12 @@ use Rattle.rules.specs.Modelled.{memoryBytes}
 use Rattle.rules.specs.Refusals.{wrongLength, kindsOf, kindAt, slotInRange, inRange, ruledFor, ruledBy, ruling}
 use Rattle.rules.specs.Bus.{busNext, memoryNext, anyAck, readByte, shown}
 use Rattle.rules.specs.Runs.{taken, given, ruledNext, ruledAnswer, ruledOutcome, eventOf}
-use Rattle.rules.specs.Slot.{slotNext, drives, driven}
+use Rattle.rules.specs.Slot.{slotNext, partNext, drives, driven}
 use Rattle.rules.proofs.Memory.Stored.{length-tickedPart}
 use Rattle.rules.proofs.Range.Rulings.{ruling-by-kinds}
 use Rattle.slot.specs.declared.Change.{Change}
 use Rattle.slot.specs.declared.Change.the-variants as change
 use Rattle.slot.specs.declared.Step.{Step}
-use Rattle.rules.specs.Exchanges.{partNext}
 use Rattle.slot.specs.Shown.{acksAt, drivesAt, drivenAt, stepped, Silent, Foreseen}
 use Rattle.ruling.specs.Kinds.{kindsIn}
 use Rattle.ruling.proofs.Laws.{noSlot}

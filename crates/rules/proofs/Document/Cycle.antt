@@ -16,7 +16,8 @@ use Rattle.rules.specs.Modelled.{absent, addressOf}
 use Rattle.rules.specs.Fields.{withLeft, protecting, latched}
 use Rattle.rules.specs.Fresh.{noBytes, noMarks}
 use Rattle.rules.specs.Memory.{stored, tickedPart}
-use Rattle.rules.specs.Exchanges.{slotAfter, partNext, partAfter}
+use Rattle.rules.specs.Slot.{partNext}
+use Rattle.rules.specs.Runs.{slotAfter, partAfter}
 use Rattle.rules.proofs.Document.Exchange.{last-tick, other-tick}
 
 abbrev ticks : ℕ → List Act

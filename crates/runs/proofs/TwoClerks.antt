@@ -2,6 +2,7 @@
 pub mod Alone
 pub mod Parse
 pub mod Classes
+pub mod Addressed
 pub mod Foreign
 pub mod Struck
 pub mod Apart

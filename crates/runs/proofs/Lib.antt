@@ -1,0 +1,2 @@
+pub mod FromSetup
+pub mod TwoClerks
