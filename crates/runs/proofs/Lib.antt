@@ -1,2 +1,2 @@
-pub mod FromSetup
 pub mod TwoClerks
+pub mod FromSetup

@@ -1,8 +1,8 @@
 -- Demand 3: two clerks at one bench.
+pub mod Addressed
 pub mod Alone
 pub mod Parse
 pub mod Classes
-pub mod Addressed
 pub mod Foreign
 pub mod Struck
 pub mod Apart
