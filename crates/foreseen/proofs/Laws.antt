@@ -22,11 +22,10 @@ use Rattle.rules.specs.declared.Heard.{Heard}
 use Rattle.rules.specs.Control.{heardOf, acksHeard, acksControl, obeyed, controlled}
 use Rattle.rules.specs.Fields.{inPhase, withLeft}
 use Rattle.rules.specs.Memory.{ticked, tickedPart}
-use Rattle.rules.specs.Slot.{traits, standing, letGo, stopIn, byteIn, acksIn, readIn, drivesIn, presentNext, slotNext, acks, drives}
+use Rattle.rules.specs.Slot.{traits, standing, letGo, stopIn, byteIn, acksIn, readIn, drivesIn, presentNext, slotNext, acks, drives, partNext}
 use Rattle.rules.proofs.Run.Cases.{absent-next, present-next, byte-next, read-next}
 use Rattle.foreseen.specs.declared.Change.{Change}
 use Rattle.foreseen.specs.declared.Change.the-variants as change
-use Rattle.rules.specs.Exchanges.{partNext}
 use Rattle.foreseen.specs.Foreseen.{heardIn, carried, acksAt, drivesAt, Unheard, Silent, Foreseen}
 
 -- an exchange that is left in the phase lets something go

@@ -14,8 +14,7 @@ use Rattle.rules.specs.declared.Phase.the-variants.{Idle, Deaf}
 use Rattle.rules.specs.declared.Slot.{Slot}
 use Rattle.rules.specs.Control.{heardOf}
 use Rattle.rules.specs.Fields.{inPhase}
-use Rattle.rules.specs.Slot.{slotNext, acks, drives}
-use Rattle.rules.specs.Exchanges.{partNext}
+use Rattle.rules.specs.Slot.{slotNext, acks, drives, partNext}
 use Rattle.foreseen.specs.declared.Change.{Change}
 use Rattle.foreseen.specs.declared.Change.the-variants as change
 

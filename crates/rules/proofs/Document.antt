@@ -1,5 +1,4 @@
 -- Document 01 held against the law: its marked cases, its tables row by row, and its sentences.
-pub mod Addressed
 pub mod Cases
 pub mod Tables
 pub mod Commands

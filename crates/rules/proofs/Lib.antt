@@ -3,4 +3,3 @@ pub mod Range
 pub mod Run
 pub mod Memory
 pub mod Registers
-pub mod TwoClerks

@@ -10,5 +10,4 @@ pub mod Bus
 pub mod Refusals
 pub mod Reader
 pub mod Runs
-pub mod Exchanges
 pub mod Open

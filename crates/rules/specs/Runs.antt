@@ -10,6 +10,8 @@ use Rattle.rules.specs.declared.Event.{Event}
 use Rattle.rules.specs.declared.Outcome.{Outcome}
 use Rattle.rules.specs.declared.Ruling.{Ruling}
 use Rattle.rules.specs.declared.Ruling.the-variants.{Taken, Refused}
+use Rattle.rules.specs.declared.Slot.{Slot}
+use Rattle.rules.specs.Slot.{slotNext, partNext}
 use Rattle.rules.specs.Bus.{busNext, memoryNext, shown}
 use Rattle.rules.specs.Refusals.{ruling}
 
@@ -59,3 +61,12 @@ after (e ∷ es) x = after es (next e x)
 unfoldable pub answers : List Event → Bench → List Answer
 answers [] x = []
 answers (e ∷ es) x = answered e x ∷ answers es (next e x)
+
+-- slot n alone over a run of acts, with its 512 bytes: its state, and its bytes
+unfoldable pub slotAfter : ℕ → List Act → Slot → Slot
+slotAfter n [] s = s
+slotAfter n (a ∷ r) s = slotAfter n r (slotNext n a s)
+
+unfoldable pub partAfter : ℕ → List Act → Slot → List ℕ → List ℕ
+partAfter n [] s m = m
+partAfter n (a ∷ r) s m = partAfter n r (slotNext n a s) (partNext a s m)

@@ -16,7 +16,7 @@ use Rattle.rules.specs.Fields.{inPhase, withVoltage, withSensor, pointin
 use Rattle.rules.specs.Fresh.{powered}
 use Rattle.rules.specs.Sensor.{written, converted}
 use Rattle.rules.specs.Control.{acksControl, controlled}
-use Rattle.rules.specs.Memory.{abandoned, cancelled, loaded, guarded, dataByte, fetched, begun, dataStop, ticked}
+use Rattle.rules.specs.Memory.{abandoned, cancelled, loaded, guarded, dataByte, fetched, begun, dataStop, ticked, tickedPart}
 
 -- what each phase is: of an exchange with the sensor; of a protect or clear that its stop has not yet begun; one in which data bytes are
 -- taken; one in which a read is served
@@ -194,6 +194,18 @@ presentNext n (Temperature k t) s = cond (eqb (k .0) n) (withSensor (converted (
 -- slot n after an event: "absent slots [..] count as deaf", and no event touches one
 unfoldable pub slotNext : ℕ → Act → Slot → Slot
 slotNext n a s = cond (absent s) s (presentNext n a s)
+
+-- its 512 bytes m after an event: only a tick reaches them
+unfoldable pub partNext : Act → Slot → List ℕ → List ℕ
+partNext Start s m = m
+partNext (Byte v) s m = m
+partNext (Read b) s m = m
+partNext Stop s m = m
+partNext Timeout s m = m
+partNext Tick s m = tickedPart s m
+partNext (Voltage k on) s m = m
+partNext Power s m = m
+partNext (Temperature k t) s m = m
 
 -- slot n acknowledges the byte b
 unfoldable pub acks : ℕ → ℕ → Slot → Bool

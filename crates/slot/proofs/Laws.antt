@@ -5,7 +5,7 @@ use mathlib.Core.List.{List}
 use Prim.Native.Nat.{ℕ}
 use Rattle.rules.specs.declared.Act.{Act}
 use Rattle.rules.specs.declared.Slot.{Slot}
-use Rattle.rules.specs.Exchanges.{partNext}
+use Rattle.rules.specs.Slot.{partNext}
 use Rattle.slot.specs.declared.Step.{Step}
 use Rattle.slot.specs.Shown.{stepped}
 

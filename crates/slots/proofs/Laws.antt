@@ -16,12 +16,11 @@ use Rattle.rules.specs.declared.Phase.{Phase}
 use Rattle.rules.specs.declared.Slot.{Slot}
 use Rattle.rules.specs.Fields.{inPhase}
 use Rattle.rules.specs.Bus.{busNext, memoryNext, anyAck, readByte, shown}
-use Rattle.rules.specs.Slot.{slotNext, drives, driven}
+use Rattle.rules.specs.Slot.{slotNext, drives, driven, partNext}
 use Rattle.rules.proofs.Memory.Stored.{length-tickedPart}
 use Rattle.foreseen.specs.declared.Change.{Change}
 use Rattle.foreseen.specs.declared.Change.the-variants as change
 use Rattle.slot.specs.declared.Step.{Step}
-use Rattle.rules.specs.Exchanges.{partNext}
 use Rattle.foreseen.specs.Foreseen.{acksAt, drivesAt, Silent, Foreseen}
 use Rattle.slot.specs.Shown.{drivenAt, stepped}
 use Rattle.ruling.proofs.Laws.{noSlot}

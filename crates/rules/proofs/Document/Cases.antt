@@ -1,17 +1,18 @@
 -- Document 01's whole case and its marked bench cases: one table, run on the definitions of the whole bus from setup, under one theorem.
 -- Assumes nothing.
 use Prim.Native.Nat.{ℕ, zero, suc, _%_}
-use mathlib.Core.Path.{_≡_, refl}
+use mathlib.Core.Path.{_≡_, refl, sym, _∙_, ap₂}
 use mathlib.Core.List.{List, [], _∷_, _++_, map}
 use lib.IntN.{ℤ, pos, negsuc}
 use lib.ListN.{getD, set, replicate}
 use Rattle.rules.specs.declared.Answer.{Answer}
 use Rattle.rules.specs.declared.Event.{Event}
 use Rattle.rules.specs.declared.Pair.{Pair}
+use Rattle.rules.specs.declared.Ruling.{Ruling}
 use Rattle.rules.specs.Events.{letterOf, valueOf}
 use Rattle.rules.specs.Fresh.{absentSlot}
 use Rattle.rules.specs.Refusals.{setupOf}
-use Rattle.rules.specs.Runs.{Bench, after, answers}
+use Rattle.rules.specs.Runs.{Bench, rulingOn, ruledNext, ruledAnswer, next, answered, after, answers}
 use Rattle.rules.specs.Open.{open-all}
 
 -- a case: what it starts from and what is done; the answers in order, by the paper's letters and values, every byte of the memory that has
@@ -198,14 +199,39 @@ changed (p ∷ ps) m = changed ps (set m (p .0) (p .1))
 abbrev bitsAt : Bench → ℕ × ℕ → ℕ
 bitsAt x p = (getD (x .bus .slots) (p .0) absentSlot) .sensor .temperature % 8192
 
+abbrev told : List (ℕ × ℕ) → List Answer → Bench → List Said × List ℕ × List ℕ
+told bits ys x = (map said ys, x .memory, map (bitsAt x) bits)
+
 abbrev got : Case → List Said × List ℕ × List ℕ
-got c =
-    let x : Bench = after (c .run) (begun c) in
-    (map said (answers (c .run) (begun c)), x .memory, map (bitsAt x) (c .bits))
+got c = told (c .bits) (answers (c .run) (begun c)) (after (c .run) (begun c))
 
 abbrev wanted : Case → List Said × List ℕ × List ℕ
 wanted c = (c .shows, changed (c .bytes) (c .memory), map (λ p. p .1) (c .bits))
 
+-- a run's answers and the bench after it at once, so that each event is computed but once: `done es x k` is what k makes of the two
+doneAs : {A : Type 0} → Ruling → Bench → (Answer → Bench → A) → A
+doneAs r x k = k (ruledAnswer r x) (ruledNext r x)
+
+done : {A : Type 0} → List Event → Bench → (List Answer → Bench → A) → A
+done [] x k = k [] x
+done (e ∷ es) x k = doneAs (rulingOn e x) x (λ y z. done es z (λ ys. k (y ∷ ys)))
+
+done-is : {A : Type 0} (es : List Event) (x : Bench) (k : List Answer → Bench → A) → done es x k ≡ k (answers es x) (after es x)
+unfolding done doneAs answers after answered next
+done-is [] x k = refl
+done-is (e ∷ es) x k = done-is es (next e x) (λ ys. k (answered e x ∷ ys))
+
+computed : Case → List Said × List ℕ × List ℕ
+computed c = done (c .run) (begun c) (told (c .bits))
+
+got-computed : (cs : List Case) → map got cs ≡ map computed cs
+unfolding computed
+got-computed [] = refl
+got-computed (c ∷ cs) = ap₂ _∷_ (sym (done-is (c .run) (begun c) (told (c .bits)))) (got-computed cs)
+
+all-computed : map computed table ≡ map wanted table
+unfolding open-all letterOf valueOf changed pairedFrom done doneAs computed
+all-computed = refl
+
 pub marked-cases : map got table ≡ map wanted table
-unfolding open-all letterOf valueOf changed pairedFrom
-marked-cases = refl
+marked-cases = got-computed table ∙ all-computed

@@ -1,22 +1,27 @@
 -- Document 01, "Memory exchanges": a write cycle over its N ticks, of every present slot: until the last nothing moves but the ticks left; at the
--- last the latched bytes are in memory, and what was to come stands.
+-- last the latched bytes are in memory, and what was to come stands. No other event than a tick changes a byte.
 -- Assumes nothing.
 use Prim.Native.Nat.{ℕ, zero, suc, _+_, _-_, _<_, _≤_}
 use native.Mathlib.Omega.{arith}
 use mathlib.Core.Path.{_≡_, refl, _∙_, ap}
 use mathlib.Core.Bool.{Bool, false}
-use mathlib.Core.List.{List, [], _∷_}
+use mathlib.Core.List.{List, [], _∷_, map}
 use lib.Dec.{eqb}
+use lib.IntN.{ℤ}
 use lib.ListN.{replicate}
 use borrow.Author.Tests.{eq-eqb, ne-eqb}
 use Rattle.rules.specs.declared.Act.{Act}
-use Rattle.rules.specs.declared.Act.the-variants.{Tick}
+use Rattle.rules.specs.declared.Act.the-variants.{Start, Byte, Read, Stop, Timeout, Tick, Voltage, Power, Temperature}
+use Rattle.rules.specs.declared.Bus.{Bus}
 use Rattle.rules.specs.declared.Slot.{Slot}
+use Rattle.rules.specs.declared.SlotNo.{SlotNo}
 use Rattle.rules.specs.Modelled.{absent, addressOf}
 use Rattle.rules.specs.Fields.{withLeft, protecting, latched}
 use Rattle.rules.specs.Fresh.{noBytes, noMarks}
 use Rattle.rules.specs.Memory.{stored, tickedPart}
-use Rattle.rules.specs.Exchanges.{slotAfter, partNext, partAfter}
+use Rattle.rules.specs.Slot.{partNext}
+use Rattle.rules.specs.Bus.{memoryNext}
+use Rattle.rules.specs.Runs.{slotAfter, partAfter}
 use Rattle.rules.proofs.Document.Exchange.{last-tick, other-tick}
 
 abbrev ticks : ℕ → List Act
@@ -55,3 +60,10 @@ ends-part n (suc j) s m a e =
     ap (λ (t : Slot). partAfter n (ticks (suc j)) t (partNext Tick s m)) (other-tick n s a (λ f. omega arith))
     ∙ ap (partAfter n (ticks (suc j)) (withLeft (s .left - 1) s)) still
     ∙ ends-part n j (withLeft (s .left - 1) s) m a (omega arith)
+
+-- "Changing memory at the stop while the cycle still runs" is an error: whatever the slots hold, at a stop and at all else but a tick every byte stays
+pub not-before : (b : Bus) (m : List ℕ) (v : ℕ) (more on : Bool) (k : SlotNo) (t : ℤ)
+    → map (λ (a : Act). memoryNext a b m) (Stop ∷ Start ∷ Byte v ∷ Read more ∷ Timeout ∷ Voltage k on ∷ Power ∷ Temperature k t ∷ [])
+    ≡ m ∷ m ∷ m ∷ m ∷ m ∷ m ∷ m ∷ m ∷ []
+unfolding memoryNext
+not-before b m v more on k t = refl

@@ -10,7 +10,7 @@ use lib.Dec.{eqb, leb}
 use lib.ListN.{length, set}
 use borrow.Author.Tests.{eqb-true}
 use Rattle.lists.specs.Tests.{cond-cases, by-test}
-use Rattle.lists.specs.Each.{map-mapFrom}
+use Rattle.lists.specs.Each.{length-mapFrom, map-mapFrom}
 use Rattle.rules.specs.declared.Act.{Act}
 use Rattle.rules.specs.declared.Act.the-variants.{Start, Byte, Read, Stop, Timeout, Tick, Voltage, Power, Temperature}
 use Rattle.rules.specs.declared.BlockNo.{BlockNo}
@@ -34,7 +34,6 @@ use Rattle.rules.specs.Runs.{Bench, taken, next, after}
 use Rattle.rules.specs.Open.{open-fields, open-memory, open-slot}
 use Rattle.rules.proofs.Run.Cases.{next-cases, let-go-cases}
 use Rattle.rules.proofs.Run.Unchanged.{same-next, same-after}
-use Rattle.rules.proofs.TwoClerks.Alone.{number-taken}
 use Rattle.rules.proofs.Memory.Stored.{isTick}
 
 -- What decides the protection to come, when slot n is s and the act is a; after it `stands` is protected, and `comes` is to come.
@@ -260,6 +259,10 @@ unfolding lengthsOf
 lengths-after = each-after (λ (s : Slot). s .length) length-next
 
 -- and their number
+pub number-taken : (a : Act) (x : Bench) → length ((taken a x) .bus .slots) ≡ length (x .bus .slots)
+unfolding taken busNext
+number-taken a x = length-mapFrom (λ n s. slotNext n a s) 0 (x .bus .slots)
+
 pub number-next : (e : Event) (x : Bench) → length ((next e x) .bus .slots) ≡ length (x .bus .slots)
 number-next = same-next (λ (x : Bench). length (x .bus .slots)) number-taken
 

@@ -17,7 +17,7 @@ use Rattle.rules.specs.Fields.{withConfiguration}
 use Rattle.rules.specs.Open.{open-fields}
 use Rattle.rules.specs.Sensor.{configurationBits, shutDown, criticalLocked, limitsLocked, lockedWrite, configured, written, converted}
 use Rattle.rules.specs.Slot.{slotNext}
-use Rattle.rules.specs.Exchanges.{slotAfter}
+use Rattle.rules.specs.Runs.{slotAfter}
 use Rattle.rules.proofs.Registers.Masks.{and-assoc, and-or, and-bit, or-bit, same-bit}
 use Rattle.rules.proofs.Registers.SensorSteps.{written-cases, Respected, isPower, withoutPower, step-without-power, run-without-power}
 

@@ -24,7 +24,7 @@ use Rattle.rules.specs.Fresh.{freshSensor, freshSlot, powered}
 use Rattle.rules.specs.Memory.{guarded, anyMark}
 use Rattle.rules.specs.Open.{open-fields, open-memory, open-control, open-slot}
 use Rattle.rules.specs.Sensor.{limitBits, resolutionBits, timeoutBits, criticalLocked, limitsLocked, configured, written, converted}
-use Rattle.rules.specs.Exchanges.{slotAfter}
+use Rattle.rules.specs.Runs.{slotAfter}
 use Rattle.rules.specs.Slot.{standing, commanding, letGo, lost, byteIn, readIn, stopIn, presentNext, slotNext, switched}
 use Rattle.rules.proofs.Run.Cases.{next-cases, let-go-cases}
 

@@ -1,8 +1,7 @@
 use native.Mathlib.Omega.{arith}
 use Rattle.sensor.proofs.Signed.{back}
-use Rattle.rules.specs.Exchanges.{partNext}
 use Rattle.slot.specs.Shown.{stepped}
-use Rattle.rules.specs.Slot.{presentNext, slotNext}
+use Rattle.rules.specs.Slot.{presentNext, slotNext, partNext}
 use Rattle.signal.specs.Signals.{actFor, signalled}
 use mathlib.Core.Path.{refl}
 use Rattle.foreseen.proofs.Laws.{heard-byte}

@@ -7,13 +7,13 @@ use mathlib.Core.Bool.{true, false}
 use mathlib.Core.List.{List, [], _∷_}
 use lib.IntN.{pos}
 use lib.ListN.{getD, replicate}
 use Rattle.rules.specs.declared.Answer.{Answer}
 use Rattle.rules.specs.declared.Answer.the-variants.{Nothing, Ack, Data}
 use Rattle.rules.specs.Fresh.{absentSlot}
 use Rattle.rules.specs.Refusals.{setupOf}
 use Rattle.rules.specs.Runs.{Bench}
-use Rattle.rules.specs.Exchanges.{went, told, insideAct, gapAct, upToStop, itemActs, flatten, controls, names, someOf, addressed, own, ownTold, again, byte, read, Item, exchange, between, tick, power, temperature}
+use Rattle.runs.specs.Exchanges.{went, told, insideAct, gapAct, upToStop, itemActs, flatten, controls, names, someOf, addressed, own, ownTold, again, byte, read, Item, exchange, between, tick, power, temperature}
 use Rattle.rules.specs.Open.{open-all}
 
 -- slot 0 with memory and sensor, its cycle a tick long, and FFh everywhere
 abbrev bench : Bench

@@ -8,15 +8,16 @@ use mathlib.Core.List.{List, [], _∷_}
 use lib.ListN.{length}
 use Rattle.lists.specs.Each.{allOf}
 use Rattle.lists.specs.Tests.{by-test, and-right}
 use Rattle.rules.specs.declared.Act.{Act}
 use Rattle.rules.specs.declared.Act.the-variants.{Start}
 use Rattle.rules.specs.declared.Slot.{Slot}
 use Rattle.rules.specs.Slot.{slotNext}
 use Rattle.rules.specs.Runs.{Bench, taken}
-use Rattle.rules.specs.Exchanges.{went, told, toldAlone, Inside, Item, exchange, between, insideAct, upToStop, itemActs, flatten, controls, names, someOf, addressed, own, ownTold, strike}
-use Rattle.rules.proofs.TwoClerks.Alone.{slotsOf, partOf, slotAt, number-taken, Silent, SilentOver, slot-went, part-went, told-one}
-use Rattle.rules.proofs.TwoClerks.Foreign.{all-named, silent}
-use Rattle.rules.proofs.TwoClerks.Struck.{Idles, itemSlot, itemPart, slotItems, partItems, ownAlone, strike-slot, strike-part, strike-own}
+use Rattle.runs.specs.Exchanges.{went, told, toldAlone, Inside, Item, exchange, between, insideAct, upToStop, itemActs, flatten, controls, names, someOf, addressed, own, ownTold, strike}
+use Rattle.rules.proofs.Memory.Protection.{number-taken}
+use Rattle.runs.proofs.TwoClerks.Alone.{slotsOf, partOf, slotAt, Silent, SilentOver, slot-went, part-went, told-one}
+use Rattle.runs.proofs.TwoClerks.Foreign.{all-named, silent}
+use Rattle.runs.proofs.TwoClerks.Struck.{Idles, itemSlot, itemPart, slotItems, partItems, ownAlone, strike-slot, strike-part, strike-own}
 
 -- a run, item by item
 went-stop : (xs : List Inside) (r : List Act) (x : Bench) → went (upToStop xs r) x ≡ went r (went (upToStop xs []) x)

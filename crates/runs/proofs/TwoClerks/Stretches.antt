@@ -8,21 +8,21 @@ use mathlib.Core.Bool.{true}
 use mathlib.Core.List.{List, [], _∷_, _++_, append-assoc}
 use mathlib.Core.Option.{some}
 use lib.ListN.{length}
 use Rattle.rules.specs.declared.Answer.{Answer}
 use Rattle.rules.specs.declared.Event.{Event}
 use Rattle.rules.specs.declared.Pair.{Pair}
 use Rattle.rules.specs.Modelled.{slotCount, memoryBytes}
 use Rattle.rules.specs.Refusals.{kindsOf}
 use Rattle.rules.specs.Runs.{Bench, after, answers}
-use Rattle.rules.specs.Exchanges.{went, told, Inside, Item, exchange, controls, addressed, keptAnswers, concat}
+use Rattle.runs.specs.Exchanges.{went, told, Inside, Item, exchange, controls, addressed, keptAnswers, concat}
 use Rattle.rules.proofs.Range.Kept.{after-in-range}
 use Rattle.rules.proofs.Memory.Stored.{memory-length-after}
 use Rattle.rules.proofs.Memory.Protection.{kinds-after}
-use Rattle.rules.proofs.TwoClerks.Parse.{flatten-items}
-use Rattle.rules.proofs.TwoClerks.RunAnswers.{woven, all-answers, run-answers}
-use Rattle.rules.proofs.TwoClerks.Demand3.{Ready, Parts, after-items, begun, setup-ready}
-use Rattle.rules.proofs.TwoClerks.Joined.{does, says, one-item, after-joined, answers-joined, parts-joined, Halves, halves}
-use Rattle.rules.proofs.TwoClerks.Swap.{AtRest, setup-rest, rest-items, first-unmoved, second-unmoved, two-benches, Swapped, swap-items}
+use Rattle.runs.proofs.TwoClerks.Parse.{flatten-items}
+use Rattle.runs.proofs.TwoClerks.RunAnswers.{woven, all-answers, run-answers}
+use Rattle.runs.proofs.TwoClerks.Demand3.{Ready, Parts, after-items, begun, setup-ready}
+use Rattle.runs.proofs.TwoClerks.Joined.{does, says, one-item, after-joined, answers-joined, parts-joined, Halves, halves}
+use Rattle.runs.proofs.TwoClerks.Swap.{AtRest, setup-rest, rest-items, first-unmoved, second-unmoved, two-benches, Swapped, swap-items}
 
 -- after any run of raw events a bench is still in range, and the same events are refused
 ready-after : (r : List Event) (x : Bench) → Ready x → Ready (after r x)

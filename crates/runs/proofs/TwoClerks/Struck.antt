@@ -7,24 +7,25 @@ use mathlib.Core.List.{List, [], _∷_}
 use lib.Dec.{eqb}
 use borrow.Author.Tests.{not-true}
 use Rattle.lists.specs.Tests.{cond-cases, by-test}
 use Rattle.rules.specs.declared.Act.{Act}
 use Rattle.rules.specs.declared.Act.the-variants.{Start, Byte, Read, Stop, Timeout, Tick, Voltage, Power, Temperature}
 use Rattle.rules.specs.declared.Answer.{Answer}
 use Rattle.rules.specs.declared.Phase.{Phase}
 use Rattle.rules.specs.declared.Phase.the-variants.{Idle, Control, Deaf}
 use Rattle.rules.specs.declared.Slot.{Slot}
 use Rattle.rules.specs.Modelled.{absent, sensing}
 use Rattle.rules.specs.Open.{open-fields}
 use Rattle.rules.specs.Fields as Fields
 use Rattle.rules.specs.Fields.{inPhase}
 use Rattle.rules.specs.Fresh.{freshSlot, powered}
 use Rattle.rules.specs.Memory.{emptied, ended, ticked}
-use Rattle.rules.specs.Slot.{withSensorIn, standing, commanding, letGo, lost, byteIn, readIn, switched, presentNext, slotNext}
-use Rattle.rules.specs.Exchanges.{slotAfter, partNext, partAfter, toldAlone, strayByte, strayRead, strayStop, timeout, tick, voltage, power, temperature, Item, exchange, between, gapAct, upToStop, itemActs, struckGap, struck, strike, own}
-use Rattle.rules.proofs.TwoClerks.Classes.{struck-not-own}
-use Rattle.rules.proofs.TwoClerks.Foreign.{struck-unheard, started-waits, absent-after, as-it-was, same-part, ends-idle}
+use Rattle.rules.specs.Slot.{withSensorIn, standing, commanding, letGo, lost, byteIn, readIn, switched, presentNext, slotNext, partNext}
+use Rattle.rules.specs.Runs.{slotAfter, partAfter}
+use Rattle.runs.specs.Exchanges.{toldAlone, strayByte, strayRead, strayStop, timeout, tick, voltage, power, temperature, Item, exchange, between, gapAct, upToStop, itemActs, struckGap, struck, strike, own}
+use Rattle.runs.proofs.TwoClerks.Classes.{struck-not-own}
+use Rattle.runs.proofs.TwoClerks.Foreign.{struck-unheard, started-waits, absent-after, as-it-was, same-part, ends-idle}
 use Rattle.rules.proofs.Memory.Protection.{still-present}
 use Rattle.rules.proofs.Run.Cases.{next-cases, present-next}
 
 -- between exchanges a slot is idle
 abbrev pub Idles : Slot → Type 0

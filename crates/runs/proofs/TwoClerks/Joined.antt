@@ -4,17 +4,17 @@ use Prim.Native.Nat.{ℕ}
 use native.Mathlib.Omega.{arith}
 use mathlib.Core.Path.{_≡_, refl, sym, _∙_, ap, ap₂}
 use mathlib.Core.List.{List, [], _∷_, _++_, append-assoc}
 use Rattle.rules.specs.declared.Act.{Act}
 use Rattle.rules.specs.declared.Act.the-variants.{Start}
 use Rattle.rules.specs.declared.Answer.{Answer}
 use Rattle.rules.specs.declared.Event.{Event}
 use Rattle.rules.specs.declared.Ruling.{Ruling}
 use Rattle.rules.specs.declared.Ruling.the-variants.{Taken, Refused}
 use Rattle.rules.specs.Refusals.{kindsOf, ruledBy}
 use Rattle.rules.specs.Runs.{Bench, taken, next, answered, after, answers}
-use Rattle.rules.specs.Exchanges.{keptBy, actsOf, went, told, Inside, Item, exchange, between, insideAct, upToStop, itemActs, flatten, itemsOf, chunks}
-use Rattle.rules.proofs.TwoClerks.Parse.{items-flatten, flatten-items}
-use Rattle.rules.proofs.TwoClerks.Demand3.{Parts}
+use Rattle.runs.specs.Exchanges.{keptBy, actsOf, went, told, Inside, Item, exchange, between, insideAct, upToStop, itemActs, flatten, itemsOf, chunks}
+use Rattle.runs.proofs.TwoClerks.Parse.{items-flatten, flatten-items}
+use Rattle.runs.proofs.TwoClerks.Demand3.{Parts}
 
 -- what an item does to the bench, and what the bus shows in it, event by event
 abbrev pub does : Item → Bench → Bench

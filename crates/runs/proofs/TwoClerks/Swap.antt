@@ -11,20 +11,20 @@ use lib.ListN.{length}
 use lib.Seq.{ext-getD}
 use borrow.Author.Tests.{eqb-true, eqb-false}
 use Rattle.lists.specs.Tests.{by-test}
 use Rattle.rules.specs.declared.Act.the-variants.{Start}
 use Rattle.rules.specs.declared.Answer.{Answer}
 use Rattle.rules.specs.declared.Pair.{Pair}
 use Rattle.rules.specs.Modelled.{slotCount}
 use Rattle.rules.specs.Fresh.{absentSlot}
 use Rattle.rules.specs.Bus.{memoryNext}
 use Rattle.rules.specs.Runs.{Bench, taken}
-use Rattle.rules.specs.Exchanges.{went, Inside, again, byte, read, Item, exchange, insideAct, upToStop, itemActs, flatten, controls, addressed, struck, strike, own, ownTold, chunks}
-use Rattle.rules.proofs.TwoClerks.Alone.{slotsOf, slot-went}
-use Rattle.rules.proofs.TwoClerks.Classes.{addressed-struck, addressed-below, struck-not-own}
-use Rattle.rules.proofs.TwoClerks.Struck.{Idles, itemSlot, idle-item}
-use Rattle.rules.proofs.TwoClerks.Apart.{number-went, Agree, EndAlike, apart}
-use Rattle.rules.proofs.TwoClerks.Demand3.{slot, begun, setup-number, setup-idle}
-use Rattle.rules.proofs.TwoClerks.Joined.{does, says, went-first, went-items, chunks-joined}
+use Rattle.runs.specs.Exchanges.{went, Inside, again, byte, read, Item, exchange, insideAct, upToStop, itemActs, flatten, controls, addressed, struck, strike, own, ownTold, chunks}
+use Rattle.runs.proofs.TwoClerks.Alone.{slotsOf, slot-went}
+use Rattle.runs.proofs.TwoClerks.Classes.{addressed-struck, addressed-below, struck-not-own}
+use Rattle.runs.proofs.TwoClerks.Struck.{Idles, itemSlot, idle-item}
+use Rattle.runs.proofs.TwoClerks.Apart.{number-went, Agree, EndAlike, apart}
+use Rattle.runs.proofs.TwoClerks.Demand3.{slot, begun, setup-number, setup-idle}
+use Rattle.runs.proofs.TwoClerks.Joined.{does, says, went-first, went-items, chunks-joined}
 
 -- of two neighbours one is struck out for slot k: what is left does not tell their order
 swap-struck : (k : ℕ) (i j : Item) (ys : List Item) → (struck k i ≡ true) ⊎ (struck k j ≡ true) → strike k (i ∷ j ∷ ys) ≡ strike k (j ∷ i ∷ ys)

@@ -9,23 +9,23 @@ use lib.ListN.{length, length-map}
 use Rattle.lists.specs.Each.{allOf, every-at}
 use Rattle.lists.specs.Parts.{part}
 use Rattle.lists.specs.Tests.{cond-cases}
 use Rattle.rules.specs.declared.Act.{Act}
 use Rattle.rules.specs.declared.Event.{Event}
 use Rattle.rules.specs.declared.Outcome.{Outcome}
 use Rattle.rules.specs.declared.Pair.{Pair}
 use Rattle.rules.specs.declared.Slot.{Slot}
 use Rattle.rules.specs.Modelled.{slotCount, slotBytes, memoryBytes}
 use Rattle.rules.specs.Fresh.{freshSlot, setupSlot, absentSlot}
 use Rattle.rules.specs.Refusals.{goodPair, kindsOf, inRange, emptyBus, setupOf}
 use Rattle.rules.specs.Runs.{Bench, after}
-use Rattle.rules.specs.Exchanges.{actsOf, went, Item, flatten, itemsOf, strike, ownTold}
+use Rattle.runs.specs.Exchanges.{actsOf, went, Item, flatten, itemsOf, strike, ownTold}
 use Rattle.rules.proofs.Range.Kept.{setup-in-range}
 use Rattle.rules.proofs.Run.Everywhere.{setup-everywhere}
-use Rattle.rules.proofs.TwoClerks.Alone.{slotsOf, partOf, slotAt}
-use Rattle.rules.proofs.TwoClerks.Parse.{flatten-items}
-use Rattle.rules.proofs.TwoClerks.RunAnswers.{after-kept}
-use Rattle.rules.proofs.TwoClerks.Struck.{Idles}
-use Rattle.rules.proofs.TwoClerks.Apart.{Agree, EndAlike, apart}
+use Rattle.runs.proofs.TwoClerks.Alone.{slotsOf, partOf, slotAt}
+use Rattle.runs.proofs.TwoClerks.Parse.{flatten-items}
+use Rattle.runs.proofs.TwoClerks.RunAnswers.{after-kept}
+use Rattle.runs.proofs.TwoClerks.Struck.{Idles}
+use Rattle.runs.proofs.TwoClerks.Apart.{Agree, EndAlike, apart}
 
 -- a bench that no event refuses by row 1 or 6
 pub record Ready (x : Bench) : Type 0 where

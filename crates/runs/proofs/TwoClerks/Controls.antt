@@ -6,22 +6,22 @@ use mathlib.Core.Bool.{Bool, true, false, not, cond, _&&_}
 use mathlib.Core.List.{List, [], _∷_}
 use lib.Dec.{leb}
 use Rattle.lists.specs.Tests.{cond-cases}
 use Rattle.rules.specs.declared.Act.{Act}
 use Rattle.rules.specs.declared.Act.the-variants.{Start, Byte, Read}
 use Rattle.rules.specs.declared.Heard.{Heard}
 use Rattle.rules.specs.declared.Heard.the-variants.{Memory, Sensor, Protect, ClearAll, ReadProtection, SelectHalf, ReadHalf, Nothing}
 use Rattle.rules.specs.declared.Phase.{Phase}
 use Rattle.rules.specs.declared.Phase.the-variants.{Idle, Control, Deaf, MemoryCounter, MemoryData, MemoryRead, HalfSelected, CommandAddress, CommandData, CommandStop, SensorPointer, SensorHigh, SensorLow, SensorReadHigh, SensorReadLow}
 use Rattle.rules.specs.declared.Slot.{Slot}
 use Rattle.rules.specs.Modelled.{absent, sensing}
 use Rattle.rules.specs.Open.{open-fields}
 use Rattle.rules.specs.Fields.{inPhase}
 use Rattle.rules.specs.Control.{acksControl, heardOf, obeyed, controlled}
 use Rattle.rules.specs.Memory.{loaded, guarded, latching, dataByte, fetched}
 use Rattle.rules.specs.Slot.{withSensorIn, standing, lost, pointer, firstByte, secondByte, byteIn, readIn, presentNext, slotNext}
 use Rattle.rules.proofs.Memory.Protection.{still-present}
 use Rattle.rules.proofs.Run.Cases.{present-next}
-use Rattle.rules.specs.Exchanges.{Inside, again, byte, read, insideAct, controls}
+use Rattle.runs.specs.Exchanges.{Inside, again, byte, read, insideAct, controls}
 
 abbrev awaiting : Phase → Bool
 awaiting Idle = false

@@ -8,13 +8,13 @@ use mathlib.Core.List.{List, [], _∷_, _++_, map}
 use lib.Dec.{eqb}
 use lib.IntN.{ℤ}
 use lib.ListN.{getD, replicate}
 use Rattle.rules.specs.declared.SlotNo.{SlotNo}
 use Rattle.rules.specs.Fresh.{absentSlot}
 use Rattle.rules.specs.Refusals.{setupOf}
 use Rattle.rules.specs.Runs.{Bench}
-use Rattle.rules.specs.Exchanges as Exchanges
-use Rattle.rules.specs.Exchanges.{went, flatten, strayByte, strayRead, strayStop, timeout, tick, voltage, power, temperature, struckGap, struck, again, byte, Item, exchange}
+use Rattle.runs.specs.Exchanges as Exchanges
+use Rattle.runs.specs.Exchanges.{went, flatten, strayByte, strayRead, strayStop, timeout, tick, voltage, power, temperature, struckGap, struck, again, byte, Item, exchange}
 use Rattle.rules.specs.Open.{open-all}
 
 unfoldable open-items : Unit {0}
 unfolding open-all Exchanges.controls Exchanges.names Exchanges.mute Exchanges.someOf Exchanges.addressed Exchanges.toNone Exchanges.toOther Exchanges.struck Exchanges.insideAct Exchanges.upToStop Exchanges.itemActs Exchanges.flatten Exchanges.went

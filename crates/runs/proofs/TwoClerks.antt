@@ -1,4 +1,5 @@
 -- Demand 3: two clerks at one bench.
+pub mod Addressed
 pub mod Alone
 pub mod Parse
 pub mod Classes

@@ -7,20 +7,19 @@ use mathlib.Core.Option.{Option, none, some}
 use lib.Dec.{eqb}
 use lib.IntN.{ℤ}
 use Rattle.lists.specs.Each.{allOf}
 use Rattle.rules.specs.declared.Act.{Act}
 use Rattle.rules.specs.declared.Act.the-variants.{Start, Byte, Read, Stop, Timeout, Tick, Voltage, Power, Temperature}
 use Rattle.rules.specs.declared.Answer.{Answer}
 use Rattle.rules.specs.declared.Answer.the-variants.{Nothing, Ack, Nack, Data}
 use Rattle.rules.specs.declared.Event.{Event}
 use Rattle.rules.specs.declared.Ruling.{Ruling}
 use Rattle.rules.specs.declared.Ruling.the-variants.{Taken, Refused}
 use Rattle.rules.specs.declared.Slot.{Slot}
 use Rattle.rules.specs.declared.SlotNo.{SlotNo}
 use Rattle.rules.specs.Control.{selectOf}
-use Rattle.rules.specs.Memory.{tickedPart}
-use Rattle.rules.specs.Slot.{slotNext, acks, drives, driven}
+use Rattle.rules.specs.Slot.{slotNext, partNext, acks, drives, driven}
 use Rattle.rules.specs.Refusals.{ruledBy}
 use Rattle.rules.specs.Runs.{Bench, taken, given, next, answered}
 
 -- "refused events anywhere are left out of account": the acts of the events that the kinds let pass
 unfoldable pub keptBy : Ruling → List Act → List Act
@@ -40,26 +39,7 @@ unfoldable pub told : List Act → Bench → List Answer
 told [] x = []
 told (a ∷ r) x = given a x ∷ told r (taken a x)
 
--- slot n alone over a run of acts, with its 512 bytes: its state, its bytes, and what the bus would show if it were the only one
-unfoldable pub slotAfter : ℕ → List Act → Slot → Slot
-slotAfter n [] s = s
-slotAfter n (a ∷ r) s = slotAfter n r (slotNext n a s)
-
-unfoldable pub partNext : Act → Slot → List ℕ → List ℕ
-partNext Start s m = m
-partNext (Byte v) s m = m
-partNext (Read b) s m = m
-partNext Stop s m = m
-partNext Timeout s m = m
-partNext Tick s m = tickedPart s m
-partNext (Voltage k on) s m = m
-partNext Power s m = m
-partNext (Temperature k t) s m = m
-
-unfoldable pub partAfter : ℕ → List Act → Slot → List ℕ → List ℕ
-partAfter n [] s m = m
-partAfter n (a ∷ r) s m = partAfter n r (slotNext n a s) (partNext a s m)
-
+-- what the bus would show if slot n were the only one, with its 512 bytes: at an act, and over a run
 unfoldable pub shownAlone : ℕ → Act → Slot → List ℕ → Answer
 shownAlone n Start s m = Nothing
 shownAlone n (Byte v) s m = cond (acks n v s) Ack Nack

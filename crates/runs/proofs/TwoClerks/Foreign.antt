@@ -9,21 +9,22 @@ use lib.Dec.{eqb}
 use borrow.Author.Tests.{eqb-true, eqb-false, ne-eqb, not-true}
 use Rattle.lists.specs.Each.{allOf}
 use Rattle.lists.specs.Tests.{cond-cases, by-test, and-left, and-right, or-cases}
 use Rattle.rules.specs.declared.Act.{Act}
 use Rattle.rules.specs.declared.Act.the-variants.{Start, Byte, Read, Stop, Timeout, Tick, Voltage, Power, Temperature}
 use Rattle.rules.specs.declared.Phase.{Phase}
 use Rattle.rules.specs.declared.Phase.the-variants.{Idle, Control, Deaf}
 use Rattle.rules.specs.declared.Slot.{Slot}
 use Rattle.rules.specs.Modelled.{absent}
 use Rattle.rules.specs.Fields.{inPhase}
 use Rattle.rules.specs.Control.{selectOf, heardOf, acksHeard, acksControl, controlled}
 use Rattle.rules.specs.Memory.{emptied, abandoned, cancelled}
 use Rattle.rules.specs.Open.{open-fields}
-use Rattle.rules.specs.Slot.{standing, letGo, byteIn, acksIn, readIn, drivesIn, stopIn, presentNext, slotNext, acks, drives}
-use Rattle.rules.specs.Exchanges.{slotAfter, partNext, partAfter, Inside, again, byte, read, exchange, insideAct, upToStop, controls, names, mute, someOf, addressed, toNone, toOther, struck}
+use Rattle.rules.specs.Slot.{standing, letGo, byteIn, acksIn, readIn, drivesIn, stopIn, presentNext, slotNext, partNext, acks, drives}
+use Rattle.rules.specs.Runs.{slotAfter, partAfter}
+use Rattle.runs.specs.Exchanges.{Inside, again, byte, read, exchange, insideAct, upToStop, controls, names, mute, someOf, addressed, toNone, toOther, struck}
 use Rattle.rules.proofs.Run.Cases.{let-go-cases, absent-next, present-next}
 use Rattle.rules.proofs.Memory.Protection.{still-present}
-use Rattle.rules.proofs.TwoClerks.Alone.{Silent, SilentOver}
+use Rattle.runs.proofs.TwoClerks.Alone.{Silent, SilentOver}
 
 -- slot n does not hear the control byte, whatever state it is in
 abbrev pub Unheard : ℕ → ℕ → Type 0

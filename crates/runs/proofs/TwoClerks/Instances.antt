@@ -8,17 +8,17 @@ use mathlib.Core.Bool.{true, false}
 use mathlib.Core.List.{List, [], _∷_, _++_}
 use lib.IntN.{ℤ, pos}
 use lib.ListN.{getD, replicate}
 use Rattle.rules.specs.declared.Answer.{Answer}
 use Rattle.rules.specs.declared.Answer.the-variants.{Nothing, Ack, Data, Refused}
 use Rattle.rules.specs.declared.Event.{Event}
 use Rattle.rules.specs.declared.Pair.{Pair}
 use Rattle.rules.specs.declared.Refusal.the-variants.{UnknownKind, WrongSlot, WrongValue}
 use Rattle.rules.specs.Runs.{Bench, after, answers}
-use Rattle.rules.specs.Exchanges as Exchanges
-use Rattle.rules.specs.Exchanges.{Inside, Item, exchange, between, again, byte, read, tick, voltage, temperature, controls, addressed, ownTold}
+use Rattle.runs.specs.Exchanges as Exchanges
+use Rattle.runs.specs.Exchanges.{Inside, Item, exchange, between, again, byte, read, tick, voltage, temperature, controls, addressed, ownTold}
 use Rattle.rules.specs.Open.{open-all}
-use Rattle.rules.proofs.TwoClerks.Demand3.{Parts, slot, Same, begun, demand3-from-setup}
-use Rattle.rules.proofs.TwoClerks.Stretches.{Moved, swap-from-setup}
+use Rattle.runs.proofs.TwoClerks.Demand3.{Parts, slot, Same, begun, demand3-from-setup}
+use Rattle.runs.proofs.TwoClerks.Stretches.{Moved, swap-from-setup}
 
 -- a parse, a striking out and a run of items on known values compute
 unfoldable open-clerks : Unit {0}

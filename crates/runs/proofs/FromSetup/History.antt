@@ -8,28 +8,28 @@ use mathlib.Core.List.{List, []}
 use lib.ListN.{length}
 use Rattle.lists.specs.Each.{every-at}
 use Rattle.lists.specs.Parts.{part}
 use Rattle.rules.specs.declared.Act.{Act}
 use Rattle.rules.specs.declared.Act.the-variants.{Start, Byte, Read, Stop, Timeout, Tick, Voltage, Power, Temperature}
 use Rattle.rules.specs.declared.Event.{Event}
 use Rattle.rules.specs.declared.Pair.{Pair}
 use Rattle.rules.specs.declared.Ruling.{Ruling}
 use Rattle.rules.specs.declared.Ruling.the-variants.{Taken, Refused}
 use Rattle.rules.specs.declared.Slot.{Slot}
 use Rattle.rules.specs.Modelled.{slotCount, slotBytes, memoryBytes}
 use Rattle.rules.specs.Fresh.{absentSlot, setupSlot, freshSlot}
-use Rattle.rules.specs.Slot.{slotNext}
+use Rattle.rules.specs.Slot.{slotNext, partNext}
 use Rattle.rules.specs.Refusals.{kindsOf, goodPair}
-use Rattle.rules.specs.Runs.{Bench, taken, rulingOn, ruledNext, next, after}
-use Rattle.rules.specs.Exchanges.{actsOf, went, slotAfter, partNext}
+use Rattle.rules.specs.Runs.{Bench, taken, rulingOn, ruledNext, next, after, slotAfter}
+use Rattle.runs.specs.Exchanges.{actsOf, went}
 use Rattle.rules.proofs.Range.Kept.{setup-in-range}
 use Rattle.rules.proofs.Run.Everywhere.{setup-everywhere}
 use Rattle.rules.proofs.Memory.Stored.{isTick}
 use Rattle.rules.proofs.Memory.Protection.{number-after}
-use Rattle.rules.proofs.Memory.Reached.{Reach, reached}
-use Rattle.rules.proofs.Memory.Story.{CommandBegun, PageBegun, protection-story, bytes-story}
-use Rattle.rules.proofs.TwoClerks.Alone.{slotsOf, partOf, slotAt, slot-taken, part-taken, slot-went}
-use Rattle.rules.proofs.TwoClerks.RunAnswers.{after-kept}
-use Rattle.rules.proofs.TwoClerks.Demand3.{begun, setup-number}
+use Rattle.runs.proofs.FromSetup.Reached.{Reach, reached}
+use Rattle.runs.proofs.FromSetup.Story.{CommandBegun, PageBegun, protection-story, bytes-story}
+use Rattle.runs.proofs.TwoClerks.Alone.{slotsOf, partOf, slotAt, slot-taken, part-taken, slot-went}
+use Rattle.runs.proofs.TwoClerks.RunAnswers.{after-kept}
+use Rattle.runs.proofs.TwoClerks.Demand3.{begun, setup-number}
 
 only-tick : (a : Act) → isTick a ≡ true → a ≡ Tick
 unfolding isTick

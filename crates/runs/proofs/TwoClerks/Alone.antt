@@ -6,19 +6,20 @@ use mathlib.Core.Path.{_≡_, refl, _∙_, ap, ap₂}
 use mathlib.Core.Bool.{Bool, false, cond}
 use mathlib.Core.List.{List, [], _∷_}
 use lib.ListN.{length, getD}
-use Rattle.lists.specs.Each.{mapFrom-at, length-mapFrom, anyFrom-one, firstFrom-one}
+use Rattle.lists.specs.Each.{mapFrom-at, anyFrom-one, firstFrom-one}
 use Rattle.lists.specs.Parts.{part, part-eachPart}
 use Rattle.rules.specs.declared.Act.{Act}
 use Rattle.rules.specs.declared.Act.the-variants.{Start, Byte, Read, Stop, Timeout, Tick, Voltage, Power, Temperature}
 use Rattle.rules.specs.declared.Answer.the-variants.{Ack, Nack, Data}
 use Rattle.rules.specs.declared.Slot.{Slot}
 use Rattle.rules.specs.Modelled.{slotBytes}
 use Rattle.rules.specs.Memory.{tickedPart}
-use Rattle.rules.specs.Slot.{slotNext, acks, drives, driven}
+use Rattle.rules.specs.Slot.{slotNext, partNext, acks, drives, driven}
 use Rattle.rules.specs.Bus.{busNext, memoryNext, anyAck, readByte, shown}
-use Rattle.rules.specs.Runs.{Bench, taken, given}
-use Rattle.rules.specs.Exchanges.{went, told, slotAfter, partNext, partAfter, shownAlone, toldAlone}
+use Rattle.rules.specs.Runs.{Bench, taken, given, slotAfter, partAfter}
+use Rattle.runs.specs.Exchanges.{went, told, shownAlone, toldAlone}
 use Rattle.rules.proofs.Memory.Stored.{length-tickedPart}
+use Rattle.rules.proofs.Memory.Protection.{number-taken}
 
 -- a bench's slots and slot k's part of its memory
 abbrev pub slotsOf : Bench → List Slot
@@ -26,10 +27,6 @@ slotsOf x = x .bus .slots
 
 abbrev pub partOf : ℕ → Bench → List ℕ
 partOf k x = part slotBytes k (x .memory)
-
-pub number-taken : (a : Act) (x : Bench) → length (slotsOf (taken a x)) ≡ length (slotsOf x)
-unfolding taken busNext
-number-taken a x = length-mapFrom (λ n s. slotNext n a s) 0 (slotsOf x)
 
 -- slot i says nothing at the act
 unfoldable pub Silent : ℕ → Act → Slot → Type 0

@@ -6,22 +6,22 @@ use mathlib.Core.Bool.{true, cond}
 use mathlib.Core.List.{List, [], _∷_, _++_}
 use mathlib.Core.Option.{some}
 use lib.ListN.{length}
 use Rattle.rules.specs.declared.Act.{Act}
 use Rattle.rules.specs.declared.Act.the-variants.{Start}
 use Rattle.rules.specs.declared.Answer.{Answer}
 use Rattle.rules.specs.declared.Answer.the-variants as answer
 use Rattle.rules.specs.declared.Event.{Event}
 use Rattle.rules.specs.declared.Ruling.{Ruling}
 use Rattle.rules.specs.declared.Ruling.the-variants.{Taken, Refused}
 use Rattle.rules.specs.Modelled.{memoryBytes}
 use Rattle.rules.specs.Refusals.{kindsOf, inRange, ruledBy}
 use Rattle.rules.specs.Runs.{Bench, taken, given, rulingOn, ruledNext, ruledAnswer, next, answered, after, answers}
-use Rattle.rules.specs.Exchanges.{keptAnswer, keptAnswers, chunks, concat, ownOf, keptBy, actsOf, went, told, Inside, Item, exchange, between, insideAct, upToStop, itemActs, flatten, itemsOf, own, ownTold}
+use Rattle.runs.specs.Exchanges.{keptAnswer, keptAnswers, chunks, concat, ownOf, keptBy, actsOf, went, told, Inside, Item, exchange, between, insideAct, upToStop, itemActs, flatten, itemsOf, own, ownTold}
 use Rattle.rules.proofs.Range.Kept.{next-in-range}
 use Rattle.rules.proofs.Memory.Protection.{kinds-next}
 use Rattle.rules.proofs.Range.Rulings.{ruling-by-kinds}
 use Rattle.rules.proofs.Memory.Stored.{memory-length-next}
-use Rattle.rules.proofs.TwoClerks.Parse.{flatten-items}
+use Rattle.runs.proofs.TwoClerks.Parse.{flatten-items}
 
 -- one event, however it is ruled: the bench, and the answer
 went-kept : (v : Ruling) (r : List Act) (x : Bench) → went r (ruledNext v x) ≡ went (keptBy v r) x

@@ -9,9 +9,9 @@ use lib.Dec.{eqb}
 use borrow.Author.Tests.{eqb-true, eq-eqb, ne-eqb}
 use Rattle.lists.specs.Each.{allOf}
 use Rattle.lists.specs.Tests.{by-test, and-left, and-right}
 use Rattle.rules.specs.Modelled.{slotCount}
 use Rattle.rules.specs.Control.{selectOf}
-use Rattle.rules.specs.Exchanges.{Inside, Item, exchange, between, controls, names, mute, someOf, addressed, toNone, toOther, shared, struck, own}
+use Rattle.runs.specs.Exchanges.{Inside, Item, exchange, between, controls, names, mute, someOf, addressed, toNone, toOther, shared, struck, own}
 
 -- of two tests of which the first shuts out the second, the second shuts out the first
 excluded : (a b : Bool) → (a ≡ true → b ≡ false) → b ≡ true → a ≡ false

@@ -12,27 +12,27 @@ use lib.ListN.{set}
 use borrow.Author.Tests.{eqb-true, eqb-false, ne-eqb}
 use Rattle.lists.specs.Each.{anyFrom}
 use Rattle.lists.specs.Tests.{cond-cases, by-test, and-left, and-right, cond-true, cond-false}
 use Rattle.rules.specs.declared.Act.{Act}
 use Rattle.rules.specs.declared.Act.the-variants.{Start, Byte, Read, Stop, Timeout, Tick, Voltage, Power, Temperature}
 use Rattle.rules.specs.declared.BlockNo.{BlockNo}
 use Rattle.rules.specs.declared.Heard.{Heard}
 use Rattle.rules.specs.declared.Heard.the-variants as heard
 use Rattle.rules.specs.declared.Phase.{Phase}
 use Rattle.rules.specs.declared.Phase.the-variants.{Idle, Control, Deaf, MemoryCounter, MemoryData, MemoryRead, HalfSelected, CommandAddress, CommandData, CommandStop, SensorPointer, SensorHigh, SensorLow, SensorReadHigh, SensorReadLow}
 use Rattle.rules.specs.declared.Slot.{Slot}
 use Rattle.rules.specs.Modelled.{absent, addressOf, pageOf}
 use Rattle.rules.specs.Open.{open-fields, open-memory, open-slot}
 use Rattle.rules.specs.Fields.{inPhase, withVoltage}
 use Rattle.rules.specs.Fresh.{noBlocks, noMarks, freshSlot, powered}
 use Rattle.rules.specs.Control.{heardOf, acksHeard, acksControl, controlled}
 use Rattle.rules.specs.Memory.{anyMark, putUpTo, stored, tickedPart}
-use Rattle.rules.specs.Slot.{commanding, standing, letGo, lost, byteIn, readIn, stopIn, acksIn, acks, presentNext, slotNext}
-use Rattle.rules.specs.Exchanges.{slotAfter, partNext}
+use Rattle.rules.specs.Slot.{commanding, standing, letGo, lost, byteIn, readIn, stopIn, acksIn, acks, presentNext, slotNext, partNext}
+use Rattle.rules.specs.Runs.{slotAfter}
 use Rattle.rules.proofs.Run.Cases.{next-cases, stands}
 use Rattle.rules.proofs.Memory.Stored.{isTick}
 use Rattle.rules.proofs.Memory.Protection.{Decided, asBefore, asStands, byProtect, byClear, Cycle, asWas, pageBegins, commandBegins, goesOn, powerDrops, protection-next, coming-next, cycle-next}
-use Rattle.rules.proofs.Memory.Reached.{Outside, by-outside, Reach, slot-reach}
-use Rattle.rules.proofs.Memory.Together.{ticks-outside, taking-steady, command-bare, cycle-marks}
+use Rattle.runs.proofs.FromSetup.Reached.{Outside, by-outside, Reach, slot-reach}
+use Rattle.runs.proofs.FromSetup.Together.{ticks-outside, taking-steady, command-bare, cycle-marks}
 
 -- what a cycle stores, and where, is the same in both
 abbrev pub SamePage : Slot → Slot → Type 0

@@ -1,0 +1,2 @@
+pub mod TwoClerks
+pub mod FromSetup
