@@ -37,8 +37,9 @@ fn setup_slots(pairs: [Pair; 8]) -> [Slot; 8]
 pub fn empty_bus() -> Bus
     ensures { λ r. ⌜ r ≡ emptyBus ⌝ }
 {
-    let none = Slot::fresh(0, 0);
-    Bus { slots: [none; 8] }
+    let none = Pair { kind: 0, length: 0 };
+    let slots = setup_slots([none; 8]);
+    Bus { slots }
 }
 
 // A bus from eight kinds and lengths: fresh slots, or refusal 5 with eight absent ones.

@@ -1,15 +1,17 @@
--- Eight absent slots.
+-- The slots of eight absent pairs are eight absent slots.
 -- Assumes nothing.
 use borrow.Author.Needs.{needs}
-use Rattle.rules.specs.Fresh.{absentSlot}
+use Rattle.rules.specs.Fresh.{setupSlot, absentSlot}
 use Rattle.rules.specs.Refusals.{emptyBus}
 use Rattle.fresh.proofs.empty_bus.Statement.{statement}
 use Rattle.fresh.proofs.empty_bus.Tie as tie
 
+setup-slots-requires : tie.Need-setup-slots-requires
+setup-slots-requires c κs = search needs
+
+returns : tie.Need-returns
+unfolding emptyBus setupSlot absentSlot
+returns c = rw (c .setup-slots .ensures)
+
 pub empty-bus-spec : {M : Type 1} → statement M
-unfolding emptyBus absentSlot
-empty-bus-spec =
-    tie.close
-    (tie.spec
-    (λ c κs. search needs)
-    (λ c. rw (c .fresh .ensures)))
+empty-bus-spec = tie.close (tie.spec setup-slots-requires returns)
