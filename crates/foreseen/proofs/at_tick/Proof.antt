@@ -4,7 +4,7 @@ use Rattle.foreseen.proofs.at_tick.Statement.{statement}
 use Rattle.foreseen.proofs.at_tick.Tie as tie
 
 returns : tie.Need-returns
-returns c = search tick-rests
+returns c = tick-rests _ _ (c .if1 .taken)
 
 returns-2 : tie.Need-returns-2
 returns-2 c = more _ _ _
