@@ -25,11 +25,10 @@ fn any_mark(marks: [bool; 16]) -> bool
 pub fn begun(s: Slot) -> Slot
     ensures { λ r. ⌜ r ≡ begun s ⌝ }
 {
-    Slot {
-        left: s.length,
-        place: 0,
-        ..s
-    }
+    let mut next = s;
+    next.left = s.length;
+    next.place = 0;
+    next
 }
 
 // A stop after data bytes: the write cycle begins if at least one is latched.
@@ -71,19 +70,17 @@ pub fn tick(s: Slot, part: &mut [u8]) -> Slot
         let marks = s.marks;
         put(part, at, latch, marks);
         let protection = s.coming;
-        return Slot {
-            left: 0,
-            protection,
-            latch: [0u8; 16],
-            marks: [false; 16],
-            ..s
-        };
+        let mut next = s;
+        next.left = 0;
+        next.protection = protection;
+        next.latch = [0u8; 16];
+        next.marks = [false; 16];
+        return next;
     }
     if left == 0 {
         return s;
     }
-    Slot {
-        left: left - 1,
-        ..s
-    }
+    let mut next = s;
+    next.left = left - 1;
+    next
 }

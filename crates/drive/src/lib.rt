@@ -47,15 +47,11 @@ fn high_byte(s: Slot, more: bool) -> Drive
     ensures { λ r. ⌜ r ≡ record { slot = readIn Phase.SensorReadHigh more s; drives = true; byte = s .sensor .word / 256 } ⌝ }
 {
     let byte = (s.sensor.word / 256) as u8;
-    if more {
-        let slot = phase::in_phase(Phase::SensorReadLow, s);
-        return Drive {
-            slot,
-            drives: true,
-            byte,
-        };
-    }
-    let slot = phase::lost(Phase::SensorReadHigh, s);
+    let slot = if more {
+        phase::in_phase(Phase::SensorReadLow, s)
+    } else {
+        phase::lost(Phase::SensorReadHigh, s)
+    };
     Drive {
         slot,
         drives: true,
@@ -83,20 +79,19 @@ pub fn read(s: Slot, part: &[u8], more: bool) -> Drive
 {
     let phase = phase::standing(s);
     match phase {
-        Phase::Idle => silent(s),
+        Phase::Idle | Phase::Deaf => silent(s),
         Phase::Control => silent(phase::in_phase(Phase::Deaf, s)),
-        Phase::Deaf => silent(s),
-        Phase::MemoryCounter => silent(phase::lost(Phase::MemoryCounter, s)),
-        Phase::MemoryData => silent(phase::lost(Phase::MemoryData, s)),
         Phase::MemoryRead => memory_byte(s, part, more),
-        Phase::HalfSelected => silent(phase::lost(Phase::HalfSelected, s)),
-        Phase::CommandAddress => silent(phase::lost(Phase::CommandAddress, s)),
-        Phase::CommandData => silent(phase::lost(Phase::CommandData, s)),
-        Phase::CommandStop => silent(phase::lost(Phase::CommandStop, s)),
-        Phase::SensorPointer => silent(phase::lost(Phase::SensorPointer, s)),
-        Phase::SensorHigh => silent(phase::lost(Phase::SensorHigh, s)),
-        Phase::SensorLow => silent(phase::lost(Phase::SensorLow, s)),
         Phase::SensorReadHigh => high_byte(s, more),
         Phase::SensorReadLow => low_byte(s),
+        Phase::MemoryCounter
+        | Phase::MemoryData
+        | Phase::HalfSelected
+        | Phase::CommandAddress
+        | Phase::CommandData
+        | Phase::CommandStop
+        | Phase::SensorPointer
+        | Phase::SensorHigh
+        | Phase::SensorLow => silent(phase::lost(phase, s)),
     }
 }

@@ -1,12 +1,15 @@
 -- Laws of the answers' lines.
 -- Assumes nothing.
-use mathlib.Core.Path.{_≡_, sym, _∙_, ap}
+use mathlib.Core.Path.{_≡_, refl, sym, _∙_, ap}
 use mathlib.Core.List.{List, [], _∷_}
 use Prim.Native.Nat.{ℕ, _+_, _/_, _%_, _≤_}
 use native.Mathlib.Nat.{zero-add}
 use native.Mathlib.Omega.{arith}
 use lib.ListN.{length}
 use lib.Seq.{sets}
+use denote.Enum.Declared.{tagOf}
+use types.Run.{OneOf, miss}
+use Rattle.rules.proofs.Answer.{the-type}
 use Rattle.rules.specs.declared.Answer.{Answer}
 use Rattle.rules.specs.declared.Answer.the-variants.{Nothing, Ack, Nack, Data, Refused}
 use Rattle.rules.specs.declared.Refusal.{Refusal}
@@ -49,3 +52,12 @@ unfolding refusalLine
 refusal-by a r end out o e p =
     let q : refusalLine a ≡ lineOf a = rw e in
     (p .0 ∙ zero-add (length (lineOf a)) ∙ ap length (sym q), p .1 ∙ ap (sets out 0) (sym q))
+
+-- any other answer, by its place among the variants, has none
+pub other-line : (a : Answer) → OneOf (0 ∷ 1 ∷ 2 ∷ 3 ∷ []) (tagOf the-type a) → refusalLine a ≡ []
+unfolding refusalLine
+other-line Nothing h = refl
+other-line Ack h = refl
+other-line Nack h = refl
+other-line (Data b) h = refl
+other-line (Refused r) h = absurd (miss (0 ∷ 1 ∷ 2 ∷ 3 ∷ []) 4 tt h)

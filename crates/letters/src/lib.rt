@@ -95,11 +95,8 @@ pub fn put_refusal(out: &mut [u8], a: Answer) -> usize
     requires { ⌜ 4 ≤ length (now out) ⌝ }
     ensures { λ r. ⌜ (r ≡ length (refusalLine a)) × (now (out .exit) ≡ sets (now (out .entry)) 0 (refusalLine a)) ⌝ }
 {
-    match a {
-        Answer::Nothing => 0,
-        Answer::Ack => 0,
-        Answer::Nack => 0,
-        Answer::Data(_) => 0,
-        Answer::Refused(_) => put_line(out, 0, a),
+    if let Answer::Refused(_) = a {
+        return put_line(out, 0, a);
     }
+    0
 }

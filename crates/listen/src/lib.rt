@@ -10,7 +10,6 @@ ghost use Rattle.listen.specs.Heeded.{heeded};
 use obey::Heed;
 use rules::Heard;
 use rules::Phase;
-use rules::Sensor;
 use rules::Slot;
 use rules::SlotNo;
 
@@ -30,13 +29,9 @@ fn pointed(b: u8, s: Slot) -> Heed
     ensures { λ r. ⌜ r ≡ record { slot = pointer b s; ack = leb b 9 } ⌝ }
 {
     if b <= 9 {
-        let x = s.sensor;
-        let sensor = Sensor { pointer: b, ..x };
-        return obey::ack(Slot {
-            phase: Phase::SensorHigh,
-            sensor,
-            ..s
-        });
+        let mut next = s;
+        next.sensor.pointer = b;
+        return obey::ack(phase::in_phase(Phase::SensorHigh, next));
     }
     obey::nack(phase::lost(Phase::SensorPointer, s))
 }
@@ -45,16 +40,10 @@ fn pointed(b: u8, s: Slot) -> Heed
 fn first_byte(b: u8, s: Slot) -> Slot
     ensures { λ r. ⌜ r ≡ firstByte b s ⌝ }
 {
-    let x = s.sensor;
-    let sensor = Sensor {
-        word: (b as u16) * 256,
-        ..x
-    };
-    Slot {
-        phase: Phase::SensorLow,
-        sensor,
-        ..s
-    }
+    let word = (b as u16) * 256;
+    let mut next = s;
+    next.sensor.word = word;
+    phase::in_phase(Phase::SensorLow, next)
 }
 
 // With its second byte the register changes, and nothing more is taken.
@@ -63,7 +52,9 @@ fn second_byte(b: u8, s: Slot) -> Slot
 {
     let x = s.sensor;
     let sensor = registers::written(x, x.pointer, x.word / 256 * 256 + (b as u16));
-    phase::lost(Phase::SensorLow, Slot { sensor, ..s })
+    let mut next = s;
+    next.sensor = sensor;
+    phase::lost(Phase::SensorLow, next)
 }
 
 // A byte from the master at slot n; h is what it asks for as a control byte.
@@ -73,20 +64,17 @@ pub fn byte(s: Slot, n: SlotNo, b: u8, h: Heard) -> Heed
 {
     let phase = phase::standing(s);
     match phase {
-        Phase::Idle => obey::nack(s),
+        Phase::Idle | Phase::Deaf => obey::nack(s),
         Phase::Control => obey::controlled(h, n, s),
-        Phase::Deaf => obey::nack(s),
         Phase::MemoryCounter => obey::ack(memory::loaded(b, s)),
         Phase::MemoryData => data_byte(b, s),
-        Phase::MemoryRead => obey::nack(phase::lost(Phase::MemoryRead, s)),
         Phase::HalfSelected => obey::ack(s),
         Phase::CommandAddress => obey::ack(phase::in_phase(Phase::CommandData, s)),
         Phase::CommandData => obey::ack(phase::in_phase(Phase::CommandStop, s)),
-        Phase::CommandStop => obey::nack(phase::lost(Phase::CommandStop, s)),
         Phase::SensorPointer => pointed(b, s),
         Phase::SensorHigh => obey::ack(first_byte(b, s)),
         Phase::SensorLow => obey::ack(second_byte(b, s)),
-        Phase::SensorReadHigh => obey::nack(phase::lost(Phase::SensorReadHigh, s)),
-        Phase::SensorReadLow => obey::nack(phase::lost(Phase::SensorReadLow, s)),
+        Phase::MemoryRead | Phase::CommandStop | Phase::SensorReadHigh | Phase::SensorReadLow =>
+            obey::nack(phase::lost(phase, s)),
     }
 }

@@ -63,12 +63,10 @@ pub fn guarded(s: Slot) -> bool
 pub fn loaded(b: u8, s: Slot) -> Slot
     ensures { λ r. ⌜ r ≡ loaded b s ⌝ }
 {
-    Slot {
-        counter: b,
-        phase: Phase::MemoryData,
-        place: b % 16,
-        ..s
-    }
+    let mut next = s;
+    next.counter = b;
+    next.place = b % 16;
+    phase::in_phase(Phase::MemoryData, next)
 }
 
 // A data byte goes into the latch at the counter's offset; the counter goes on, wrapping in its page, and the place with it.
@@ -81,13 +79,12 @@ pub fn latching(b: u8, s: Slot) -> Slot
     latch[at] = b;
     marks[at] = true;
     let counter = s.counter / 16 * 16 + (s.counter % 16 + 1) % 16;
-    Slot {
-        counter,
-        latch,
-        marks,
-        place: counter % 16,
-        ..s
-    }
+    let mut next = s;
+    next.latch = latch;
+    next.marks = marks;
+    next.counter = counter;
+    next.place = counter % 16;
+    next
 }
 
 // The byte that a memory read drives: the one at the address.
@@ -111,10 +108,7 @@ pub fn phase_after(more: bool) -> Phase
 pub fn fetched(more: bool, s: Slot) -> Slot
     ensures { λ r. ⌜ r ≡ fetched more s ⌝ }
 {
-    let phase = phase_after(more);
-    Slot {
-        counter: ((s.counter as u16 + 1) % 256) as u8,
-        phase,
-        ..s
-    }
+    let mut next = s;
+    next.counter = ((s.counter as u16 + 1) % 256) as u8;
+    phase::in_phase(phase_after(more), next)
 }

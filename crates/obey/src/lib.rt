@@ -9,7 +9,6 @@ ghost use Rattle.rules.specs.Control.{acksHeard, obeyed};
 use rules::BlockNo;
 use rules::Heard;
 use rules::Phase;
-use rules::Sensor;
 use rules::Slot;
 use rules::SlotNo;
 
@@ -55,11 +54,9 @@ fn protecting(k: BlockNo, s: Slot) -> Slot
 {
     let protection = s.protection;
     let coming = memory::with_block(k, protection);
-    Slot {
-        coming,
-        phase: Phase::CommandAddress,
-        ..s
-    }
+    let mut next = s;
+    next.coming = coming;
+    phase::in_phase(Phase::CommandAddress, next)
 }
 
 // The slot with a sensor read begun: both bytes are fixed.
@@ -68,12 +65,9 @@ fn fixed(s: Slot) -> Slot
 {
     let x = s.sensor;
     let word = registers::register(x, x.pointer);
-    let sensor = Sensor { word, ..x };
-    Slot {
-        phase: Phase::SensorReadHigh,
-        sensor,
-        ..s
-    }
+    let mut next = s;
+    next.sensor.word = word;
+    phase::in_phase(Phase::SensorReadHigh, next)
 }
 
 // What the ACK of a control byte does.
@@ -94,17 +88,17 @@ fn obeyed(h: Heard, s: Slot) -> Slot
             phase::in_phase(Phase::SensorPointer, s)
         }
         Heard::Protect(k) => protecting(k, s),
-        Heard::ClearAll => Slot {
-            coming: [false; 4],
-            phase: Phase::CommandAddress,
-            ..s
-        },
+        Heard::ClearAll => {
+            let mut next = s;
+            next.coming = [false; 4];
+            phase::in_phase(Phase::CommandAddress, next)
+        }
         Heard::ReadProtection(_) => phase::in_phase(Phase::Deaf, s),
-        Heard::SelectHalf(half) => Slot {
-            half,
-            phase: Phase::HalfSelected,
-            ..s
-        },
+        Heard::SelectHalf(half) => {
+            let mut next = s;
+            next.half = half;
+            phase::in_phase(Phase::HalfSelected, next)
+        }
         Heard::ReadHalf => phase::in_phase(Phase::Deaf, s),
         Heard::Nothing => phase::in_phase(Phase::Deaf, s),
     }

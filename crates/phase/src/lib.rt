@@ -4,7 +4,6 @@ ghost use Rattle.rules.specs.Fields.{inPhase};
 ghost use Rattle.rules.specs.Memory.{abandoned, cancelled};
 ghost use Rattle.rules.specs.Slot.{being, traits, standing, letGo, lost};
 use rules::Phase;
-use rules::Sensor;
 use rules::Slot;
 use rules::Traits;
 
@@ -32,21 +31,23 @@ pub fn traits(p: Phase) -> Traits
     ensures { λ r. ⌜ r ≡ traits p ⌝ }
 {
     match p {
-        Phase::Idle => being(false, false, false, false),
-        Phase::Control => being(false, false, false, false),
-        Phase::Deaf => being(false, false, false, false),
-        Phase::MemoryCounter => being(false, false, false, false),
         Phase::MemoryData => being(false, false, true, false),
         Phase::MemoryRead => being(false, false, false, true),
-        Phase::HalfSelected => being(false, false, false, false),
-        Phase::CommandAddress => being(false, true, false, false),
-        Phase::CommandData => being(false, true, false, false),
-        Phase::CommandStop => being(false, true, false, false),
-        Phase::SensorPointer => being(true, false, false, false),
-        Phase::SensorHigh => being(true, false, false, false),
-        Phase::SensorLow => being(true, false, false, false),
-        Phase::SensorReadHigh => being(true, false, false, true),
-        Phase::SensorReadLow => being(true, false, false, true),
+        Phase::CommandAddress | Phase::CommandData | Phase::CommandStop => being(
+            false,
+            true,
+            false,
+            false,
+        ),
+        Phase::SensorPointer | Phase::SensorHigh | Phase::SensorLow => being(
+            true,
+            false,
+            false,
+            false,
+        ),
+        Phase::SensorReadHigh | Phase::SensorReadLow => being(true, false, false, true),
+        Phase::Idle | Phase::Control | Phase::Deaf | Phase::MemoryCounter | Phase::HalfSelected =>
+            being(false, false, false, false),
     }
 }
 
@@ -66,20 +67,21 @@ pub fn standing(s: Slot) -> Phase
 pub fn abandoned(s: Slot) -> Slot
     ensures { λ r. ⌜ r ≡ abandoned s ⌝ }
 {
-    Slot {
-        latch: [0u8; 16],
-        marks: [false; 16],
-        place: 0,
-        ..s
-    }
+    let mut next = s;
+    next.latch = [0u8; 16];
+    next.marks = [false; 16];
+    next.place = 0;
+    next
 }
 
 // A protect or clear is cancelled: the protection to come is the one that stands.
 pub fn cancelled(s: Slot) -> Slot
     ensures { λ r. ⌜ r ≡ cancelled s ⌝ }
 {
-    let coming = s.protection;
-    Slot { coming, ..s }
+    let standing = s.protection;
+    let mut next = s;
+    next.coming = standing;
+    next
 }
 
 // The slot without what an exchange that is left in this phase held of it.
@@ -88,9 +90,9 @@ pub fn let_go(p: Phase, s: Slot) -> Slot
 {
     let t = traits(p);
     if t.sensor {
-        let x = s.sensor;
-        let sensor = Sensor { word: 0, ..x };
-        return Slot { sensor, ..s };
+        let mut next = s;
+        next.sensor.word = 0;
+        return next;
     }
     if t.command {
         return cancelled(s);

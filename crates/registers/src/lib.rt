@@ -62,33 +62,17 @@ pub fn written(x: Sensor, p: u8, v: u16) -> Sensor
     ensures { λ r. ⌜ r ≡ written x p v ⌝ }
 {
     let old = x.configuration;
+    let mut next = x;
     match p {
-        0x01 => Sensor {
-            configuration: configuration_after(old, v),
-            ..x
-        },
-        0x02 => Sensor {
-            high: limit_after(limits_locked(old), x.high, v),
-            ..x
-        },
-        0x03 => Sensor {
-            low: limit_after(limits_locked(old), x.low, v),
-            ..x
-        },
-        0x04 => Sensor {
-            critical: limit_after(critical_locked(old), x.critical, v),
-            ..x
-        },
-        0x08 => Sensor {
-            resolution: (v & 0x0003) as u8,
-            ..x
-        },
-        0x09 => Sensor {
-            timeout: (v & 0x0001) as u8,
-            ..x
-        },
-        _ => x,
+        0x01 => next.configuration = configuration_after(old, v),
+        0x02 => next.high = limit_after(limits_locked(old), x.high, v),
+        0x03 => next.low = limit_after(limits_locked(old), x.low, v),
+        0x04 => next.critical = limit_after(critical_locked(old), x.critical, v),
+        0x08 => next.resolution = (v & 0x0003) as u8,
+        0x09 => next.timeout = (v & 0x0001) as u8,
+        _ => {}
     }
+    next
 }
 
 // Whether the pointer is in its range and no register has a bit that is not kept.

@@ -2,7 +2,7 @@
 ghost use mathlib.Core.Path.{_≡_};
 ghost use Rattle.lists.specs.Each.{allOf};
 ghost use Rattle.rules.specs.Events.{actOf};
-ghost use Rattle.rules.specs.Refusals.{unknownKind, kindAt, wrongSlot, outside, wrongValue, goodPair, lengthInRange, slotInRange, ruledFor};
+ghost use Rattle.rules.specs.Refusals.{kindAt, wrongSlot, outside, wrongValue, goodPair, lengthInRange, slotInRange, ruledFor};
 ghost use mathlib.Core.Bool.{false, cond};
 ghost use Rattle.ruling.specs.Kinds.{kindsIn};
 use rules::Act;
@@ -33,13 +33,6 @@ pub fn kind_at(slots: [Slot; 8], n: SlotNo) -> u8
     kind
 }
 
-// Row 2: the kind is not 1 to 9.
-fn unknown_kind(e: Event) -> bool
-    ensures { λ r. ⌜ r ≡ unknownKind e ⌝ }
-{
-    (e.kind < 1) | (9 < e.kind)
-}
-
 // Row 3, by the kind of the slot that the event names: a voltage for one that is not there, or a temperature for one without a sensor.
 fn wrong_slot(kind: u8, e: Event) -> bool
     ensures { λ r. ⌜ r ≡ wrongSlot kind e ⌝ }
@@ -59,17 +52,14 @@ fn outside(least: i16, most: i16, v: i16) -> bool
 fn wrong_value(e: Event) -> bool
     ensures { λ r. ⌜ r ≡ wrongValue e ⌝ }
 {
+    let kind = e.kind;
     let v = e.value;
-    if e.kind == 2 {
-        return outside(0, 255, v);
+    match kind {
+        2 => outside(0, 255, v),
+        3 | 7 => outside(0, 1, v),
+        9 => outside(-640, 2000, v),
+        _ => false,
     }
-    if (e.kind == 3) | (e.kind == 7) {
-        return outside(0, 1, v);
-    }
-    if e.kind == 9 {
-        return outside(-640, 2000, v);
-    }
-    false
 }
 
 // What an event with a value in range does.
@@ -97,7 +87,8 @@ fn act_of(e: Event) -> Act
 pub fn ruled(kind: u8, e: Event) -> Ruling
     ensures { λ r. ⌜ r ≡ ruledFor kind e ⌝ }
 {
-    if unknown_kind(e) {
+    // Row 2: the kind is not 1 to 9.
+    if (e.kind < 1) | (9 < e.kind) {
         return Ruling::Refused(Refusal::UnknownKind);
     }
     if wrong_slot(kind, e) {

@@ -132,8 +132,7 @@ pub fn converted(x: Sensor, given: i16) -> Sensor
         return x;
     }
     let t = stepped(given, x.resolution);
-    Sensor {
-        temperature: reading(x, t),
-        ..x
-    }
+    let mut next = x;
+    next.temperature = reading(x, t);
+    next
 }

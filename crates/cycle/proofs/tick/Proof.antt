@@ -5,7 +5,7 @@ use native.Mathlib.Omega.{arith}
 use borrow.Author.Needs.{needs}
 use Rattle.rules.specs.Memory.{emptied, ended}
 use Rattle.rules.specs.Modelled.{addressOf}
-use Rattle.rules.specs.Open.{open-fields}
+use Rattle.rules.specs.Fields.{withLeft, latched, protecting}
 use Rattle.rules.proofs.Range.Kept.{facts}
 use Rattle.rules.specs.declared.Address.{Address}
 use Rattle.cycle.proofs.Laws.{tick-absent, tick-ends, tick-waits, tick-rests}
@@ -13,7 +13,7 @@ use Rattle.cycle.proofs.tick.Statement.{statement}
 use Rattle.cycle.proofs.tick.Tie as tie
 
 pub tick-spec : {M : Type 1} → statement M
-unfolding ended emptied addressOf open-fields
+unfolding ended emptied addressOf withLeft latched protecting
 tick-spec =
     tie.close
     (tie.spec
@@ -21,9 +21,16 @@ tick-spec =
     (λ c κs. search needs)
     (λ c. search needs)
     (λ c. search needs)
-    (λ c κs. let v = facts (c .before .before .before .before .before .before .before .before .before .args .s) (c .before .before .before .before .before .before .before .before .before .pre .0) in let e = ap (λ (a : Address). a .0) (c .before .before .before .before .address-of .ensures) in omega (arith, v .halves, v .counters, e, c .before .before .before .before .before .before .before .before .before .pre .1))
+    (λ c κs.
+    let n = c .before .before .before .before in
+    let g = n .before .before .before .before .before in
+    let v = facts (g .args .s) (g .pre .0) in
+    omega (arith, v .halves, v .counters, ap (λ (a : Address). a .0) (n .address-of .ensures), g .pre .1))
     (λ c. search needs)
-    (λ c. tick-ends _ _ _ _ _ _ (c .before .before .before .before .before .before .before .before .before .before .before .before .if1 .left) (c .before .before .before .before .before .before .before .before .before .before .before .if2 .taken) (c .before .before .before .before .before .before .before .before .before .before .address-of .ensures) refl refl (c .before .before .before .before .before .put .ensures))
+    (λ c.
+    let n = c .before .before .before .before .before .before .before .before .before .before in
+    let s = n .before .before .before .before .before .args .s in
+    tick-ends s _ _ _ (n .address-of .result) _ (n .before .before .if1 .left) (n .before .if2 .taken) (n .address-of .ensures) refl refl (c .before .before .before .before .before .put .ensures))
     (λ c. tick-rests _ _ _ _ (c .before .before .if1 .left) (c .if3 .taken) refl refl)
     (λ c. search needs)
-    (λ c. tick-waits _ _ _ _ (c .before .before .before .before .before .before .before .if1 .left) (c .before .before .before .before .before .before .if2 .left) refl refl))
+    (λ c. tick-waits _ _ _ _ (c .before .before .if1 .left) (c .before .if2 .left) refl refl))

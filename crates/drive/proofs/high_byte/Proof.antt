@@ -12,6 +12,6 @@ high-byte-spec =
     (tie.spec
     (λ c. search needs)
     (λ c κs. search needs)
-    (λ c. rw (c .before .if1 .taken, c .in-phase .ensures))
     (λ c κs. search needs)
+    (λ c. rw (c .before .if1 .taken, c .in-phase .ensures))
     (λ c. rw (c .before .if1 .left, c .lost .ensures)))

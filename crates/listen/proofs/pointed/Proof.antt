@@ -2,18 +2,19 @@
 -- Assumes nothing.
 use borrow.Author.Needs.{needs}
 use borrow.Author.Tests.{le-leb, lt-leb}
-use Rattle.rules.specs.Open.{open-fields}
+use Rattle.rules.specs.Fields.{withSensor, pointing}
 use Rattle.rules.specs.Slot.{pointer}
 use Rattle.listen.proofs.pointed.Statement.{statement}
 use Rattle.listen.proofs.pointed.Tie as tie
 
 pub pointed-spec : {M : Type 1} → statement M
-unfolding pointer open-fields
+unfolding pointer withSensor pointing
 pointed-spec =
     tie.close
     (tie.spec
     (λ c κs. search needs)
-    (λ c. rw (le-leb _ _ (c .before .before .before .before .before .before .if1 .taken), c .ack .ensures))
+    (λ c κs. search needs)
+    (λ c. rw (le-leb _ _ (c .before .before .before .if1 .taken), c .ack .ensures, c .before .in-phase .ensures))
     (λ c κs. search needs)
     (λ c κs. search needs)
     (λ c. rw (lt-leb _ _ (c .before .before .if1 .left), c .nack .ensures, c .before .lost .ensures)))

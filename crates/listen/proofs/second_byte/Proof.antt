@@ -1,13 +1,13 @@
 -- The register is written, and the exchange is over.
 -- Assumes nothing.
 use borrow.Author.Needs.{needs}
-use Rattle.rules.specs.Open.{open-fields}
+use Rattle.rules.specs.Fields.{withSensor}
 use Rattle.rules.specs.Slot.{secondByte}
 use Rattle.listen.proofs.second_byte.Statement.{statement}
 use Rattle.listen.proofs.second_byte.Tie as tie
 
 pub second-byte-spec : {M : Type 1} → statement M
-unfolding secondByte open-fields
+unfolding secondByte withSensor
 second-byte-spec =
     tie.close
     (tie.spec
@@ -15,4 +15,4 @@ second-byte-spec =
     (λ c. search needs)
     (λ c κs. search needs)
     (λ c κs. search needs)
-    (λ c. rw (c .lost .ensures, c .before .before .before .before .before .written .ensures)))
+    (λ c. rw (c .lost .ensures, c .before .written .ensures)))

@@ -3,12 +3,12 @@
 use mathlib.Core.Path.{refl}
 use borrow.Author.Needs.{needs}
 use Rattle.rules.specs.Memory.{upInPage, latching}
-use Rattle.rules.specs.Open.{open-fields}
+use Rattle.rules.specs.Fields.{atCounter, placed, latched}
 use Rattle.memory.proofs.latching.Statement.{statement}
 use Rattle.memory.proofs.latching.Tie as tie
 
 pub latching-spec : {M : Type 1} → statement M
-unfolding latching upInPage open-fields
+unfolding latching upInPage atCounter placed latched
 latching-spec =
     tie.close
     (tie.spec

@@ -1,14 +1,15 @@
--- The slot of the definition, field by field.
+-- The counter and the place, and then the phase.
 -- Assumes nothing.
-use mathlib.Core.Path.{refl}
+use borrow.Author.Needs.{needs}
+use Rattle.rules.specs.Fields.{atCounter, placed}
 use Rattle.rules.specs.Memory.{loaded}
-use Rattle.rules.specs.Open.{open-fields}
 use Rattle.memory.proofs.loaded.Statement.{statement}
 use Rattle.memory.proofs.loaded.Tie as tie
 
 pub loaded-spec : {M : Type 1} → statement M
-unfolding loaded open-fields
+unfolding loaded placed atCounter
 loaded-spec =
     tie.close
     (tie.spec
-    (λ c. refl))
+    (λ c κs. search needs)
+    (λ c. c .in-phase .ensures))

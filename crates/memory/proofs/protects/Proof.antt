@@ -11,4 +11,4 @@ protects-spec =
     tie.close
     (tie.spec
     (λ c κs. search needs)
-    (λ c. cc))
+    (λ c. c .block-at .ensures))

@@ -1,14 +1,15 @@
 -- The register at the pointer is held.
 -- Assumes nothing.
 use borrow.Author.Needs.{needs}
-use Rattle.rules.specs.Open.{open-fields}
+use Rattle.rules.specs.Fields.{holding, withSensor, withWord}
 use Rattle.obey.proofs.fixed.Statement.{statement}
 use Rattle.obey.proofs.fixed.Tie as tie
 
 pub fixed-spec : {M : Type 1} → statement M
-unfolding open-fields
+unfolding holding withSensor withWord
 fixed-spec =
     tie.close
     (tie.spec
     (λ c κs. search needs)
-    (λ c. cc))
+    (λ c κs. search needs)
+    (λ c. rw (c .in-phase .ensures, c .before .before .register .ensures)))

@@ -12,4 +12,4 @@ lost-spec =
     (tie.spec
     (λ c κs. search needs)
     (λ c κs. search needs)
-    (λ c. cc))
+    (λ c. rw (c .in-phase .ensures, c .before .let-go .ensures)))

@@ -1,5 +1,6 @@
 -- The test is the definition's own.
 -- Assumes nothing.
+use mathlib.Core.Path.{refl}
 use borrow.Author.Needs.{needs}
 use Rattle.phase.proofs.Laws.{standing-by}
 use Rattle.phase.proofs.standing.Statement.{statement}
@@ -10,5 +11,5 @@ standing-spec =
     tie.close
     (tie.spec
     (λ c κs. search needs)
-    (λ c. search standing-by)
-    (λ c. search standing-by))
+    (λ c. standing-by _ _ _ _ (c .before .before .before .before .traits .ensures) (c .if1 .taken) refl)
+    (λ c. standing-by _ _ _ _ (c .before .before .before .before .traits .ensures) (c .if1 .left) refl))

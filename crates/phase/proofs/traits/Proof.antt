@@ -1,6 +1,12 @@
 -- The table, row by row.
 -- Assumes nothing.
+use mathlib.Core.Bool.{true, false}
+use mathlib.Core.List.{[], _∷_}
+use mathlib.Core.Path.{_≡_, refl, _∙_}
 use borrow.Author.Needs.{needs}
+use Rattle.rules.specs.declared.Phase.the-variants.{Idle, Control, Deaf, MemoryCounter, HalfSelected, CommandAddress, CommandData, CommandStop, SensorPointer, SensorHigh, SensorLow, SensorReadHigh, SensorReadLow}
+use Rattle.rules.specs.Slot.{being, traits}
+use Rattle.phase.proofs.Arms.{arm}
 use Rattle.phase.proofs.traits.Statement.{statement}
 use Rattle.phase.proofs.traits.Tie as tie
 
@@ -12,44 +18,13 @@ traits-spec =
     (λ c κs. search needs)
     (λ c. search needs)
     (λ c κs. search needs)
-    (λ c. search needs)
     (λ c κs. search needs)
-    (λ c. search needs)
     (λ c κs. search needs)
-    (λ c. search needs)
     (λ c κs. search needs)
-    (λ c. search needs)
-    (λ c κs. search needs)
-    (λ c. search needs)
-    (λ c κs. search needs)
-    (λ c. search needs)
-    (λ c κs. search needs)
-    (λ c. search needs)
-    (λ c κs. search needs)
-    (λ c. search needs)
-    (λ c κs. search needs)
-    (λ c. search needs)
-    (λ c κs. search needs)
-    (λ c. search needs)
-    (λ c κs. search needs)
-    (λ c. search needs)
-    (λ c κs. search needs)
-    (λ c. search needs)
-    (λ c κs. search needs)
-    (λ c. search needs)
     (λ c κs. search needs)
     (λ c. rw (c .before .enum-told .given .1, c .being .ensures))
     (λ c. rw (c .before .enum-told2 .given .1, c .being2 .ensures))
-    (λ c. rw (c .before .enum-told3 .given .1, c .being3 .ensures))
-    (λ c. rw (c .before .enum-told4 .given .1, c .being4 .ensures))
-    (λ c. rw (c .before .enum-told5 .given .1, c .being5 .ensures))
-    (λ c. rw (c .before .enum-told6 .given .1, c .being6 .ensures))
-    (λ c. rw (c .before .enum-told7 .given .1, c .being7 .ensures))
-    (λ c. rw (c .before .enum-told8 .given .1, c .being8 .ensures))
-    (λ c. rw (c .before .enum-told9 .given .1, c .being9 .ensures))
-    (λ c. rw (c .before .enum-told10 .given .1, c .being10 .ensures))
-    (λ c. rw (c .before .enum-told11 .given .1, c .being11 .ensures))
-    (λ c. rw (c .before .enum-told12 .given .1, c .being12 .ensures))
-    (λ c. rw (c .before .enum-told13 .given .1, c .being13 .ensures))
-    (λ c. rw (c .before .enum-told14 .given .1, c .being14 .ensures))
-    (λ c. rw (c .before .enum-told15 .given .1, c .being15 .ensures)))
+    (λ c. c .being3 .ensures ∙ arm (CommandAddress ∷ CommandData ∷ CommandStop ∷ []) (λ q. being false true false false) traits (c .before .before .args .p) (c .before .match .keys3) refl)
+    (λ c. c .being4 .ensures ∙ arm (SensorPointer ∷ SensorHigh ∷ SensorLow ∷ []) (λ q. being true false false false) traits (c .before .before .args .p) (c .before .match .keys4) refl)
+    (λ c. c .being5 .ensures ∙ arm (SensorReadHigh ∷ SensorReadLow ∷ []) (λ q. being true false false true) traits (c .before .before .args .p) (c .before .match .keys5) refl)
+    (λ c. c .being6 .ensures ∙ arm (Idle ∷ Control ∷ Deaf ∷ MemoryCounter ∷ HalfSelected ∷ []) (λ q. being false false false false) traits (c .before .before .args .p) (c .before .match .keys6) refl))

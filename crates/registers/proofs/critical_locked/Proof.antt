@@ -1,13 +1,13 @@
 -- `sensor::critical_locked` is the definition's test.
 -- Assumes nothing.
-use borrow.Author.Needs.{needs}
+use mathlib.Core.Path.{refl}
 use Rattle.rules.specs.Sensor.{criticalLocked}
 use Rattle.registers.proofs.critical_locked.Statement.{statement}
 use Rattle.registers.proofs.critical_locked.Tie as tie
 
 returns : tie.Need-returns
 unfolding criticalLocked
-returns c = search needs
+returns c = refl
 
 pub critical-locked-spec : {M : Type 1} → statement M
 critical-locked-spec = tie.close (tie.spec returns)

@@ -6,14 +6,13 @@ use borrow.Author.Tests.{ne-eqb}
 use lib.Bits.{bitAnd}
 use mir.Facts.{fits-mask}
 use Rattle.lists.specs.Tests.{cond-ap}
-use Rattle.rules.specs.Fields.{withHigh, withLow, withCritical}
-use Rattle.rules.specs.Open.{open-fields}
+use Rattle.rules.specs.Fields.{withConfiguration, withHigh, withLow, withCritical, withResolution, withTimeout}
 use Rattle.rules.specs.Sensor.{limitBits, criticalLocked, limitsLocked, written}
 use Rattle.registers.proofs.written.Statement.{statement}
 use Rattle.registers.proofs.written.Tie as tie
 
 pub written-spec : {M : Type 1} → statement M
-unfolding open-fields written
+unfolding withConfiguration withHigh withLow withCritical withResolution withTimeout written
 written-spec =
     tie.close
     (tie.spec
@@ -38,4 +37,4 @@ written-spec =
     (cond-ap (λ (n : ℕ). withCritical n (a .x)) (criticalLocked (a .x .configuration)) (a .x .critical) (bitAnd (a .v) limitBits)))
     (λ c. rw (c .match .keys5))
     (λ c. rw (c .match .keys6))
-    (λ c. let r = c .match .rest in simp (ne-eqb _ _ (r .0 .0 .0 .0 .0 .1), ne-eqb _ _ (r .0 .0 .0 .0 .1), ne-eqb _ _ (r .0 .0 .0 .1), ne-eqb _ _ (r .0 .0 .1), ne-eqb _ _ (r .0 .1), ne-eqb _ _ (r .1))))
+    (λ c. let r = c .match .rest in rw (ne-eqb _ _ (r .0 .0 .0 .0 .0 .1), ne-eqb _ _ (r .0 .0 .0 .0 .1), ne-eqb _ _ (r .0 .0 .0 .1), ne-eqb _ _ (r .0 .0 .1), ne-eqb _ _ (r .0 .1), ne-eqb _ _ (r .1))))

@@ -1,6 +1,6 @@
 -- The tests of the definition, on the slot's kind.
 -- Assumes nothing.
-use borrow.Author.Needs.{needs}
+use mathlib.Core.Path.{refl}
 use Rattle.rules.specs.Refusals.{wrongSlot}
 use Rattle.ruling.proofs.wrong_slot.Statement.{statement}
 use Rattle.ruling.proofs.wrong_slot.Tie as tie
@@ -10,4 +10,4 @@ unfolding wrongSlot
 wrong-slot-spec =
     tie.close
     (tie.spec
-    (λ c. search needs))
+    (λ c. refl))

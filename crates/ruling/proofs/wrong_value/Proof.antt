@@ -1,8 +1,9 @@
 -- By the kind, as the definition goes.
 -- Assumes nothing.
+use mathlib.Core.Logic.{inl, inr, ⊎-elim}
 use native.Mathlib.Omega.{arith}
 use borrow.Author.Needs.{needs}
-use borrow.Author.Tests.{eq-eqb, ne-eqb}
+use borrow.Author.Tests.{ne-eqb}
 use Rattle.rules.specs.Refusals.{wrongValue}
 use Rattle.sensor.proofs.Signed.{back}
 use Rattle.ruling.proofs.wrong_value.Statement.{statement}
@@ -14,9 +15,13 @@ wrong-value-spec =
     tie.close
     (tie.spec
     (λ c κs. search needs)
-    (λ c. rw (eq-eqb _ _ (c .before .if1 .taken), c .outside .ensures, back (c .before .before .before .before .args .e .value) (omega arith)))
     (λ c κs. search needs)
-    (λ c. rw (ne-eqb _ _ (c .before .before .before .before .if1 .left), c .before .if2 .taken, c .outside2 .ensures, back (c .before .before .before .before .before .before .before .args .e .value) (omega arith)))
     (λ c κs. search needs)
-    (λ c. rw (ne-eqb _ _ (c .before .before .before .before .before .before .if1 .left), c .before .before .before .if2 .left, eq-eqb _ _ (c .before .if3 .taken), c .outside3 .ensures, back (c .before .before .before .before .before .before .before .before .before .args .e .value) (omega arith)))
-    (λ c. rw (ne-eqb _ _ (c .before .before .before .before .before .if1 .left), c .before .before .if2 .left, ne-eqb _ _ (c .if3 .left))))
+    (λ c. rw (c .outside .ensures, back (c .before .before .before .args .e .value) (omega arith), c .before .match .keys1))
+    (λ c.
+    rw (c .outside2 .ensures, back (c .before .before .before .args .e .value) (omega arith))
+    (⊎-elim (λ k. rw k) (λ k. rw k) (c .before .match .keys2)))
+    (λ c. rw (c .outside3 .ensures, back (c .before .before .before .args .e .value) (omega arith), c .before .match .keys3))
+    (λ c.
+    let r = c .match .rest in
+    rw (ne-eqb _ _ (r .0 .0 .1), ne-eqb _ _ (λ e. r .0 .1 (inl e)), ne-eqb _ _ (λ e. r .0 .1 (inr e)), ne-eqb _ _ (r .1))))

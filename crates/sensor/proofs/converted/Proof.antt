@@ -2,7 +2,7 @@
 -- Assumes nothing.
 use borrow.Author.Needs.{needs}
 use borrow.Author.Tests.{eq-eqb, ne-eqb}
-use Rattle.rules.specs.Open.{open-fields}
+use Rattle.rules.specs.Fields.{withTemperature}
 use Rattle.rules.specs.Sensor.{shutDown, steppedOf, converted}
 use Rattle.sensor.proofs.Signed.{back}
 use Rattle.sensor.proofs.converted.Statement.{statement}
@@ -10,10 +10,10 @@ use Rattle.sensor.proofs.converted.Tie as tie
 
 returns : tie.Need-returns
 unfolding shutDown converted
-returns c = simp (eq-eqb _ _ (c .if1 .taken))
+returns c = rw (eq-eqb _ _ (c .if1 .taken))
 
 returns-2 : tie.Need-returns-2
-unfolding open-fields shutDown steppedOf converted
+unfolding withTemperature shutDown steppedOf converted
 returns-2 c =
     let t = c .before .stepped in
     let running = c .before .before in

@@ -19,4 +19,7 @@ heated-spec =
     (tie.spec
     (λ c. rw (eq-eqb _ _ (c .if1 .taken)))
     (λ c κs. search needs)
-    (λ c. let g = c .before .before .before .before .before .before .before .before in heated-by _ _ _ _ (c .before .before .before .before .before .before .if1 .left) (c .before .before .before .before .converted .ensures ∙ ap (λ (z : ℤ). converted (g .args .s .sensor) z) (back (g .args .t) (g .fits .t .sfits))) refl))
+    (λ c.
+    let g = c .before .before .before .before in
+    heated-by _ _ _ _ (c .before .before .if1 .left)
+    (c .converted .ensures ∙ ap (λ (z : ℤ). converted (g .args .s .sensor) z) (back (g .args .t) (g .fits .t .sfits))) refl))

@@ -12,4 +12,4 @@ powered-spec =
     tie.close
     (tie.spec
     (λ c κs. search needs)
-    (λ c. rw (c .before .before .before .before .fresh .ensures)))
+    (λ c. rw (c .fresh .ensures)))

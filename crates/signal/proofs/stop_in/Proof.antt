@@ -1,7 +1,13 @@
 -- Each phase's arm gives what the definition gives in that phase.
 -- Assumes nothing.
+use mathlib.Core.List.{[], _∷_}
+use mathlib.Core.Path.{refl, _∙_}
 use borrow.Author.Needs.{needs}
-use Rattle.rules.specs.Slot.{stopIn}
+use Rattle.phase.proofs.Arms.{arm}
+use Rattle.rules.specs.declared.Phase.{Phase}
+use Rattle.rules.specs.declared.Phase.the-variants.{Idle, Control, Deaf, MemoryCounter, MemoryRead, HalfSelected, CommandAddress, CommandData, SensorPointer, SensorHigh, SensorLow, SensorReadHigh, SensorReadLow}
+use Rattle.rules.specs.Memory.{cancelled}
+use Rattle.rules.specs.Slot.{letGo, stopIn}
 use Rattle.signal.proofs.stop_in.Statement.{statement}
 use Rattle.signal.proofs.stop_in.Tie as tie
 
@@ -11,41 +17,19 @@ stop-in-spec =
     tie.close
     (tie.spec
     (λ c. search needs)
-    (λ c. search needs)
-    (λ c. search needs)
-    (λ c. search needs)
-    (λ c. search needs)
     (λ c κs. search needs)
-    (λ c. search needs)
-    (λ c. search needs)
-    (λ c. search needs)
     (λ c κs. search needs)
     (λ c. search needs)
     (λ c κs. search needs)
-    (λ c. search needs)
     (λ c κs. search needs)
-    (λ c. search needs)
-    (λ c κs. search needs)
-    (λ c. search needs)
-    (λ c κs. search needs)
-    (λ c. search needs)
-    (λ c κs. search needs)
-    (λ c. search needs)
-    (λ c κs. search needs)
-    (λ c. search needs)
-    (λ c κs. search needs)
-    (λ c. rw (c .enum-told .given .1))
-    (λ c. rw (c .enum-told2 .given .1))
-    (λ c. rw (c .enum-told3 .given .1))
-    (λ c. rw (c .enum-told4 .given .1))
-    (λ c. rw (c .before .enum-told5 .given .1, c .data-stop .ensures))
-    (λ c. rw (c .enum-told6 .given .1))
-    (λ c. rw (c .enum-told7 .given .1))
-    (λ c. rw (c .before .enum-told8 .given .1, c .cancelled .ensures))
-    (λ c. rw (c .before .enum-told9 .given .1, c .cancelled2 .ensures))
-    (λ c. rw (c .before .enum-told10 .given .1, c .begun .ensures))
-    (λ c. rw (c .before .enum-told11 .given .1, c .let-go .ensures))
-    (λ c. rw (c .before .enum-told12 .given .1, c .let-go2 .ensures))
-    (λ c. rw (c .before .enum-told13 .given .1, c .let-go3 .ensures))
-    (λ c. rw (c .before .enum-told14 .given .1, c .let-go4 .ensures))
-    (λ c. rw (c .before .enum-told15 .given .1, c .let-go5 .ensures)))
+    (λ c.
+    let a = c .before .args in
+    arm (Idle ∷ Control ∷ Deaf ∷ MemoryCounter ∷ MemoryRead ∷ HalfSelected ∷ []) (λ q. a .s) (λ q. stopIn q (a .s)) (a .p) (c .match .keys1) refl)
+    (λ c. rw (c .before .enum-told .given .1, c .data-stop .ensures))
+    (λ c.
+    let a = c .before .before .args in
+    c .cancelled .ensures ∙ arm (CommandAddress ∷ CommandData ∷ []) (λ q. cancelled (a .s)) (λ q. stopIn q (a .s)) (a .p) (c .before .match .keys3) refl)
+    (λ c. rw (c .before .enum-told2 .given .1, c .begun .ensures))
+    (λ c.
+    let a = c .before .before .args in
+    c .let-go .ensures ∙ arm (SensorPointer ∷ SensorHigh ∷ SensorLow ∷ SensorReadHigh ∷ SensorReadLow ∷ []) (λ q. letGo q (a .s)) (λ q. stopIn q (a .s)) (a .p) (c .before .match .keys5) refl))

@@ -3,14 +3,14 @@
 use mathlib.Core.Path.{_≡_, refl}
 use borrow.Author.Needs.{needs}
 use borrow.Author.Tests.{eq-eqb, ne-eqb}
+use Rattle.rules.specs.Fields.{withVoltage}
 use Rattle.rules.specs.Modelled.{absent}
-use Rattle.rules.specs.Open.{open-fields}
 use Rattle.signal.proofs.Laws.{switched-by}
 use Rattle.signal.proofs.switched.Statement.{statement}
 use Rattle.signal.proofs.switched.Tie as tie
 
 pub switched-spec : {M : Type 1} → statement M
-unfolding absent open-fields
+unfolding absent withVoltage
 switched-spec =
     tie.close
     (tie.spec
@@ -18,5 +18,5 @@ switched-spec =
     (λ c κs. search needs)
     (λ c κs. search needs)
     (λ c κs. search needs)
-    (λ c. rw (ne-eqb _ _ (c .before .before .before .before .before .before .before .before .before .before .before .if1 .left)) (switched-by _ _ _ _ _ _ (c .before .before .before .before .before .before .before .before .before .before .standing .ensures) (c .before .before .before .before .before .before .before .before .before .traits .ensures) (c .before .before .before .before .before .before .if2 .taken) (rw (c .before .before .before .before .before .lost .ensures))))
-    (λ c. rw (ne-eqb _ _ (c .before .before .before .before .before .before .before .before .before .before .if1 .left)) (switched-by _ _ _ _ _ _ (c .before .before .before .before .before .before .before .before .before .standing .ensures) (c .before .before .before .before .before .before .before .before .traits .ensures) (c .before .before .before .before .before .if2 .left) refl)))
+    (λ c. rw (ne-eqb _ _ (c .before .before .before .before .before .before .if1 .left)) (switched-by _ _ _ _ _ _ (c .before .before .before .before .before .standing .ensures) (c .before .before .before .before .traits .ensures) (c .before .if2 .taken) (rw (c .lost .ensures))))
+    (λ c. rw (ne-eqb _ _ (c .before .before .before .before .before .if1 .left)) (switched-by _ _ _ _ _ _ (c .before .before .before .before .standing .ensures) (c .before .before .before .traits .ensures) (c .if2 .left) refl)))
