@@ -48,7 +48,7 @@ pub fn event(bus: Bus, mem: &mut [u8], e: Event) -> Outcome
         return refused(bus, Refusal::MemoryLength);
     }
     let slots = bus.slots;
-    if ruling::in_range(slots) {
+    if ranges::in_range(slots) {
         return event_in_range(bus, mem, e);
     }
     refused(bus, Refusal::WrongState)

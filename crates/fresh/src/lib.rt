@@ -1,14 +1,34 @@
-// The setup: a bus from eight kinds and lengths.
+// The setup: a bus from eight kinds and lengths, and document 01's row 5, by which it is refused.
 ghost use mathlib.Core.Path.{_≡_};
 ghost use mathlib.Core.List.{map};
+ghost use Rattle.lists.specs.Each.{allOf};
 ghost use Rattle.rules.specs.Fresh.{setupSlot};
-ghost use Rattle.rules.specs.Refusals.{emptyBus, setupOf};
+ghost use Rattle.rules.specs.Refusals.{goodPair, emptyBus, setupOf};
 use rules::Answer;
 use rules::Bus;
 use rules::Outcome;
 use rules::Pair;
 use rules::Refusal;
 use rules::Slot;
+
+// A pair that row 5 lets pass.
+fn good_pair(p: Pair) -> bool
+    ensures { λ r. ⌜ r ≡ goodPair p ⌝ }
+{
+    (p.kind <= 2) & ((p.kind == 0) | (1 <= p.length) & (p.length <= 5))
+}
+
+// Every pair passes row 5.
+fn good_pairs(pairs: [Pair; 8]) -> bool
+    ensures { λ r. ⌜ r ≡ allOf goodPair pairs ⌝ }
+{
+    let mut ok = true;
+    for i in 0..8usize {
+        let p = pairs[i];
+        ok = ok & good_pair(p);
+    }
+    ok
+}
 
 // A fresh slot; the length of an absent one is ignored.
 fn setup_slot(p: Pair) -> Slot
@@ -46,7 +66,7 @@ pub fn empty_bus() -> Bus
 pub fn setup(pairs: [Pair; 8]) -> Outcome
     ensures { λ r. ⌜ r ≡ setupOf pairs ⌝ }
 {
-    if ruling::good_pairs(pairs) {
+    if good_pairs(pairs) {
         let slots = setup_slots(pairs);
         return Outcome {
             bus: Bus { slots },

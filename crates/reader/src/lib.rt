@@ -18,7 +18,7 @@ fn no_block(mem: &[u8], bus: Bus, n: SlotNo, k: BlockNo) -> bool
 {
     let slots = bus.slots;
     let kind = ruling::kind_at(slots, n);
-    (mem.len() != MEMORY) | !ruling::in_range(slots) | (7 < n.0) | (kind == 0) | (3 < k.0)
+    (mem.len() != MEMORY) | !ranges::in_range(slots) | (7 < n.0) | (kind == 0) | (3 < k.0)
 }
 
 // The 128 bytes of a block, as a part of the caller's memory, at its place there; an empty part at the memory's beginning where there is none.

@@ -3,3 +3,4 @@ pub mod Range
 pub mod Run
 pub mod Memory
 pub mod Registers
+pub mod Past

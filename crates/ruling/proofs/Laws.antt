@@ -2,7 +2,7 @@
 -- Assumes nothing.
 use mathlib.Core.Path.{_≡_, refl, sym, _∙_, ap}
 use mathlib.Core.Bool.{Bool, true, false, false≢true, cond}
-use mathlib.Core.List.{List, []}
+use mathlib.Core.List.{List}
 use Prim.Native.Nat.{ℕ, _+_, _≤_}
 use native.Mathlib.Omega.{arith}
 use borrow.Author.Tests.{eq-eqb, eqb-true, eqb-false, ltb-true, ltb-false, lt-ltb, le-ltb}
@@ -14,35 +14,11 @@ use mir.Syntax.{w8}
 use mir.Val.{Fits}
 use Rattle.lists.specs.Tests.{by-test, cond-cases, or-right-false}
 use Rattle.rules.specs.declared.Event.{Event}
-use Rattle.rules.specs.declared.Pair.{Pair}
-use Rattle.rules.specs.declared.Phase.the-variants.{Idle}
 use Rattle.rules.specs.declared.Slot.{Slot}
 use Rattle.rules.specs.declared.SlotNo.{SlotNo}
 use Rattle.rules.specs.Refusals.{kindAt, outside, wrongValue}
+use Rattle.rules.proofs.Past.{noSlot}
 use Rattle.ruling.specs.Kinds.{kindsIn}
-
--- what a proof takes for the element past the end of an array of slots: zeros, empty lists, the first phase
-abbrev pub noSlot : Slot
-noSlot =
-    record {
-      kind = 0;
-      length = 0;
-      left = 0;
-      half = 0;
-      counter = 0;
-      protection = [];
-      coming = [];
-      voltage = false;
-      phase = Idle;
-      latch = [];
-      marks = [];
-      place = 0;
-      sensor = record { pointer = 0; configuration = 0; high = 0; low = 0; critical = 0; temperature = 0; resolution = 0; timeout = 0; word = 0 };
-    }
-
--- past the end of an array of pairs
-abbrev pub noPair : Pair
-noPair = record { kind = 0; length = 0 }
 
 -- a value in range is a byte
 as-byte : (v : ℤ) → outside (pos 0) (pos 255) v ≡ false → T (nonNeg v) × Fits w8 (natAbs v)

@@ -1,13 +1,11 @@
-// What is refused: document 01's rows 2 to 6, and what an event that passes them is taken for.
+// What an event is refused for, by document 01's rows 2, 3 and 4, and what one that passes them is taken for.
 ghost use mathlib.Core.Path.{_≡_};
-ghost use Rattle.lists.specs.Each.{allOf};
-ghost use Rattle.rules.specs.Events.{actOf};
-ghost use Rattle.rules.specs.Refusals.{kindAt, wrongSlot, outside, wrongValue, goodPair, lengthInRange, slotInRange, ruledFor};
 ghost use mathlib.Core.Bool.{false, cond};
+ghost use Rattle.rules.specs.Events.{actOf};
+ghost use Rattle.rules.specs.Refusals.{kindAt, wrongSlot, outside, wrongValue, ruledFor};
 ghost use Rattle.ruling.specs.Kinds.{kindsIn};
 use rules::Act;
 use rules::Event;
-use rules::Pair;
 use rules::Refusal;
 use rules::Ruling;
 use rules::Slot;
@@ -99,59 +97,4 @@ pub fn ruled(kind: u8, e: Event) -> Ruling
     }
     let a = act_of(e);
     Ruling::Taken(a)
-}
-
-// A pair that row 5 lets pass.
-fn good_pair(p: Pair) -> bool
-    ensures { λ r. ⌜ r ≡ goodPair p ⌝ }
-{
-    (p.kind <= 2) & ((p.kind == 0) | (1 <= p.length) & (p.length <= 5))
-}
-
-// Every pair passes row 5.
-pub fn good_pairs(pairs: [Pair; 8]) -> bool
-    ensures { λ r. ⌜ r ≡ allOf goodPair pairs ⌝ }
-{
-    let mut ok = true;
-    for i in 0..8usize {
-        let p = pairs[i];
-        ok = ok & good_pair(p);
-    }
-    ok
-}
-
-// A length from 1 to 5, of an absent slot 0.
-fn length_in_range(s: Slot) -> bool
-    ensures { λ r. ⌜ r ≡ lengthInRange s ⌝ }
-{
-    if s.kind == 0 {
-        return s.length == 0;
-    }
-    (1 <= s.length) & (s.length <= 5)
-}
-
-// Every number of the slot is in its range.
-fn slot_in_range(s: Slot) -> bool
-    ensures { λ r. ⌜ r ≡ slotInRange s ⌝ }
-{
-    let x = s.sensor;
-    (s.kind <= 2)
-        & length_in_range(s)
-        & (s.left <= s.length)
-        & (s.half <= 1)
-        & (s.counter <= 255)
-        & (s.place <= 15)
-        & registers::in_range(x)
-}
-
-// Row 6 lets the state pass: every number of every slot is in its range.
-pub fn in_range(slots: [Slot; 8]) -> bool
-    ensures { λ r. ⌜ r ≡ allOf slotInRange slots ⌝ }
-{
-    let mut ok = true;
-    for i in 0..8usize {
-        let s = slots[i];
-        ok = ok & slot_in_range(s);
-    }
-    ok
 }

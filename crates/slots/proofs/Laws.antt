@@ -23,7 +23,7 @@ use Rattle.foreseen.specs.declared.Change.the-variants as change
 use Rattle.slot.specs.declared.Step.{Step}
 use Rattle.foreseen.specs.Foreseen.{acksAt, drivesAt, Silent, Foreseen}
 use Rattle.slot.specs.Shown.{drivenAt, stepped}
-use Rattle.ruling.proofs.Laws.{noSlot}
+use Rattle.rules.proofs.Past.{noSlot}
 use Rattle.slots.specs.Taken.{answerFor, takenThen}
 
 -- what the loop does with slot n at an act: its step, what it shows, its part of the memory as the code cuts it out

@@ -8,7 +8,7 @@ use borrow.Author.Needs.{needs}
 use lib.ListN.{length, length-map, List·getD-map}
 use Rattle.lists.specs.Each.{filled, filled-none, filled-step, filled-full}
 use Rattle.rules.specs.Fresh.{setupSlot}
-use Rattle.ruling.proofs.Laws.{noPair}
+use Rattle.rules.proofs.Past.{noPair}
 use Rattle.fresh.proofs.setup_slots.Statement.{statement}
 use Rattle.fresh.proofs.setup_slots.Tie as tie
 

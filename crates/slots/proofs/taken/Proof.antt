@@ -8,7 +8,7 @@ use lib.ListN.{length, length-take, length-drop}
 use Rattle.lists.specs.Each.{allOf, allOf-at}
 use Rattle.rules.specs.Refusals.{slotInRange}
 use Rattle.foreseen.specs.Foreseen.{heardIn, carried}
-use Rattle.ruling.proofs.Laws.{noSlot}
+use Rattle.rules.proofs.Past.{noSlot}
 use Rattle.slots.proofs.Laws.{Turned, turned-none, turned-all, turn-nothing, turn-to, turn-more, old}
 use Rattle.slots.proofs.taken.Statement.{statement}
 use Rattle.slots.proofs.taken.Tie as tie

@@ -8,9 +8,9 @@ use borrow.Author.Needs.{needs}
 use lib.ListN.{length, drop}
 use Rattle.lists.specs.Each.{allOf, allOf-step, allOf-none}
 use Rattle.rules.specs.Refusals.{slotInRange}
-use Rattle.ruling.proofs.Laws.{noSlot}
-use Rattle.ruling.proofs.in_range.Statement.{statement}
-use Rattle.ruling.proofs.in_range.Tie as tie
+use Rattle.rules.proofs.Past.{noSlot}
+use Rattle.ranges.proofs.in_range.Statement.{statement}
+use Rattle.ranges.proofs.in_range.Tie as tie
 
 abbrev Inv-loop : tie.InvT-loop
 Inv-loop slots ok₀ i₀ ok i = (i ≤ 8) × (length slots ≡ 8) × ((ok && allOf slotInRange (drop i slots)) ≡ allOf slotInRange slots)

@@ -2,8 +2,8 @@
 -- Assumes nothing.
 use borrow.Author.Needs.{needs}
 use Rattle.rules.specs.Refusals.{kindInRange, slotInRange}
-use Rattle.ruling.proofs.slot_in_range.Statement.{statement}
-use Rattle.ruling.proofs.slot_in_range.Tie as tie
+use Rattle.ranges.proofs.slot_in_range.Statement.{statement}
+use Rattle.ranges.proofs.slot_in_range.Tie as tie
 
 pub slot-in-range-spec : {M : Type 1} → statement M
 unfolding slotInRange kindInRange

@@ -2,8 +2,8 @@
 -- Assumes nothing.
 use mathlib.Core.Path.{refl}
 use Rattle.rules.specs.Refusals.{goodLength, goodPair}
-use Rattle.ruling.proofs.good_pair.Statement.{statement}
-use Rattle.ruling.proofs.good_pair.Tie as tie
+use Rattle.fresh.proofs.good_pair.Statement.{statement}
+use Rattle.fresh.proofs.good_pair.Tie as tie
 
 pub good-pair-spec : {M : Type 1} → statement M
 unfolding goodPair goodLength

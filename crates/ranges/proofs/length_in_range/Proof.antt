@@ -2,8 +2,8 @@
 -- Assumes nothing.
 use borrow.Author.Tests.{eq-eqb, ne-eqb}
 use Rattle.rules.specs.Refusals.{goodLength, lengthInRange}
-use Rattle.ruling.proofs.length_in_range.Statement.{statement}
-use Rattle.ruling.proofs.length_in_range.Tie as tie
+use Rattle.ranges.proofs.length_in_range.Statement.{statement}
+use Rattle.ranges.proofs.length_in_range.Tie as tie
 
 pub length-in-range-spec : {M : Type 1} → statement M
 unfolding lengthInRange goodLength

@@ -8,9 +8,9 @@ use borrow.Author.Needs.{needs}
 use lib.ListN.{length, drop}
 use Rattle.lists.specs.Each.{allOf, allOf-step, allOf-none}
 use Rattle.rules.specs.Refusals.{goodPair}
-use Rattle.ruling.proofs.Laws.{noPair}
-use Rattle.ruling.proofs.good_pairs.Statement.{statement}
-use Rattle.ruling.proofs.good_pairs.Tie as tie
+use Rattle.rules.proofs.Past.{noPair}
+use Rattle.fresh.proofs.good_pairs.Statement.{statement}
+use Rattle.fresh.proofs.good_pairs.Tie as tie
 
 abbrev Inv-loop : tie.InvT-loop
 Inv-loop pairs ok₀ i₀ ok i = (i ≤ 8) × (length pairs ≡ 8) × ((ok && allOf goodPair (drop i pairs)) ≡ allOf goodPair pairs)
