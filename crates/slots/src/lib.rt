@@ -1,6 +1,6 @@
 // All slots at an act: each does its step, and the answer is made of what they show.
 ghost use mathlib.Core.Path.{_≡_};
-ghost use mathlib.Core.Bool.{true, cond};
+ghost use mathlib.Core.Bool.{true, cond, _||_};
 ghost use lib.ListN.{length};
 ghost use Rattle.lists.specs.Each.{allOf};
 ghost use Rattle.rules.specs.Modelled.{memoryBytes};
@@ -13,6 +13,7 @@ use rules::Bus;
 use rules::Outcome;
 use rules::Slot;
 use rules::SlotNo;
+use slot::Step;
 
 // One of two bytes.
 fn either(first: bool, x: u8, y: u8) -> u8
@@ -28,14 +29,32 @@ fn ack_of(ack: bool) -> Answer
     if ack { Answer::Ack } else { Answer::Nack }
 }
 
-// What the bus shows at an act: whether a slot acknowledges, or the byte read.
-fn answer_of(a: Act, ack: bool, byte: u8) -> Answer
-    ensures { λ r. ⌜ r ≡ answerFor a ack byte ⌝ }
+// What the slots so far show: whether one acknowledges, whether one drives a byte, and the byte of the first that does.
+struct Shown {
+    ack: bool,
+    driven: bool,
+    byte: u8,
+}
+
+// What one slot more adds to it.
+fn joined(t: Shown, x: Step) -> Shown
+    ensures { λ r. ⌜ r ≡ record { ack = t .ack || x .ack; driven = t .driven || x .drives; byte = cond (t .driven) (t .byte) (x .byte) } ⌝ }
+{
+    Shown {
+        ack: t.ack | x.ack,
+        driven: t.driven | x.drives,
+        byte: either(t.driven, t.byte, x.byte),
+    }
+}
+
+// What the bus shows at an act: whether a slot acknowledges, or the byte read, FFh where none drives one.
+fn answer_of(a: Act, t: Shown) -> Answer
+    ensures { λ r. ⌜ r ≡ answerFor a (t .ack) (cond (t .driven) (t .byte) 255) ⌝ }
 {
     match a {
         Act::Start => Answer::Nothing,
-        Act::Byte(_) => ack_of(ack),
-        Act::Read(_) => Answer::Data(byte),
+        Act::Byte(_) => ack_of(t.ack),
+        Act::Read(_) => Answer::Data(either(t.driven, t.byte, 255)),
         Act::Stop => Answer::Nothing,
         Act::Timeout => Answer::Nothing,
         Act::Tick => Answer::Nothing,
@@ -55,9 +74,11 @@ pub fn taken(slots: [Slot; 8], mem: &mut [u8], a: Act) -> Outcome
     let carried = foreseen::carried(a);
     let h = foreseen::heard_in(a);
     let mut all = slots;
-    let mut ack = false;
-    let mut driven = false;
-    let mut byte: u8 = 255;
+    let mut shown = Shown {
+        ack: false,
+        driven: false,
+        byte: 255,
+    };
     for i in 0..8u8 {
         let at = i as usize;
         let c = foreseen::glance(a, carried, h, SlotNo(i), all[at]);
@@ -72,14 +93,11 @@ pub fn taken(slots: [Slot; 8], mem: &mut [u8], a: Act) -> Outcome
                 let x = slot::next(a, SlotNo(i), h, all[at], &mut mem[from..to]);
                 let next = x.slot;
                 all[at] = next;
-                ack = ack | x.ack;
-                byte = either(driven, byte, x.byte);
-                driven = driven | x.drives;
+                shown = joined(shown, x);
             }
         }
     }
-    let last = either(driven, byte, 255);
-    let answer = answer_of(a, ack, last);
+    let answer = answer_of(a, shown);
     Outcome {
         bus: Bus { slots: all },
         answer,

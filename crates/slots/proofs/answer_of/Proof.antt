@@ -14,6 +14,9 @@ ack-of-requires c κs = search needs
 enum-told-3 : tie.Need-enum-told-3
 enum-told-3 c = search needs
 
+either-requires : tie.Need-either-requires
+either-requires c κs = search needs
+
 enum-told-4 : tie.Need-enum-told-4
 enum-told-4 c = search needs
 
@@ -36,10 +39,10 @@ returns : tie.Need-returns
 returns c = search needs
 
 returns-2 : tie.Need-returns-2
-returns-2 c = search needs
+returns-2 c = rw (c .before .enum-told2 .given .1, c .ack-of .ensures)
 
 returns-3 : tie.Need-returns-3
-returns-3 c = rw (c .enum-told3 .given .1)
+returns-3 c = rw (c .before .enum-told3 .given .1, c .either .ensures)
 
 returns-4 : tie.Need-returns-4
 returns-4 c = search needs
@@ -67,6 +70,7 @@ answer-of-spec =
     enum-told-2
     ack-of-requires
     enum-told-3
+    either-requires
     enum-told-4
     enum-told-5
     enum-told-6

@@ -15,7 +15,7 @@ use Rattle.slots.proofs.taken.Tie as tie
 use Rattle.slots.proofs.taken.Reads as reads
 use Rattle.slots.proofs.taken.Lts as lts
 use Rattle.slots.proofs.answer_of.Reads as answer-of-reads
-use Rattle.slots.proofs.either.Reads as either-reads
+use Rattle.slots.proofs.joined.Reads as joined-reads
 use Rattle.phase.proofs.in_phase.Reads as in-phase-reads
 use Rattle.foreseen.proofs.carried.Reads as carried-reads
 use Rattle.foreseen.proofs.glance.Reads as glance-reads
@@ -23,12 +23,12 @@ use Rattle.foreseen.proofs.heard_in.Reads as heard-in-reads
 use Rattle.slot.proofs.next.Reads as next-reads
 
 abbrev Inv-loop : tie.InvT-loop
-Inv-loop mem₀ a k h all₀ ack₀ driven₀ byte₀ i₀ mem all ack driven byte i =
+Inv-loop mem₀ a k h all₀ shown₀ i₀ mem all shown i =
     (i ≤ 8) × (length all₀ ≡ 8) × (length mem₀ ≡ 4096) × (length mem ≡ 4096) × (allOf slotInRange all₀ ≡ true) × (h ≡ heardIn a) × (k ≡ carried a)
-    × Turned a all₀ mem₀ i all mem ack driven byte
+    × Turned a all₀ mem₀ i all mem (shown .ack) (shown .driven) (shown .byte)
 
 abbrev μ-loop : tie.MeasureT-loop
-μ-loop mem₀ a k h all₀ ack₀ driven₀ byte₀ i₀ mem all ack driven byte i = 8 - i
+μ-loop mem₀ a k h all₀ shown₀ i₀ mem all shown i = 8 - i
 
 -- src/lib.rt:78:9
 carried-requires : tie.Need-carried-requires Inv-loop μ-loop
@@ -124,7 +124,7 @@ next-requires c κs =
     let g = f .before .before .before .before .before .before .before .args in
     let h : l .i < length (g .slots) = omega arith in
     let r : 512 * (l .i + 1) ≤ length (g .mem .now) = omega arith in
-    (l .inv .5, rw (old (g .a) (g .slots) (g .mem .now) (l .i) h r (l .all) (l .mem) (l .ack) (l .driven) (l .byte) (l .inv .7)) (allOf-at slotInRange (l .i) (g .slots) noSlot h (l .inv .4)), simp (length-take, length-drop) (omega arith))
+    (l .inv .5, rw (old (g .a) (g .slots) (g .mem .now) (l .i) h r (l .all) (l .mem) (l .shown .ack) (l .shown .driven) (l .shown .byte) (l .inv .7)) (allOf-at slotInRange (l .i) (g .slots) noSlot h (l .inv .4)), simp (length-take, length-drop) (omega arith))
 
 -- src/lib.rt:96:17
 mul-all-2 : tie.Need-mul-all-2 Inv-loop μ-loop
@@ -135,8 +135,8 @@ array-set-from-all-2 : tie.Need-array-set-from-all-2 Inv-loop μ-loop
 array-set-from-all-2 c = search needs
 
 -- src/lib.rt:98:17
-either-requires : tie.Need-either-requires Inv-loop μ-loop
-either-requires c κs = search needs
+joined-requires : tie.Need-joined-requires Inv-loop μ-loop
+joined-requires c κs = search needs
 
 -- src/lib.rt:83:9
 add-i : tie.Need-add-i Inv-loop μ-loop
@@ -155,16 +155,12 @@ loop-again c =
     let h : l .i < length (g .slots) = omega arith in
     let r : 512 * (l .i + 1) ≤ length (g .mem .now) = omega arith in
     ⊎-elim
-    (λ w. (omega arith, l .inv .1, l .inv .2, rw (w .2) (l .inv .3), l .inv .4, l .inv .5, l .inv .6, rw (w .2, w .3, w .4, w .5, w .6) (turn-nothing (g .a) (g .slots) (g .mem .now) (l .i) h r (l .all) (l .mem) (l .ack) (l .driven) (l .byte) (l .inv .7) (f .glance .result) (f .glance .ensures) (w .1 .given .1))))
+    (λ w. (omega arith, l .inv .1, l .inv .2, rw (w .2) (l .inv .3), l .inv .4, l .inv .5, l .inv .6, rw (w .2, w .3, w .4) (turn-nothing (g .a) (g .slots) (g .mem .now) (l .i) h r (l .all) (l .mem) (l .shown .ack) (l .shown .driven) (l .shown .byte) (l .inv .7) (f .glance .result) (f .glance .ensures) (w .1 .given .1))))
     (λ w. ⊎-elim
-    (λ v. (omega arith, l .inv .1, l .inv .2, rw (v .5) (l .inv .3), l .inv .4, l .inv .5, l .inv .6, rw (v .5, v .6, v .7, v .8, v .9) (turn-to (g .a) (g .slots) (g .mem .now) (l .i) h r (l .all) (l .mem) (l .ack) (l .driven) (l .byte) (l .inv .7) (f .glance .result) _ (v .4 .result) (f .glance .ensures) (v .1 .given .1) (v .4 .ensures))))
-    (λ v. (omega arith, l .inv .1, l .inv .2, rw (v .11) (omega arith), l .inv .4, l .inv .5, l .inv .6, rw (v .11, v .12, v .13, v .14, v .15, v .9 .ensures) (turn-more (g .a) (g .slots) (g .mem .now) (l .i) h r (l .all) (l .mem) (l .ack) (l .driven) (l .byte) (l .inv .7) (512 * l .i) (512 * l .i + 512) (v .4 .result) _ refl (omega arith) (v .4 .ensures .0) (v .4 .ensures .1))))
+    (λ v. (omega arith, l .inv .1, l .inv .2, rw (v .5) (l .inv .3), l .inv .4, l .inv .5, l .inv .6, rw (v .5, v .6, v .7) (turn-to (g .a) (g .slots) (g .mem .now) (l .i) h r (l .all) (l .mem) (l .shown .ack) (l .shown .driven) (l .shown .byte) (l .inv .7) (f .glance .result) _ (v .4 .result) (f .glance .ensures) (v .1 .given .1) (v .4 .ensures))))
+    (λ v. (omega arith, l .inv .1, l .inv .2, rw (v .9) (omega arith), l .inv .4, l .inv .5, l .inv .6, rw (v .9, v .10, v .11, v .8 .ensures) (turn-more (g .a) (g .slots) (g .mem .now) (l .i) h r (l .all) (l .mem) (l .shown .ack) (l .shown .driven) (l .shown .byte) (l .inv .7) (512 * l .i) (512 * l .i + 512) (v .4 .result) _ refl (omega arith) (v .4 .ensures .0) (v .4 .ensures .1))))
     w)
     (c .match .came)
-
--- src/lib.rt:103:9
-either-requires-2 : tie.Need-either-requires-2 Inv-loop μ-loop
-either-requires-2 c κs = search needs
 
 -- src/lib.rt:104:9
 answer-of-requires : tie.Need-answer-of-requires Inv-loop μ-loop
@@ -177,9 +173,9 @@ same-length c = search needs
 -- src/lib.rt:74:1
 returns : tie.Need-returns Inv-loop μ-loop
 returns c =
-    let l = c .before .before .before .loop in
-    let g = c .before .before .before .before .before .before .before .args in
-    turned-all (g .a) (g .slots) (g .mem .now) (l .i) (l .all) (l .mem) (l .ack) (l .driven) (l .byte) (c .before .either2 .result) (c .answer-of .result) (omega arith) (l .inv .7) (c .before .either2 .ensures) (c .answer-of .ensures)
+    let l = c .before .before .loop in
+    let g = c .before .before .before .before .before .before .args in
+    turned-all (g .a) (g .slots) (g .mem .now) (l .i) (l .all) (l .mem) (l .shown .ack) (l .shown .driven) (l .shown .byte) _ (c .answer-of .result) (omega arith) (l .inv .7) refl (c .answer-of .ensures)
 
 pub taken-spec : {M : Type 1} → statement M
 taken-spec =
@@ -212,11 +208,10 @@ taken-spec =
     next-requires
     mul-all-2
     array-set-from-all-2
-    either-requires
+    joined-requires
     add-i
     loop-less
     loop-again
-    either-requires-2
     answer-of-requires
     same-length
     returns)
