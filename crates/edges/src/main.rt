@@ -55,14 +55,16 @@ fn memory(old: Bench, t: [u32; 18]) -> Bench {
 // Numbers of a slot are handed in.
 fn slot(old: Bench, t: [u32; 18]) -> Bench {
     let n = (t[1] % 8) as usize;
-    let mut b = old;
-    let h = handed::hand_in(b.slots[n], t);
+    let mut slots = old.slots;
+    let h = handed::hand_in(slots[n], t);
     if !h.ok {
         told::not_understood();
         return old;
     }
     let s = h.slot;
-    b.slots[n] = s;
+    slots[n] = s;
+    let mut b = old;
+    b.slots = slots;
     b
 }
 
@@ -99,12 +101,12 @@ fn block(slots: [Slot; 8], mem: &[u8], length: usize, n: u32, k: u32) {
 }
 
 // What looks, and leaves all as it is.
-fn look(b: Bench, mem: &[u8; 8192], t: [u32; 18]) {
+fn look(b: Bench, mem: &[u8; 8192], verb: u32, n: u32, i: u32) {
     let slots = b.slots;
-    match t[0] {
-        words::SHOW => told::slot(slots[(t[1] % 8) as usize]),
-        words::AT => told::at(mem, t[1], t[2]),
-        words::BLOCK => block(slots, mem, b.length, t[1], t[2]),
+    match verb {
+        words::SHOW => told::slot(slots[(n % 8) as usize]),
+        words::AT => told::at(mem, n, i),
+        words::BLOCK => block(slots, mem, b.length, n, i),
         _ => {}
     }
 }
@@ -124,7 +126,7 @@ fn run(b: Bench, mem: &mut [u8; 8192], t: [u32; 18]) -> Bench {
     if (words::EVENT <= t[0]) & (t[0] <= words::TEMPERATURE) {
         return act(b, mem, t);
     }
-    look(b, mem, t);
+    look(b, mem, t[0], t[1], t[2]);
     change(b, t)
 }
 

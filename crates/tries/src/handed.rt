@@ -185,24 +185,13 @@ fn poke(s: Slot, k: usize, v: u16) -> Slot {
     }
 }
 
-// What each number of a slot has to be below.
-fn bound(k: usize) -> u32 {
-    match k {
-        8 => 15,
-        7..=16 | 33..=48 => 2,
-        50..=54 | 57 => 65536,
-        1..=56 => 256,
-        _ => 0,
-    }
-}
-
 // The slot with what a command hands in, and whether all of it is there and fits.
 pub struct Handed {
     pub slot: Slot,
     pub ok: bool,
 }
 
-// A name, and the numbers that go there and behind.
+// A name, and the numbers that go there and behind. What reads back as it was handed in fits.
 pub fn hand_in(old: Slot, t: [u32; 18]) -> Handed {
     let mut slot = old;
     let mut ok = (t[1] < 8) & (t[3] < WORD) & (t[17] == MISSING);
@@ -210,8 +199,8 @@ pub fn hand_in(old: Slot, t: [u32; 18]) -> Handed {
     for i in 2..18usize {
         let v = t[i];
         if v < WORD {
-            ok = ok & (v < bound(at));
             slot = poke(slot, at, v as u16);
+            ok = ok & (0 < at) & (at < 58) & (peek(slot, at) == v as u16);
             at = at % 64 + 1;
         } else {
             ok = ok & (v != UNKNOWN);

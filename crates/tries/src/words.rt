@@ -40,15 +40,9 @@ pub const BLOCK: u32 = 65542;
 
 pub const EVENT: u32 = 65543;
 
-pub const START: u32 = 65544;
-
 pub const BYTE: u32 = 65545;
 
 pub const READ: u32 = 65546;
-
-pub const VOLTAGE: u32 = 65550;
-
-pub const POWER: u32 = 65551;
 
 pub const TEMPERATURE: u32 = 65552;
 
@@ -218,16 +212,12 @@ fn tokens(line: &[u8; 150], size: usize) -> [u32; 18]
     all
 }
 
-// How many numbers a command takes; 99 for what is none.
+// How many numbers each command takes, in the order of `ALL`; 99 for what is none.
+const COUNTS: [usize; 17] = [0, 16, 1, 99, 1, 2, 2, 3, 0, 1, 1, 0, 0, 0, 2, 0, 2];
+
 fn count(verb: u32) -> usize {
-    match verb {
-        SETUP => 16,
-        MEMORY | SHOW | BYTE | READ => 1,
-        AT | BLOCK | VOLTAGE | TEMPERATURE => 2,
-        EVENT => 3,
-        START..=POWER => 0,
-        _ => 99,
-    }
+    let n = (verb % WORD) as usize;
+    if n < 17 { COUNTS[n] } else { 99 }
 }
 
 // How large its last number may be.
@@ -248,7 +238,7 @@ fn is_whole(t: [u32; 18]) -> bool {
     }
     let n = count(t[0]);
     let top = most(t[0]);
-    let mut ok = n < 18;
+    let mut ok = (WORD <= t[0]) & (n < 18);
     for i in 1..18usize {
         let v = t[i];
         ok = ok & (((i < n) & (v < 256)) | ((i == n) & (v <= top)) | ((n < i) & (v == MISSING)));
