@@ -8,7 +8,9 @@ use rules::Outcome;
 use rules::Pair;
 use rules::Slot;
 use rules::SlotNo;
-use words::MISSING;
+use tries::handed;
+use tries::told;
+use tries::words;
 
 // The pairs of the last setup, the slots as they stand, and how long the memory is.
 struct Bench {
@@ -30,38 +32,39 @@ fn anew(pairs: [Pair; 8], mem: &mut [u8; 8192]) -> Bench {
     }
 }
 
-fn setup(b: Bench, t: [u32; 18]) -> Bench {
+fn setup(old: Bench, t: [u32; 18]) -> Bench {
     let pairs = words::pairs(t);
     let made = fresh::setup(pairs);
     let answer = made.answer;
     told::answer(answer);
     let bus = made.bus;
     let slots = bus.slots;
-    Bench {
-        pairs,
-        slots,
-        length: b.length,
-    }
+    let mut b = old;
+    b.pairs = pairs;
+    b.slots = slots;
+    b
 }
 
 // From now on the memory is its first n bytes.
-fn memory(old: Bench, n: u32) -> Bench {
+fn memory(old: Bench, t: [u32; 18]) -> Bench {
     let mut b = old;
-    b.length = n as usize;
+    b.length = t[1] as usize;
     b
 }
 
 // Numbers of a slot are handed in.
 fn slot(old: Bench, t: [u32; 18]) -> Bench {
-    let slots = old.slots;
-    let h = handed::hand_in(slots, t);
+    let n = (t[1] % 8) as usize;
+    let mut slots = old.slots;
+    let h = handed::hand_in(slots[n], t);
     if !h.ok {
-        told::text(b": NOT UNDERSTOOD");
+        told::not_understood();
         return old;
     }
-    let next = h.slots;
+    let s = h.slot;
+    slots[n] = s;
     let mut b = old;
-    b.slots = next;
+    b.slots = slots;
     b
 }
 
@@ -78,10 +81,10 @@ fn event(slots: [Slot; 8], mem: &mut [u8], length: usize, e: Event) -> Outcome {
 }
 
 // An event, and what came of it.
-fn act(b: Bench, mem: &mut [u8; 8192], e: Event) -> Bench {
+fn act(b: Bench, mem: &mut [u8; 8192], t: [u32; 18]) -> Bench {
     let was = b.slots;
     let old = *mem;
-    let out = event(was, mem, b.length, e);
+    let out = event(was, mem, b.length, words::event(t));
     told::came(out, was, &old, mem);
     let bus = out.bus;
     let slots = bus.slots;
@@ -98,28 +101,33 @@ fn block(slots: [Slot; 8], mem: &[u8], length: usize, n: u32, k: u32) {
 }
 
 // What looks, and leaves all as it is.
-fn look(slots: [Slot; 8], mem: &[u8; 8192], length: usize, t: [u32; 18]) {
+fn look(b: Bench, mem: &[u8; 8192], verb: u32, n: u32, i: u32) {
+    let slots = b.slots;
+    match verb {
+        words::SHOW => told::slot(slots[(n % 8) as usize]),
+        words::AT => told::at(mem, n, i),
+        words::BLOCK => block(slots, mem, b.length, n, i),
+        _ => {}
+    }
+}
+
+// What makes the bench another.
+fn change(b: Bench, t: [u32; 18]) -> Bench {
     match t[0] {
-        words::SHOW => told::slot(slots, t[1]),
-        words::AT => told::at(mem, t[1], t[2]),
-        _ => block(slots, mem, length, t[1], t[2]),
+        words::SETUP => setup(b, t),
+        words::MEMORY => memory(b, t),
+        words::SLOT => slot(b, t),
+        _ => b,
     }
 }
 
 // A command, if it is understood.
 fn run(b: Bench, mem: &mut [u8; 8192], t: [u32; 18]) -> Bench {
-    match t[0] {
-        words::SETUP => setup(b, t),
-        words::MEMORY => memory(b, t[1]),
-        words::SLOT => slot(b, t),
-        words::SHOW..=words::BLOCK => {
-            let slots = b.slots;
-            look(slots, mem, b.length, t);
-            b
-        }
-        words::EVENT..=words::TEMPERATURE => act(b, mem, words::event(t)),
-        _ => b,
+    if (words::EVENT <= t[0]) & (t[0] <= words::TEMPERATURE) {
+        return act(b, mem, t);
     }
+    look(b, mem, t[0], t[1], t[2]);
+    change(b, t)
 }
 
 // The first command of a line begins anew, unless it is `then`. A proved loop has to end, so it counts down from a number that no input uses up.
@@ -131,7 +139,7 @@ fn main() {
     while 0 < turns {
         let s = words::listen(end);
         let t = s.words;
-        if (end != b';') & (t[0] != MISSING) {
+        if (end != b';') & (t[0] != words::MISSING) {
             let pairs = b.pairs;
             b = anew(pairs, &mut mem);
         }

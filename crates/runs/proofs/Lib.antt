@@ -1,2 +1,3 @@
+pub mod Document
 pub mod TwoClerks
 pub mod FromSetup

@@ -1,5 +1,4 @@
 -- Demand 3: two clerks at one bench.
-pub mod Addressed
 pub mod Alone
 pub mod Parse
 pub mod Classes
