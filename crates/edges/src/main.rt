@@ -8,9 +8,6 @@ use rules::Outcome;
 use rules::Pair;
 use rules::Slot;
 use rules::SlotNo;
-use tries::handed;
-use tries::told;
-use tries::words;
 
 // The pairs of the last setup, the slots as they stand, and how long the memory is.
 struct Bench {
@@ -104,9 +101,9 @@ fn block(slots: [Slot; 8], mem: &[u8], length: usize, n: u32, k: u32) {
 fn look(b: Bench, mem: &[u8; 8192], verb: u32, n: u32, i: u32) {
     let slots = b.slots;
     match verb {
-        words::SHOW => told::slot(slots[(n % 8) as usize]),
-        words::AT => told::at(mem, n, i),
-        words::BLOCK => block(slots, mem, b.length, n, i),
+        names::SHOW => told::slot(slots[(n % 8) as usize]),
+        names::AT => told::at(mem, n, i),
+        names::BLOCK => block(slots, mem, b.length, n, i),
         _ => {}
     }
 }
@@ -114,16 +111,16 @@ fn look(b: Bench, mem: &[u8; 8192], verb: u32, n: u32, i: u32) {
 // What makes the bench another.
 fn change(b: Bench, t: [u32; 18]) -> Bench {
     match t[0] {
-        words::SETUP => setup(b, t),
-        words::MEMORY => memory(b, t),
-        words::SLOT => slot(b, t),
+        names::SETUP => setup(b, t),
+        names::MEMORY => memory(b, t),
+        names::SLOT => slot(b, t),
         _ => b,
     }
 }
 
 // A command, if it is understood.
 fn run(b: Bench, mem: &mut [u8; 8192], t: [u32; 18]) -> Bench {
-    if (words::EVENT <= t[0]) & (t[0] <= words::TEMPERATURE) {
+    if (names::EVENT <= t[0]) & (t[0] <= names::TEMPERATURE) {
         return act(b, mem, t);
     }
     look(b, mem, t[0], t[1], t[2]);
@@ -139,7 +136,7 @@ fn main() {
     while 0 < turns {
         let s = words::listen(end);
         let t = s.words;
-        if (end != b';') & (t[0] != words::MISSING) {
+        if (end != b';') & (t[0] != names::MISSING) {
             let pairs = b.pairs;
             b = anew(pairs, &mut mem);
         }

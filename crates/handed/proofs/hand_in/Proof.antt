@@ -1,0 +1,35 @@
+-- The words are counted up to 18.
+-- Assumes nothing.
+use Prim.Native.Nat.{_≤_, _-_}
+use borrow.Author.Needs.{needs}
+use Rattle.handed.proofs.hand_in.Statement.{statement}
+use Rattle.handed.proofs.hand_in.Tie as tie
+
+abbrev Inv-loop : tie.InvT-loop
+Inv-loop t slot₀ ok₀ at₀ i₀ slot ok at i = i ≤ 18
+
+abbrev μ-loop : tie.MeasureT-loop
+μ-loop t slot₀ ok₀ at₀ i₀ slot ok at i = 18 - i
+
+pub hand-in-spec : {M : Type 1} → statement M
+hand-in-spec =
+    tie.close
+    (tie.spec
+    Inv-loop
+    μ-loop
+    (λ c. search needs)
+    (λ c. search needs)
+    (λ c. search needs)
+    (λ c. search needs)
+    (λ c. search needs)
+    (λ c. search needs)
+    (λ c. search needs)
+    (λ c κs. search needs)
+    (λ c κs. search needs)
+    (λ c. search needs)
+    (λ c. search needs)
+    (λ c. search needs)
+    (λ c. search needs)
+    (λ c. search needs)
+    (λ c. search needs)
+    (λ c. search needs))
