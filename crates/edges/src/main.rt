@@ -8,62 +8,7 @@ use rules::Outcome;
 use rules::Pair;
 use rules::Slot;
 use rules::SlotNo;
-
-// The pairs of the last setup, the slots as they stand, and how long the memory is.
-struct Bench {
-    pairs: [Pair; 8],
-    slots: [Slot; 8],
-    length: usize,
-}
-
-// What a try begins with: the bus of the last setup, and a memory of 4096 bytes.
-fn anew(pairs: [Pair; 8], mem: &mut [u8; 8192]) -> Bench {
-    handed::fill(mem);
-    let made = fresh::setup(pairs);
-    let bus = made.bus;
-    let slots = bus.slots;
-    Bench {
-        pairs,
-        slots,
-        length: 4096,
-    }
-}
-
-fn setup(old: Bench, t: [u32; 18]) -> Bench {
-    let pairs = words::pairs(t);
-    let made = fresh::setup(pairs);
-    let answer = made.answer;
-    told::answer(answer);
-    let bus = made.bus;
-    let slots = bus.slots;
-    let mut b = old;
-    b.pairs = pairs;
-    b.slots = slots;
-    b
-}
-
-// From now on the memory is its first n bytes.
-fn memory(old: Bench, t: [u32; 18]) -> Bench {
-    let mut b = old;
-    b.length = t[1] as usize;
-    b
-}
-
-// Numbers of a slot are handed in.
-fn slot(old: Bench, t: [u32; 18]) -> Bench {
-    let n = (t[1] % 8) as usize;
-    let mut slots = old.slots;
-    let h = handed::hand_in(slots[n], t);
-    if !h.ok {
-        told::not_understood();
-        return old;
-    }
-    let s = h.slot;
-    slots[n] = s;
-    let mut b = old;
-    b.slots = slots;
-    b
-}
+use tries::Bench;
 
 fn least(a: usize, b: usize) -> usize
     ensures { λ r. ⌜ r ≤ b ⌝ }
@@ -108,29 +53,19 @@ fn look(b: Bench, mem: &[u8; 8192], verb: u32, n: u32, i: u32) {
     }
 }
 
-// What makes the bench another.
-fn change(b: Bench, t: [u32; 18]) -> Bench {
-    match t[0] {
-        names::SETUP => setup(b, t),
-        names::MEMORY => memory(b, t),
-        names::SLOT => slot(b, t),
-        _ => b,
-    }
-}
-
 // A command, if it is understood.
 fn run(b: Bench, mem: &mut [u8; 8192], t: [u32; 18]) -> Bench {
     if (names::EVENT <= t[0]) & (t[0] <= names::TEMPERATURE) {
         return act(b, mem, t);
     }
     look(b, mem, t[0], t[1], t[2]);
-    change(b, t)
+    tries::change(b, t)
 }
 
 // The first command of a line begins anew, unless it is `then`. A proved loop has to end, so it counts down from a number that no input uses up.
 fn main() {
     let mut mem = [0u8; 8192];
-    let mut b = anew([Pair { kind: 0, length: 0 }; 8], &mut mem);
+    let mut b = tries::anew([Pair { kind: 0, length: 0 }; 8], &mut mem);
     let mut end: u8 = 0;
     let mut turns = u64::MAX;
     while 0 < turns {
@@ -138,7 +73,7 @@ fn main() {
         let t = s.words;
         if (end != b';') & (t[0] != names::MISSING) {
             let pairs = b.pairs;
-            b = anew(pairs, &mut mem);
+            b = tries::anew(pairs, &mut mem);
         }
         b = run(b, &mut mem, t);
         end = s.end;
