@@ -8,9 +8,12 @@ use lib.ListN.{take}
 use Rattle.lines.specs.Steps.{turnOf}
 use Rattle.script.specs.declared.Going.{Going}
 
+pub record Turned (g : Going) (m buf : List ℕ) (came : ℕ) (out : List ℕ) (r : Going) (stored moved written : List ℕ) : Type 0 where
+  pub end : ℕ
+  pub turned : turnOf (g .bus) m buf (g .held) came out ≡ (record { bus = r .bus; end = end; held = r .held }, stored, moved, written)
+
 pub record Went (g : Going) (m buf out : List ℕ) (r : Going) (stored moved written : List ℕ) : Type 0 where
   pub read : List ℕ
   pub came : ℕ
-  pub end : ℕ
   pub kept : take (g .held) read ≡ take (g .held) buf
-  pub turned : turnOf (g .bus) m read (g .held) came out ≡ (record { bus = r .bus; end = end; held = r .held }, stored, moved, written)
+  pub turn : Turned g m read came out r stored moved written

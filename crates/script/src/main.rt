@@ -1,12 +1,12 @@
 // The script program: a setup and records on standard input, a line for each event on standard output. It reads, hands what came to `frame` and
 // `lines`, and writes what each has put at the front of the output: all that decides is said and proved there.
 ghost use mathlib.Core.Path.{_≡_};
-ghost use mathlib.Core.Bool.{true};
-ghost use Prim.Native.Nat.{_<_};
+ghost use mathlib.Core.Bool.{true, false};
+ghost use Prim.Native.Nat.{_+_, _<_, _≤_};
 ghost use lib.ListN.{length};
 ghost use Rattle.rules.specs.Modelled.{memoryBytes};
 ghost use Rattle.rules.specs.Refusals.{inRange};
-ghost use Rattle.script.specs.Went.{Went};
+ghost use Rattle.script.specs.Went.{Turned, Went};
 use libc::STDIN_FILENO;
 use libc::STDOUT_FILENO;
 use rules::Bus;
@@ -18,25 +18,28 @@ struct Going {
     on: bool,
 }
 
-// One read, behind the bytes that are held, and what is written for it. A read that brings nothing is the input's end.
-fn read_on(g: Going, mem: &mut [u8], buf: &mut [u8], out: &mut [u8]) -> Going
-    requires { ⌜ (inRange (g .bus) ≡ true) × (length (now mem) ≡ memoryBytes) × (length (now buf) ≡ 65536) × (length (now out) ≡ 65536) × (g .held < 4) ⌝ }
-    ensures { λ r. ⌜ (inRange (r .bus) ≡ true) × (r .held < 4) × (r .on ≡ true → Went g (now (mem .entry)) (now (buf .entry)) (now (out .entry)) r (now (mem .exit)) (now (buf .exit)) (now (out .exit))) ⌝ }
+// The input's end: the last line, and there is no going on.
+fn ended(g: Going, out: &mut [u8]) -> Going
+    requires { ⌜ length (now out) ≡ 65536 ⌝ }
+    ensures { λ r. ⌜ r ≡ record { bus = g .bus; held = 0; on = false } ⌝ }
 {
-    let held = g.held;
+    let end = frame::finish(g.held, out);
+    io::write_all(STDOUT_FILENO, &out[..end]);
     let bus = g.bus;
-    let got = libc::read(STDIN_FILENO, &mut buf[held..]);
-    let n = io::count(got, &buf[held..]);
-    if n == 0 {
-        let end = frame::finish(held, out);
-        io::write_all(STDOUT_FILENO, &out[..end]);
-        return Going {
-            bus,
-            held: 0,
-            on: false,
-        };
+    Going {
+        bus,
+        held: 0,
+        on: false,
     }
-    let t = lines::turn(bus, mem, buf, held, n, out);
+}
+
+// A turn over the n bytes that have come behind those held, and its lines written.
+fn turned(g: Going, mem: &mut [u8], buf: &mut [u8], n: usize, out: &mut [u8]) -> Going
+    requires { ⌜ (inRange (g .bus) ≡ true) × (length (now mem) ≡ memoryBytes) × (length (now buf) ≡ 65536) × (length (now out) ≡ 65536) × (g .held + n ≤ 65536) ⌝ }
+    ensures { λ r. ⌜ (inRange (r .bus) ≡ true) × (r .held < 4) × Turned g (now (mem .entry)) (now (buf .entry)) n (now (out .entry)) r (now (mem .exit)) (now (buf .exit)) (now (out .exit)) ⌝ }
+{
+    let bus = g.bus;
+    let t = lines::turn(bus, mem, buf, g.held, n, out);
     let end = t.end;
     let on = io::write_all(STDOUT_FILENO, &out[..end]);
     let next = t.bus;
@@ -45,6 +48,20 @@ fn read_on(g: Going, mem: &mut [u8], buf: &mut [u8], out: &mut [u8]) -> Going
         held: t.held,
         on,
     }
+}
+
+// One read, behind the bytes that are held, and what is written for it. A read that brings nothing is the input's end.
+fn read_on(g: Going, mem: &mut [u8], buf: &mut [u8], out: &mut [u8]) -> Going
+    requires { ⌜ (inRange (g .bus) ≡ true) × (length (now mem) ≡ memoryBytes) × (length (now buf) ≡ 65536) × (length (now out) ≡ 65536) × (g .held < 4) ⌝ }
+    ensures { λ r. ⌜ (inRange (r .bus) ≡ true) × (r .held < 4) × (r .on ≡ true → Went g (now (mem .entry)) (now (buf .entry)) (now (out .entry)) r (now (mem .exit)) (now (buf .exit)) (now (out .exit))) ⌝ }
+{
+    let held = g.held;
+    let got = libc::read(STDIN_FILENO, &mut buf[held..]);
+    let n = io::count(got, &buf[held..]);
+    if n == 0 {
+        return ended(g, out);
+    }
+    turned(g, mem, buf, n, out)
 }
 
 // Read after read, until the input ends or a write fails. The lines of all records that have come are written before more is waited for. A
