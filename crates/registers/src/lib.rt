@@ -1,9 +1,8 @@
-// The sensor's registers: what they read, what a write leaves in them, and which of their bits are kept.
+// The sensor's registers: what they read, what a write leaves in them.
 ghost use mathlib.Core.Path.{_≡_};
 ghost use mathlib.Core.Bool.{cond};
 ghost use lib.Bits.{bitAnd};
 ghost use Rattle.rules.specs.Sensor.{registerOf, limitBits, criticalLocked, limitsLocked, configured, written};
-ghost use Rattle.rules.specs.Refusals.{sensorInRange};
 use rules::Sensor;
 
 // What register p reads.
@@ -73,17 +72,4 @@ pub fn written(x: Sensor, p: u8, v: u16) -> Sensor
         _ => {}
     }
     next
-}
-
-// Whether the pointer is in its range and no register has a bit that is not kept.
-pub fn in_range(x: Sensor) -> bool
-    ensures { λ r. ⌜ r ≡ sensorInRange x ⌝ }
-{
-    (x.pointer <= 0x09)
-        & (x.configuration & 0x07CF == x.configuration)
-        & (x.high & 0x1FFC == x.high)
-        & (x.low & 0x1FFC == x.low)
-        & (x.critical & 0x1FFC == x.critical)
-        & (x.resolution & 0x03 == x.resolution)
-        & (x.timeout & 0x01 == x.timeout)
 }

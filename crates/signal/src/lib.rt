@@ -1,11 +1,7 @@
-// What carries no byte, at one slot: start, stop, timeout, power, high voltage, temperature.
+// What reaches every slot and carries nothing, at one slot: start, stop, timeout, power.
 ghost use mathlib.Core.Path.{_≡_};
-ghost use mathlib.Core.Bool.{cond};
-ghost use Rattle.rules.specs.Fields.{withSensor};
 ghost use Rattle.rules.specs.Fresh.{powered};
-ghost use Rattle.rules.specs.Sensor.{converted};
-ghost use Rattle.rules.specs.Modelled.{absent};
-ghost use Rattle.rules.specs.Slot.{stopIn, switched};
+ghost use Rattle.rules.specs.Slot.{stopIn};
 ghost use Rattle.signal.specs.Signals.{signalled};
 use rules::Phase;
 use rules::Slot;
@@ -66,35 +62,4 @@ pub fn signalled(x: Signal, s: Slot) -> Slot
         Signal::Timeout => phase::in_phase(Phase::Idle, phase::let_go(p, s)),
         Signal::Power => powered(s),
     }
-}
-
-// High voltage on or off: a protect or clear that its stop has not begun is cancelled when it goes off.
-pub fn switched(on: bool, s: Slot) -> Slot
-    ensures { λ r. ⌜ r ≡ cond (absent s) s (switched on s) ⌝ }
-{
-    if s.kind == 0 {
-        return s;
-    }
-    let p = phase::standing(s);
-    let t = phase::traits(p);
-    let mut next = s;
-    if t.command & s.voltage & !on {
-        next = phase::lost(p, s);
-    }
-    next.voltage = on;
-    next
-}
-
-// A temperature.
-pub fn heated(t: i16, s: Slot) -> Slot
-    ensures { λ r. ⌜ r ≡ cond (absent s) s (withSensor (converted (s .sensor) t) s) ⌝ }
-{
-    if s.kind == 0 {
-        return s;
-    }
-    let x = s.sensor;
-    let sensor = sensor::converted(x, t);
-    let mut next = s;
-    next.sensor = sensor;
-    next
 }

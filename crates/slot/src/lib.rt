@@ -69,7 +69,7 @@ fn voltage(k: SlotNo, on: bool, n: SlotNo, s: Slot) -> Step
     ensures { λ r. ⌜ r ≡ record { slot = slotNext (n .0) (Act.Voltage k on) s; ack = false; drives = false; byte = 255 } ⌝ }
 {
     if k.0 == n.0 {
-        return quiet(signal::switched(on, s));
+        return quiet(pins::switched(on, s));
     }
     quiet(s)
 }
@@ -79,7 +79,7 @@ fn temperature(k: SlotNo, t: i16, n: SlotNo, s: Slot) -> Step
     ensures { λ r. ⌜ r ≡ record { slot = slotNext (n .0) (Act.Temperature k t) s; ack = false; drives = false; byte = 255 } ⌝ }
 {
     if k.0 == n.0 {
-        return quiet(signal::heated(t, s));
+        return quiet(pins::heated(t, s));
     }
     quiet(s)
 }

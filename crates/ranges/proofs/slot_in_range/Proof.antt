@@ -12,4 +12,4 @@ slot-in-range-spec =
     (tie.spec
     (λ c κs. search needs)
     (λ c κs. search needs)
-    (λ c. rw (c .before .before .before .before .before .length-in-range .ensures, c .in-range .ensures)))
+    (λ c. rw (c .before .before .before .before .before .length-in-range .ensures, c .sensor-in-range .ensures)))

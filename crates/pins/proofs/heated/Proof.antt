@@ -8,9 +8,9 @@ use Rattle.rules.specs.Fields.{withSensor}
 use Rattle.rules.specs.Modelled.{absent}
 use Rattle.sensor.proofs.Signed.{back}
 use Rattle.rules.specs.Sensor.{converted}
-use Rattle.signal.proofs.Laws.{heated-by}
-use Rattle.signal.proofs.heated.Statement.{statement}
-use Rattle.signal.proofs.heated.Tie as tie
+use Rattle.pins.proofs.Laws.{heated-by}
+use Rattle.pins.proofs.heated.Statement.{statement}
+use Rattle.pins.proofs.heated.Tie as tie
 
 pub heated-spec : {M : Type 1} → statement M
 unfolding absent withSensor

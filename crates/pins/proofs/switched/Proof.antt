@@ -5,9 +5,9 @@ use borrow.Author.Needs.{needs}
 use borrow.Author.Tests.{eq-eqb, ne-eqb}
 use Rattle.rules.specs.Fields.{withVoltage}
 use Rattle.rules.specs.Modelled.{absent}
-use Rattle.signal.proofs.Laws.{switched-by}
-use Rattle.signal.proofs.switched.Statement.{statement}
-use Rattle.signal.proofs.switched.Tie as tie
+use Rattle.pins.proofs.Laws.{switched-by}
+use Rattle.pins.proofs.switched.Statement.{statement}
+use Rattle.pins.proofs.switched.Tie as tie
 
 pub switched-spec : {M : Type 1} → statement M
 unfolding absent withVoltage
