@@ -24,7 +24,8 @@ use Rattle.slot.specs.declared.Step.{Step}
 use Rattle.foreseen.specs.Foreseen.{acksAt, drivesAt, Silent, Foreseen}
 use Rattle.slot.specs.Shown.{drivenAt, stepped}
 use Rattle.rules.proofs.Past.{noSlot}
-use Rattle.slots.specs.Taken.{answerFor, takenThen}
+use Rattle.shown.specs.Shown.{answerFor}
+use Rattle.slots.specs.Taken.{takenThen}
 
 -- what the loop does with slot n at an act: its step, what it shows, its part of the memory as the code cuts it out
 abbrev pub doing : Act → ℕ → Slot → Slot

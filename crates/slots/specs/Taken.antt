@@ -1,12 +1,8 @@
 -- What the bus's functions give, put together from the law's definitions. Nothing is said here that the law does not say.
 -- Assumes nothing.
 use Prim.Native.Nat.{ℕ}
-use mathlib.Core.Bool.{Bool, cond}
 use mathlib.Core.List.{List}
 use Rattle.rules.specs.declared.Act.{Act}
-use Rattle.rules.specs.declared.Act.the-variants.{Start, Byte, Read, Stop, Timeout, Tick, Voltage, Power, Temperature}
-use Rattle.rules.specs.declared.Answer.{Answer}
-use Rattle.rules.specs.declared.Answer.the-variants.{Nothing, Ack, Nack, Data}
 use Rattle.rules.specs.declared.Bus.{Bus}
 use Rattle.rules.specs.declared.Outcome.{Outcome}
 use Rattle.rules.specs.Bus.{busNext, memoryNext, shown}
@@ -14,15 +10,3 @@ use Rattle.rules.specs.Bus.{busNext, memoryNext, shown}
 -- an act that is not refused: the outcome, and the memory after it
 unfoldable pub takenThen : Bus → List ℕ → Act → Outcome × List ℕ
 takenThen b m a = (record { bus = busNext a b; answer = shown a b m }, memoryNext a b m)
-
--- the answer to an act, where ack says whether a slot acknowledges, and byte is the byte read
-abbrev pub answerFor : Act → Bool → ℕ → Answer
-answerFor Start ack byte = Nothing
-answerFor (Byte v) ack byte = cond ack Ack Nack
-answerFor (Read more) ack byte = Data byte
-answerFor Stop ack byte = Nothing
-answerFor Timeout ack byte = Nothing
-answerFor Tick ack byte = Nothing
-answerFor (Voltage k on) ack byte = Nothing
-answerFor Power ack byte = Nothing
-answerFor (Temperature k t) ack byte = Nothing

@@ -14,8 +14,8 @@ use Rattle.slots.proofs.taken.Statement.{statement}
 use Rattle.slots.proofs.taken.Tie as tie
 use Rattle.slots.proofs.taken.Reads as reads
 use Rattle.slots.proofs.taken.Lts as lts
-use Rattle.slots.proofs.answer_of.Reads as answer-of-reads
-use Rattle.slots.proofs.joined.Reads as joined-reads
+use Rattle.shown.proofs.answer_of.Reads as answer-of-reads
+use Rattle.shown.proofs.joined.Reads as joined-reads
 use Rattle.phase.proofs.in_phase.Reads as in-phase-reads
 use Rattle.foreseen.proofs.carried.Reads as carried-reads
 use Rattle.foreseen.proofs.glance.Reads as glance-reads

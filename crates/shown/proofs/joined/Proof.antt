@@ -1,8 +1,8 @@
 -- Each part of what is shown, as the code joins it.
 -- Assumes nothing.
 use borrow.Author.Needs.{needs}
-use Rattle.slots.proofs.joined.Statement.{statement}
-use Rattle.slots.proofs.joined.Tie as tie
+use Rattle.shown.proofs.joined.Statement.{statement}
+use Rattle.shown.proofs.joined.Tie as tie
 
 either-requires : tie.Need-either-requires
 either-requires c κs = search needs

@@ -1,6 +1,6 @@
 use borrow.Author.Needs.{needs}
-use Rattle.slots.proofs.answer_of.Statement.{statement}
-use Rattle.slots.proofs.answer_of.Tie as tie
+use Rattle.shown.proofs.answer_of.Statement.{statement}
+use Rattle.shown.proofs.answer_of.Tie as tie
 
 enum-told : tie.Need-enum-told
 enum-told c = search needs
