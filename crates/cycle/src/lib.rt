@@ -39,7 +39,7 @@ pub fn data_stop(s: Slot) -> Slot
     if any_mark(marks) {
         return begun(s);
     }
-    phase::abandoned(s)
+    leaving::abandoned(s)
 }
 
 // The marked bytes of the latch go to their page, which begins at `at`.
