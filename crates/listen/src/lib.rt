@@ -18,7 +18,7 @@ fn data_byte(b: u8, s: Slot) -> Heed
     requires { ⌜ slotInRange s ≡ true ⌝ }
     ensures { λ r. ⌜ r ≡ record { slot = dataByte b s; ack = not (guarded s) } ⌝ }
 {
-    if memory::guarded(s) {
+    if blocks::guarded(s) {
         return obey::nack(phase::in_phase(Phase::Deaf, leaving::abandoned(s)));
     }
     obey::ack(memory::latching(b, s))
