@@ -39,7 +39,7 @@ pub fn data_stop(s: Slot) -> Slot
     if any_mark(marks) {
         return begun(s);
     }
-    phase::abandoned(s)
+    leaving::abandoned(s)
 }
 
 // The marked bytes of the latch go to their page, which begins at `at`.
@@ -64,7 +64,7 @@ pub fn tick(s: Slot, part: &mut [u8]) -> Slot
     }
     let left = s.left;
     if left == 1 {
-        let a = memory::address_of(s);
+        let a = blocks::address_of(s);
         let at = (a.0 / 16 * 16) as usize;
         let latch = s.latch;
         let marks = s.marks;

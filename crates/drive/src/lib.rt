@@ -50,7 +50,7 @@ fn high_byte(s: Slot, more: bool) -> Drive
     let slot = if more {
         phase::in_phase(Phase::SensorReadLow, s)
     } else {
-        phase::lost(Phase::SensorReadHigh, s)
+        leaving::lost(Phase::SensorReadHigh, s)
     };
     Drive {
         slot,
@@ -64,7 +64,7 @@ fn low_byte(s: Slot) -> Drive
     ensures { λ r. ⌜ r ≡ record { slot = lost Phase.SensorReadLow s; drives = true; byte = s .sensor .word % 256 } ⌝ }
 {
     let byte = (s.sensor.word % 256) as u8;
-    let slot = phase::lost(Phase::SensorReadLow, s);
+    let slot = leaving::lost(Phase::SensorReadLow, s);
     Drive {
         slot,
         drives: true,
@@ -92,6 +92,6 @@ pub fn read(s: Slot, part: &[u8], more: bool) -> Drive
         | Phase::CommandStop
         | Phase::SensorPointer
         | Phase::SensorHigh
-        | Phase::SensorLow => silent(phase::lost(phase, s)),
+        | Phase::SensorLow => silent(leaving::lost(phase, s)),
     }
 }

@@ -18,8 +18,8 @@ fn data_byte(b: u8, s: Slot) -> Heed
     requires { ⌜ slotInRange s ≡ true ⌝ }
     ensures { λ r. ⌜ r ≡ record { slot = dataByte b s; ack = not (guarded s) } ⌝ }
 {
-    if memory::guarded(s) {
-        return obey::nack(phase::in_phase(Phase::Deaf, phase::abandoned(s)));
+    if blocks::guarded(s) {
+        return obey::nack(phase::in_phase(Phase::Deaf, leaving::abandoned(s)));
     }
     obey::ack(memory::latching(b, s))
 }
@@ -33,7 +33,7 @@ fn pointed(b: u8, s: Slot) -> Heed
         next.sensor.pointer = b;
         return obey::ack(phase::in_phase(Phase::SensorHigh, next));
     }
-    obey::nack(phase::lost(Phase::SensorPointer, s))
+    obey::nack(leaving::lost(Phase::SensorPointer, s))
 }
 
 // A sensor write's first byte is held.
@@ -54,7 +54,7 @@ fn second_byte(b: u8, s: Slot) -> Slot
     let sensor = registers::written(x, x.pointer, x.word / 256 * 256 + (b as u16));
     let mut next = s;
     next.sensor = sensor;
-    phase::lost(Phase::SensorLow, next)
+    leaving::lost(Phase::SensorLow, next)
 }
 
 // A byte from the master at slot n; h is what it asks for as a control byte.
@@ -75,6 +75,6 @@ pub fn byte(s: Slot, n: SlotNo, b: u8, h: Heard) -> Heed
         Phase::SensorHigh => obey::ack(first_byte(b, s)),
         Phase::SensorLow => obey::ack(second_byte(b, s)),
         Phase::MemoryRead | Phase::CommandStop | Phase::SensorReadHigh | Phase::SensorReadLow =>
-            obey::nack(phase::lost(phase, s)),
+            obey::nack(leaving::lost(phase, s)),
     }
 }

@@ -1,63 +1,12 @@
-// The memory of a slot in an exchange: its counter, its latch, its protection.
+// The memory of a slot in an exchange: its counter, its latch, the bytes that are read.
 ghost use mathlib.Core.Path.{_≡_};
-ghost use mathlib.Core.Bool.{true, false, cond};
-ghost use lib.ListN.{length, getD, set};
+ghost use mathlib.Core.Bool.{true, cond};
+ghost use lib.ListN.{length, getD};
 ghost use Rattle.rules.specs.Modelled.{addressOf, slotBytes};
-ghost use Rattle.rules.specs.Control.{protects};
-ghost use Rattle.rules.specs.Memory.{loaded, guarded, latching, fetched};
+ghost use Rattle.rules.specs.Memory.{loaded, latching, fetched};
 ghost use Rattle.rules.specs.Refusals.{slotInRange};
-use rules::Address;
-use rules::BlockNo;
 use rules::Phase;
 use rules::Slot;
-
-// The address that the counter points to in the selected half.
-pub fn address_of(s: Slot) -> Address
-    ensures { λ r. ⌜ r ≡ addressOf s ⌝ }
-{
-    Address(256 * (s.half as u16) + (s.counter as u16))
-}
-
-// What stands for a block; a block above 3 is not there.
-fn block_at(k: BlockNo, blocks: [bool; 4]) -> bool
-    ensures { λ r. ⌜ r ≡ getD blocks (k .0) false ⌝ }
-{
-    let at = k.0 as usize;
-    if at < 4 {
-        return blocks[at];
-    }
-    false
-}
-
-// The blocks with one more.
-pub fn with_block(k: BlockNo, blocks: [bool; 4]) -> [bool; 4]
-    ensures { λ r. ⌜ r ≡ set blocks (k .0) true ⌝ }
-{
-    let at = k.0 as usize;
-    if at < 4 {
-        let mut next = blocks;
-        next[at] = true;
-        return next;
-    }
-    blocks
-}
-
-// A block is protected.
-pub fn protects(k: BlockNo, s: Slot) -> bool
-    ensures { λ r. ⌜ r ≡ protects k s ⌝ }
-{
-    let protection = s.protection;
-    block_at(k, protection)
-}
-
-// The block of the next data byte is protected.
-pub fn guarded(s: Slot) -> bool
-    requires { ⌜ slotInRange s ≡ true ⌝ }
-    ensures { λ r. ⌜ r ≡ guarded s ⌝ }
-{
-    let a = address_of(s);
-    protects(BlockNo((a.0 / 128) as u8), s)
-}
 
 // A memory write's first byte loads the counter.
 pub fn loaded(b: u8, s: Slot) -> Slot
@@ -92,7 +41,7 @@ pub fn byte_at(s: Slot, part: &[u8]) -> u8
     requires { ⌜ (slotInRange s ≡ true) × (length (now part) ≡ slotBytes) ⌝ }
     ensures { λ r. ⌜ r ≡ getD (now (part .entry)) (addressOf s .0) 0 ⌝ }
 {
-    let a = address_of(s);
+    let a = blocks::address_of(s);
     let at = a.0 as usize;
     part[at]
 }

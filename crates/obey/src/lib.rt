@@ -39,9 +39,9 @@ fn acks_heard(h: Heard, n: SlotNo, s: Slot) -> bool
     match h {
         Heard::Memory { select, read: _ } => select.0 == n.0,
         Heard::Sensor { select, read: _ } => (select.0 == n.0) & (s.kind == 2),
-        Heard::Protect(k) => s.voltage & !memory::protects(k, s),
+        Heard::Protect(k) => s.voltage & !blocks::protects(k, s),
         Heard::ClearAll => s.voltage,
-        Heard::ReadProtection(k) => !memory::protects(k, s),
+        Heard::ReadProtection(k) => !blocks::protects(k, s),
         Heard::SelectHalf(_) => true,
         Heard::ReadHalf => s.half == 0,
         Heard::Nothing => false,
@@ -53,7 +53,7 @@ fn protecting(k: BlockNo, s: Slot) -> Slot
     ensures { λ r. ⌜ r ≡ inPhase Phase.CommandAddress (expecting (set (s .protection) (k .0) true) s) ⌝ }
 {
     let protection = s.protection;
-    let coming = memory::with_block(k, protection);
+    let coming = blocks::with_block(k, protection);
     let mut next = s;
     next.coming = coming;
     phase::in_phase(Phase::CommandAddress, next)

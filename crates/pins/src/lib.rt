@@ -18,7 +18,7 @@ pub fn switched(on: bool, s: Slot) -> Slot
     let t = phase::traits(p);
     let mut next = s;
     if t.command & s.voltage & !on {
-        next = phase::lost(p, s);
+        next = leaving::lost(p, s);
     }
     next.voltage = on;
     next

@@ -18,13 +18,13 @@ fn stop_in(p: Phase, s: Slot) -> Slot
         | Phase::MemoryRead
         | Phase::HalfSelected => s,
         Phase::MemoryData => cycle::data_stop(s),
-        Phase::CommandAddress | Phase::CommandData => phase::cancelled(s),
+        Phase::CommandAddress | Phase::CommandData => leaving::cancelled(s),
         Phase::CommandStop => cycle::begun(s),
         Phase::SensorPointer
         | Phase::SensorHigh
         | Phase::SensorLow
         | Phase::SensorReadHigh
-        | Phase::SensorReadLow => phase::let_go(p, s),
+        | Phase::SensorReadLow => leaving::let_go(p, s),
     }
 }
 
@@ -57,9 +57,9 @@ pub fn signalled(x: Signal, s: Slot) -> Slot
     }
     let p = phase::standing(s);
     match x {
-        Signal::Start => phase::in_phase(Phase::Control, phase::let_go(p, s)),
+        Signal::Start => phase::in_phase(Phase::Control, leaving::let_go(p, s)),
         Signal::Stop => phase::in_phase(Phase::Idle, stop_in(p, s)),
-        Signal::Timeout => phase::in_phase(Phase::Idle, phase::let_go(p, s)),
+        Signal::Timeout => phase::in_phase(Phase::Idle, leaving::let_go(p, s)),
         Signal::Power => powered(s),
     }
 }

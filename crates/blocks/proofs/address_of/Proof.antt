@@ -3,8 +3,8 @@
 use mathlib.Core.Path.{refl}
 use borrow.Author.Needs.{needs}
 use Rattle.rules.specs.Modelled.{addressOf}
-use Rattle.memory.proofs.address_of.Statement.{statement}
-use Rattle.memory.proofs.address_of.Tie as tie
+use Rattle.blocks.proofs.address_of.Statement.{statement}
+use Rattle.blocks.proofs.address_of.Tie as tie
 
 pub address-of-spec : {M : Type 1} → statement M
 unfolding addressOf

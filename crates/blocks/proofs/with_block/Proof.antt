@@ -5,8 +5,8 @@ use mathlib.Core.Bool.{true}
 use native.Mathlib.Omega.{arith}
 use borrow.Author.Needs.{needs}
 use lib.Seq.{set-out}
-use Rattle.memory.proofs.with_block.Statement.{statement}
-use Rattle.memory.proofs.with_block.Tie as tie
+use Rattle.blocks.proofs.with_block.Statement.{statement}
+use Rattle.blocks.proofs.with_block.Tie as tie
 
 pub with-block-spec : {M : Type 1} → statement M
 with-block-spec =

@@ -5,8 +5,8 @@ use mathlib.Core.Bool.{false}
 use native.Mathlib.Omega.{arith}
 use borrow.Author.Needs.{needs}
 use lib.ListN.{List·getD-eq-default}
-use Rattle.memory.proofs.block_at.Statement.{statement}
-use Rattle.memory.proofs.block_at.Tie as tie
+use Rattle.blocks.proofs.block_at.Statement.{statement}
+use Rattle.blocks.proofs.block_at.Tie as tie
 
 pub block-at-spec : {M : Type 1} → statement M
 block-at-spec =

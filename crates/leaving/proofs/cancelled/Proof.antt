@@ -3,8 +3,8 @@
 use mathlib.Core.Path.{refl}
 use Rattle.rules.specs.Memory.{cancelled}
 use Rattle.rules.specs.Open.{open-fields}
-use Rattle.phase.proofs.cancelled.Statement.{statement}
-use Rattle.phase.proofs.cancelled.Tie as tie
+use Rattle.leaving.proofs.cancelled.Statement.{statement}
+use Rattle.leaving.proofs.cancelled.Tie as tie
 
 pub cancelled-spec : {M : Type 1} → statement M
 unfolding cancelled open-fields

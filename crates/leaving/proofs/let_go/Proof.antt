@@ -3,9 +3,9 @@
 use mathlib.Core.Path.{refl}
 use borrow.Author.Needs.{needs}
 use Rattle.rules.specs.Fields.{holding, withSensor, withWord}
-use Rattle.phase.proofs.Laws.{lets-word, lets-command, lets-bytes, lets-nothing}
-use Rattle.phase.proofs.let_go.Statement.{statement}
-use Rattle.phase.proofs.let_go.Tie as tie
+use Rattle.leaving.proofs.Laws.{lets-word, lets-command, lets-bytes, lets-nothing}
+use Rattle.leaving.proofs.let_go.Statement.{statement}
+use Rattle.leaving.proofs.let_go.Tie as tie
 
 pub let-go-spec : {M : Type 1} → statement M
 unfolding holding withSensor withWord

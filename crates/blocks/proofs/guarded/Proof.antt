@@ -11,8 +11,8 @@ use Rattle.rules.specs.Memory.{guarded}
 use Rattle.rules.specs.Modelled.{addressOf, blockOf}
 use Rattle.rules.proofs.Range.Kept.{facts}
 use Rattle.rules.specs.declared.Address.{Address}
-use Rattle.memory.proofs.guarded.Statement.{statement}
-use Rattle.memory.proofs.guarded.Tie as tie
+use Rattle.blocks.proofs.guarded.Statement.{statement}
+use Rattle.blocks.proofs.guarded.Tie as tie
 
 pub guarded-spec : {M : Type 1} → statement M
 unfolding guarded protects blockOf addressOf

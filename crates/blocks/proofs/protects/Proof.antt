@@ -2,8 +2,8 @@
 -- Assumes nothing.
 use borrow.Author.Needs.{needs}
 use Rattle.rules.specs.Control.{protects}
-use Rattle.memory.proofs.protects.Statement.{statement}
-use Rattle.memory.proofs.protects.Tie as tie
+use Rattle.blocks.proofs.protects.Statement.{statement}
+use Rattle.blocks.proofs.protects.Tie as tie
 
 pub protects-spec : {M : Type 1} → statement M
 unfolding protects

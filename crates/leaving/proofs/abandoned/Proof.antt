@@ -3,8 +3,8 @@
 use mathlib.Core.Path.{refl}
 use Rattle.rules.specs.Memory.{emptied, abandoned}
 use Rattle.rules.specs.Open.{open-fields}
-use Rattle.phase.proofs.abandoned.Statement.{statement}
-use Rattle.phase.proofs.abandoned.Tie as tie
+use Rattle.leaving.proofs.abandoned.Statement.{statement}
+use Rattle.leaving.proofs.abandoned.Tie as tie
 
 pub abandoned-spec : {M : Type 1} → statement M
 unfolding emptied abandoned open-fields

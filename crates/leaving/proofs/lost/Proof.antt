@@ -2,8 +2,8 @@
 -- Assumes nothing.
 use borrow.Author.Needs.{needs}
 use Rattle.rules.specs.Slot.{lost}
-use Rattle.phase.proofs.lost.Statement.{statement}
-use Rattle.phase.proofs.lost.Tie as tie
+use Rattle.leaving.proofs.lost.Statement.{statement}
+use Rattle.leaving.proofs.lost.Tie as tie
 
 pub lost-spec : {M : Type 1} → statement M
 unfolding lost
