@@ -26,7 +26,7 @@ fn event(slots: [Slot; 8], mem: &mut [u8], length: usize, e: Event) -> Outcome {
 fn act(b: Bench, mem: &mut [u8; 8192], t: [u32; 18]) -> Bench {
     let was = b.slots;
     let old = *mem;
-    let out = event(was, mem, b.length, words::event(t));
+    let out = event(was, mem, b.length, tries::event(t));
     told::came(out, was, &old, mem);
     let bus = out.bus;
     let slots = bus.slots;

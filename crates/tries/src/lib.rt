@@ -1,6 +1,52 @@
-// The bench of the tries, without its events: set up, given another memory, handed numbers of a slot.
+// What the commands of the tries ask for: setups and events; and the bench without its events: set up, given another memory, handed numbers
+// of a slot.
+use rules::Event;
 use rules::Pair;
 use rules::Slot;
+use rules::SlotNo;
+
+// The setup that a command asks for.
+fn pair(kind: u32, length: u32) -> Pair {
+    Pair {
+        kind: (kind % 256) as u8,
+        length: (length % 256) as u8,
+    }
+}
+
+fn pairs(t: [u32; 18]) -> [Pair; 8] {
+    let mut all = [Pair { kind: 0, length: 0 }; 8];
+    for i in 0..8usize {
+        all[i] = pair(t[2 * i + 1], t[2 * i + 2]);
+    }
+    all
+}
+
+// A value in two's complement.
+fn signed(v: u32) -> i16 {
+    let n = (v % 65536) as u16;
+    if n < 32768 {
+        return n as i16;
+    }
+    !((65535 - n) as i16)
+}
+
+fn made_of(kind: u32, slot: u32, value: u32) -> Event {
+    Event {
+        kind: (kind % 256) as u8,
+        slot: SlotNo((slot % 256) as u8),
+        value: signed(value),
+    }
+}
+
+// The event that a command asks for, by its numbers or by its name; a number that is missing counts as 0.
+pub fn event(t: [u32; 18]) -> Event {
+    let verb = t[0];
+    match verb {
+        names::EVENT => made_of(t[1], t[2], t[3]),
+        names::BYTE | names::READ => made_of(verb % names::EVENT, 0, t[1]),
+        _ => made_of(verb % names::EVENT, t[1], t[2]),
+    }
+}
 
 // The pairs of the last setup, the slots as they stand, and how long the memory is.
 pub struct Bench {
@@ -23,7 +69,7 @@ pub fn anew(pairs: [Pair; 8], mem: &mut [u8; 8192]) -> Bench {
 }
 
 fn setup(old: Bench, t: [u32; 18]) -> Bench {
-    let pairs = words::pairs(t);
+    let pairs = pairs(t);
     let made = fresh::setup(pairs);
     let answer = made.answer;
     told::answer(answer);

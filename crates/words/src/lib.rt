@@ -2,9 +2,6 @@
 ghost use Prim.Native.Nat.{_≤_};
 ghost use lib.ListN.{length};
 use libc::STDIN_FILENO;
-use rules::Event;
-use rules::Pair;
-use rules::SlotNo;
 
 // What a word stands for among those from a place on.
 fn index_of(words: &[u8], from: usize, text: &[u8]) -> u32
@@ -158,49 +155,6 @@ fn is_whole(t: [u32; 18]) -> bool {
             & (((i < n) & (v < 256)) | ((i == n) & (v <= top)) | ((n < i) & (v == names::MISSING)));
     }
     ok
-}
-
-// The setup that a command asks for.
-fn pair(kind: u32, length: u32) -> Pair {
-    Pair {
-        kind: (kind % 256) as u8,
-        length: (length % 256) as u8,
-    }
-}
-
-pub fn pairs(t: [u32; 18]) -> [Pair; 8] {
-    let mut all = [Pair { kind: 0, length: 0 }; 8];
-    for i in 0..8usize {
-        all[i] = pair(t[2 * i + 1], t[2 * i + 2]);
-    }
-    all
-}
-
-// A value in two's complement.
-fn signed(v: u32) -> i16 {
-    let n = (v % 65536) as u16;
-    if n < 32768 {
-        return n as i16;
-    }
-    !((65535 - n) as i16)
-}
-
-fn made_of(kind: u32, slot: u32, value: u32) -> Event {
-    Event {
-        kind: (kind % 256) as u8,
-        slot: SlotNo((slot % 256) as u8),
-        value: signed(value),
-    }
-}
-
-// The event that a command asks for, by its numbers or by its name; a number that is missing counts as 0.
-pub fn event(t: [u32; 18]) -> Event {
-    let verb = t[0];
-    match verb {
-        names::EVENT => made_of(t[1], t[2], t[3]),
-        names::BYTE | names::READ => made_of(verb % names::EVENT, 0, t[1]),
-        _ => made_of(verb % names::EVENT, t[1], t[2]),
-    }
 }
 
 // The words of a command, and the byte behind it: a semicolon or a line's end; 0 where the input ends.

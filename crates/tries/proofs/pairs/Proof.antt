@@ -2,8 +2,8 @@
 -- Assumes nothing.
 use Prim.Native.Nat.{_≤_, _-_}
 use borrow.Author.Needs.{needs}
-use Rattle.words.proofs.pairs.Statement.{statement}
-use Rattle.words.proofs.pairs.Tie as tie
+use Rattle.tries.proofs.pairs.Statement.{statement}
+use Rattle.tries.proofs.pairs.Tie as tie
 
 abbrev Inv-loop : tie.InvT-loop
 Inv-loop t all₀ i₀ all i = i ≤ 8
