@@ -12,9 +12,6 @@ use rules::Outcome;
 use rules::Refusal;
 use rules::Ruling;
 
-// The memory's length that the bus asks for.
-const MEMORY: usize = 4096;
-
 // A refused event changes nothing.
 fn refused(bus: Bus, x: Refusal) -> Outcome
     ensures { λ r. ⌜ r ≡ record { bus = bus; answer = Answer.Refused x } ⌝ }
@@ -44,7 +41,7 @@ pub fn event_in_range(bus: Bus, mem: &mut [u8], e: Event) -> Outcome
 pub fn event(bus: Bus, mem: &mut [u8], e: Event) -> Outcome
     ensures { λ r. ⌜ eventOf bus (now (mem .entry)) e ≡ (r, now (mem .exit)) ⌝ }
 {
-    if mem.len() != MEMORY {
+    if mem.len() != Bus::MEMORY {
         return refused(bus, Refusal::MemoryLength);
     }
     let slots = bus.slots;

@@ -2,11 +2,10 @@
 -- Assumes nothing.
 use mathlib.Core.Path.{_≡_, refl, sym, _∙_, ap}
 use mathlib.Core.Bool.{Bool, true, false, false≢true, cond, _&&_, _||_}
-use mathlib.Core.List.{List}
 use mathlib.Core.Logic.{inl, inr, ⊎-elim}
 use Prim.Native.Nat.{ℕ, _-_}
 use native.Mathlib.Omega.{arith}
-use borrow.Author.Tests.{eq-eqb, ne-eqb}
+use borrow.Author.Tests.{ne-eqb}
 use lib.Dec.{eqb}
 use lib.IntN.{ℤ}
 use Rattle.lists.specs.Tests.{cond-cases, cond-same, or-left-false, or-right-false}
@@ -26,7 +25,7 @@ use Rattle.rules.specs.Slot.{traits, standing, letGo, stopIn, byteIn, acksIn, r
 use Rattle.rules.proofs.Run.Cases.{absent-next, present-next, byte-next, read-next}
 use Rattle.foreseen.specs.declared.Change.{Change}
 use Rattle.foreseen.specs.declared.Change.the-variants as change
-use Rattle.foreseen.specs.Foreseen.{heardIn, carried, acksAt, drivesAt, Unheard, Silent, Foreseen}
+use Rattle.foreseen.specs.Foreseen.{heardIn, carried, Unheard, Silent, Foreseen}
 
 -- an exchange that is left in the phase lets something go
 abbrev pub holdsIn : Phase → Bool

@@ -36,7 +36,7 @@ pub fn heard_in(a: Act) -> Heard
     }
 }
 
-// Whether the act is a byte or a read: all that concerns only slots that listen.
+// Whether the act is a byte or a read, which concern no slot but those that listen.
 pub fn carried(a: Act) -> bool
     ensures { λ r. ⌜ r ≡ carried a ⌝ }
 {
@@ -119,11 +119,11 @@ fn at_one(k: SlotNo, n: SlotNo) -> Change
 
 // What can be told of slot n's step at an act; whether the act is a byte or a read, and what it asks for, are the same for every slot, and
 // are given.
-pub fn glance(a: Act, moves: bool, h: Heard, n: SlotNo, s: Slot) -> Change
-    requires { ⌜ (moves ≡ carried a) × (h ≡ heardIn a) ⌝ }
+pub fn glance(a: Act, carries: bool, h: Heard, n: SlotNo, s: Slot) -> Change
+    requires { ⌜ (carries ≡ carried a) × (h ≡ heardIn a) ⌝ }
     ensures { λ r. ⌜ Foreseen r (n .0) a s ⌝ }
 {
-    if moves & unheard(s) {
+    if carries & unheard(s) {
         return Change::Nothing;
     }
     match a {

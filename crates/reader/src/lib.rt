@@ -9,16 +9,13 @@ use rules::Bus;
 use rules::Slot;
 use rules::SlotNo;
 
-// The memory's length that the bus asks for.
-const MEMORY: usize = 4096;
-
 // There is no such block, or memory or bus would be refused.
 fn no_block(mem: &[u8], bus: Bus, n: SlotNo, k: BlockNo) -> bool
     ensures { λ r. ⌜ r ≡ noBlock bus (now (mem .entry)) n k ⌝ }
 {
     let slots = bus.slots;
     let kind = ruling::kind_at(slots, n);
-    (mem.len() != MEMORY) | !ranges::in_range(slots) | (7 < n.0) | (kind == 0) | (3 < k.0)
+    (mem.len() != Bus::MEMORY) | !ranges::in_range(slots) | (7 < n.0) | (kind == 0) | (3 < k.0)
 }
 
 // The 128 bytes of a block, as a part of the caller's memory, at its place there; an empty part at the memory's beginning where there is none.

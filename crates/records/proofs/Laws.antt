@@ -13,7 +13,6 @@ use lib.Seq.{getD-at}
 use Rattle.lists.specs.Each.{filled, filled-step}
 use Rattle.lists.specs.Tests.{by-test}
 use Rattle.rules.specs.declared.Pair.{Pair}
-use Rattle.rules.specs.Runs.{next}
 use Rattle.records.specs.Records.{pairAt, pairsTo}
 
 -- one below zero, and so many more

@@ -196,6 +196,11 @@ pub struct Bus {
     pub slots: [Slot; 8],
 }
 
+impl Bus {
+    // Bytes of the memory that a bus is lent.
+    pub const MEMORY: usize = 4096;
+}
+
 // A slot's setup.
 pub struct Pair {
     pub kind: u8,

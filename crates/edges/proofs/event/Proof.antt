@@ -2,7 +2,7 @@
 -- Assumes nothing.
 use native.Mathlib.Omega.{arith}
 use borrow.Author.Needs.{needs}
-use lib.ListN.{length, length-take}
+use lib.ListN.{length-take}
 use Rattle.edges.proofs.event.Statement.{statement}
 use Rattle.edges.proofs.event.Tie as tie
 

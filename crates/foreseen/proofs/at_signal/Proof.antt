@@ -1,4 +1,4 @@
-use borrow.Author.Tests.{eq-eqb, ne-eqb}
+use borrow.Author.Tests.{eq-eqb}
 use Rattle.rules.specs.Modelled.{absent}
 use Rattle.foreseen.proofs.Laws.{passes}
 use borrow.Author.Needs.{needs}

@@ -1,5 +1,4 @@
 use Rattle.foreseen.proofs.Laws.{tick-rests, more}
-use borrow.Author.Needs.{needs}
 use Rattle.foreseen.proofs.at_tick.Statement.{statement}
 use Rattle.foreseen.proofs.at_tick.Tie as tie
 

@@ -1,6 +1,6 @@
 -- A slot that is there has its voltage set; a command is cancelled where it goes off.
 -- Assumes nothing.
-use mathlib.Core.Path.{_≡_, refl}
+use mathlib.Core.Path.{refl}
 use borrow.Author.Needs.{needs}
 use borrow.Author.Tests.{eq-eqb, ne-eqb}
 use Rattle.rules.specs.Fields.{withVoltage}

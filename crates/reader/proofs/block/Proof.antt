@@ -2,7 +2,6 @@ use Rattle.rules.proofs.Document.Reader.{block-fits}
 use Rattle.rules.specs.Reader.{blockBytes}
 use native.Mathlib.Omega.{arith}
 use Prim.Native.Nat.{_+_, _-_, _*_}
-use mathlib.Core.Bool.{false}
 use mathlib.Core.Path.{_≡_, sym, _∙_}
 use borrow.Author.Needs.{needs}
 use Rattle.reader.proofs.block.Statement.{statement}

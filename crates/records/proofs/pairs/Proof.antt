@@ -1,6 +1,6 @@
 -- The pairs passed are those of their bytes.
 -- Assumes nothing.
-use mathlib.Core.Path.{_∙_, ap, _≡_}
+use mathlib.Core.Path.{_∙_, _≡_}
 use Prim.Native.Nat.{_≤_, _-_}
 use native.Mathlib.Omega.{arith}
 use borrow.Author.Needs.{needs}

@@ -1,15 +1,14 @@
 -- Document 01, "Events": how what the slots show is joined, of any number of slots: an ACK of any, the lowest driver's byte.
 -- Assumes nothing.
-use Prim.Native.Nat.{ℕ, _+_, _<_}
+use Prim.Native.Nat.{ℕ, _<_}
 use native.Mathlib.Nat.{zero-add}
-use mathlib.Core.Path.{_≡_, refl, ap}
+use mathlib.Core.Path.{_≡_, ap}
 use mathlib.Core.Bool.{Bool, true, false, cond}
 use mathlib.Core.List.{List}
 use lib.ListN.{length, getD}
 use Rattle.lists.specs.Each.{anyFrom-some, anyFrom-no, firstFrom-at, firstFrom-no}
 use Rattle.lists.specs.Parts.{part}
 use Rattle.rules.specs.declared.Act.the-variants.{Byte, Read}
-use Rattle.rules.specs.declared.Answer.{Answer}
 use Rattle.rules.specs.declared.Answer.the-variants.{Ack, Nack, Data}
 use Rattle.rules.specs.declared.Bus.{Bus}
 use Rattle.rules.specs.declared.Slot.{Slot}

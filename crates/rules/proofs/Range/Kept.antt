@@ -22,7 +22,6 @@ use Rattle.rules.specs.declared.Outcome.{Outcome}
 use Rattle.rules.specs.declared.Pair.{Pair}
 use Rattle.rules.specs.declared.Phase.{Phase}
 use Rattle.rules.specs.declared.Phase.the-variants.{Idle, Control, Deaf, MemoryCounter, MemoryData, MemoryRead, HalfSelected, CommandAddress, CommandData, CommandStop, SensorPointer, SensorHigh, SensorLow, SensorReadHigh, SensorReadLow}
-use Rattle.rules.specs.declared.Refusal.the-variants.{MemoryLength, UnknownKind, WrongSlot, WrongValue, WrongState}
 use Rattle.rules.specs.declared.Ruling.{Ruling}
 use Rattle.rules.specs.declared.Ruling.the-variants.{Taken, Refused}
 use Rattle.rules.specs.declared.Sensor as sensor

@@ -2,12 +2,11 @@
 -- protection or bytes was begun earlier in that run.
 -- Assumes nothing.
 use Prim.Native.Nat.{ℕ, _<_}
-use mathlib.Core.Path.{_≡_, refl, sym, _∙_, ap, ap₂, subst}
-use mathlib.Core.Bool.{Bool, true, false, false≢true}
+use mathlib.Core.Path.{_≡_, refl, sym, _∙_, ap, subst}
+use mathlib.Core.Bool.{true, false, false≢true}
 use mathlib.Core.List.{List, []}
 use lib.ListN.{length}
 use Rattle.lists.specs.Each.{every-at}
-use Rattle.lists.specs.Parts.{part}
 use Rattle.rules.specs.declared.Act.{Act}
 use Rattle.rules.specs.declared.Act.the-variants.{Start, Byte, Read, Stop, Timeout, Tick, Voltage, Power, Temperature}
 use Rattle.rules.specs.declared.Event.{Event}
@@ -15,12 +14,12 @@ use Rattle.rules.specs.declared.Pair.{Pair}
 use Rattle.rules.specs.declared.Ruling.{Ruling}
 use Rattle.rules.specs.declared.Ruling.the-variants.{Taken, Refused}
 use Rattle.rules.specs.declared.Slot.{Slot}
-use Rattle.rules.specs.Modelled.{slotCount, slotBytes, memoryBytes}
+use Rattle.rules.specs.Modelled.{slotCount, memoryBytes}
 use Rattle.rules.specs.Fresh.{absentSlot, setupSlot, freshSlot}
 use Rattle.rules.specs.Slot.{slotNext, partNext}
-use Rattle.rules.specs.Refusals.{kindsOf, goodPair}
+use Rattle.rules.specs.Refusals.{kindsOf}
 use Rattle.rules.specs.Runs.{Bench, taken, rulingOn, ruledNext, next, after, slotAfter}
-use Rattle.runs.specs.Exchanges.{actsOf, went}
+use Rattle.runs.specs.Exchanges.{actsOf}
 use Rattle.rules.proofs.Range.Kept.{setup-in-range}
 use Rattle.rules.proofs.Run.Everywhere.{setup-everywhere}
 use Rattle.rules.proofs.Memory.Stored.{isTick}

@@ -1,16 +1,15 @@
 -- What a run from setup reaches of a slot: what the phase, the ticks left, the latch, the protection to come, the place and the word can be
 -- together. Every act keeps it (`slot-reach`), so it holds of every slot after any run from setup (`reached`).
 -- Assumes nothing.
-use Prim.Native.Nat.{ℕ, _+_, _-_, _*_, _/_, _%_}
+use Prim.Native.Nat.{ℕ, _+_, _-_, _%_}
 use native.Mathlib.Omega.{arith}
 use mathlib.Core.Path.{_≡_, refl, sym, _∙_, ap, subst}
 use mathlib.Core.Logic.{_⊎_, inl, inr, ⊎-elim}
 use mathlib.Core.Bool.{Bool, true, false, false≢true, not, cond, _&&_, _||_}
 use mathlib.Core.List.{List}
 use lib.Dec.{eqb, leb}
-use lib.IntN.{ℤ}
-use borrow.Author.Tests.{eqb-true, eqb-false, ne-eqb, leb-true, not-true, not-false}
-use Rattle.lists.specs.Tests.{cond-cases, by-test, and-left, and-right, or-cases}
+use borrow.Author.Tests.{eqb-true, eqb-false, ne-eqb, leb-true, not-false}
+use Rattle.lists.specs.Tests.{cond-cases, by-test, and-left, and-right}
 use Rattle.rules.specs.declared.Act.{Act}
 use Rattle.rules.specs.declared.Act.the-variants.{Start, Byte, Read, Stop, Timeout, Tick, Voltage, Power, Temperature}
 use Rattle.rules.specs.declared.Event.{Event}
@@ -25,12 +24,12 @@ use Rattle.rules.specs.Modelled.{absent, sensing}
 use Rattle.rules.specs.Open.{open-fields, open-memory}
 use Rattle.rules.specs.Fields.{inPhase, atCounter, withLeft, withVoltage, withSensor, holding}
 use Rattle.rules.specs.Fresh.{noBytes, noMarks, freshSlot, setupSlot, absentSlot, powered, freshSensor}
-use Rattle.rules.specs.Sensor.{written, converted}
+use Rattle.rules.specs.Sensor.{converted}
 use Rattle.rules.specs.Control.{acksHeard, acksControl, heardOf, obeyed, controlled, protects}
 use Rattle.rules.specs.Memory.{emptied, ended, cancelled, guarded, latching, fetched, anyMark, ticked}
 use Rattle.rules.specs.Slot.{withSensorIn, commanding, taking, standing, letGo, lost, pointer, firstByte, secondByte, byteIn, readIn, stopIn, switched, presentNext, slotNext}
 use Rattle.rules.specs.Refusals.{goodLength, goodPair, setupOf}
-use Rattle.rules.specs.Runs.{Bench, after}
+use Rattle.rules.specs.Runs.{after}
 use Rattle.rules.proofs.Run.Cases.{absent-next, present-next}
 use Rattle.rules.proofs.Memory.Protection.{kind-next, length-next}
 use Rattle.rules.proofs.Registers.Words.{word-fixed}

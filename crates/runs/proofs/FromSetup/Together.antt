@@ -1,22 +1,20 @@
 -- What the fields of a slot can be together, after any run from setup: sentences that follow from what is reached, and one form at rest.
 -- Assumes nothing.
-use Prim.Native.Nat.{ℕ, _%_}
-use native.Mathlib.Omega.{arith}
+use Prim.Native.Nat.{_%_}
 use mathlib.Core.Path.{_≡_, refl, sym, _∙_, ap, subst}
 use mathlib.Core.Logic.{_⊎_, inl, inr, ⊎-elim}
 use mathlib.Core.Bool.{Bool, true, false, false≢true}
-use mathlib.Core.List.{List}
 use borrow.Author.Tests.{ne-eqb}
 use Rattle.rules.specs.declared.Phase.{Phase}
-use Rattle.rules.specs.declared.Phase.the-variants.{Idle, Control, Deaf, MemoryCounter, MemoryData, MemoryRead, HalfSelected, CommandAddress, CommandData, CommandStop, SensorPointer, SensorHigh, SensorLow, SensorReadHigh, SensorReadLow}
+use Rattle.rules.specs.declared.Phase.the-variants.{Idle, Control, Deaf, MemoryData, CommandStop}
 use Rattle.rules.specs.declared.Slot.{Slot}
 use Rattle.rules.specs.Modelled.{absent}
 use Rattle.rules.specs.Open.{open-fields}
 use Rattle.rules.specs.Fields.{withWord}
-use Rattle.rules.specs.Fresh.{noBytes, noMarks, freshSlot, freshSensor, absentSlot, atRest}
+use Rattle.rules.specs.Fresh.{noMarks, freshSlot, freshSensor, absentSlot, atRest}
 use Rattle.rules.specs.Memory.{anyMark}
 use Rattle.rules.specs.Slot.{commanding, taking, standing}
-use Rattle.runs.proofs.FromSetup.Reached.{Waits, rests, page, command, AtRest, Waiting, Taking, Commanding, Sensing, Holds, Outside, worded, holds-by, Reach, none, some, stands-own}
+use Rattle.runs.proofs.FromSetup.Reached.{rests, page, command, AtRest, Waiting, Taking, Commanding, Sensing, Holds, Outside, worded, holds-by, Reach, none, some, stands-own}
 
 -- an absent slot is fresh: whatever holds of that, and of each phase, holds of what is reached
 reach-cases : (P : Slot → Type 0) → P absentSlot → ((p : Phase) (s : Slot) → s .phase ≡ p → Holds p s → P s) → (s : Slot) → Reach s → P s

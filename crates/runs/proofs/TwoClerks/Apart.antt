@@ -11,7 +11,6 @@ use Rattle.lists.specs.Tests.{by-test, and-right}
 use Rattle.rules.specs.declared.Act.{Act}
 use Rattle.rules.specs.declared.Act.the-variants.{Start}
 use Rattle.rules.specs.declared.Slot.{Slot}
-use Rattle.rules.specs.Slot.{slotNext}
 use Rattle.rules.specs.Runs.{Bench, taken}
 use Rattle.runs.specs.Exchanges.{went, told, toldAlone, Inside, Item, exchange, between, insideAct, upToStop, itemActs, flatten, controls, names, someOf, addressed, own, ownTold, strike}
 use Rattle.rules.proofs.Memory.Protection.{number-taken}

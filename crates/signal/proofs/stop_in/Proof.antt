@@ -4,7 +4,6 @@ use mathlib.Core.List.{[], _∷_}
 use mathlib.Core.Path.{refl, _∙_}
 use borrow.Author.Needs.{needs}
 use Rattle.phase.proofs.Arms.{arm}
-use Rattle.rules.specs.declared.Phase.{Phase}
 use Rattle.rules.specs.declared.Phase.the-variants.{Idle, Control, Deaf, MemoryCounter, MemoryRead, HalfSelected, CommandAddress, CommandData, SensorPointer, SensorHigh, SensorLow, SensorReadHigh, SensorReadLow}
 use Rattle.rules.specs.Memory.{cancelled}
 use Rattle.rules.specs.Slot.{letGo, stopIn}
