@@ -31,13 +31,13 @@ pub fn begun(s: Slot) -> Slot
     next
 }
 
-// A stop after data bytes: the write cycle begins if at least one is latched.
+// A stop after data bytes: the write cycle begins if at least one is latched. It is a page's, and brings no protection.
 pub fn data_stop(s: Slot) -> Slot
     ensures { λ r. ⌜ r ≡ dataStop s ⌝ }
 {
     let marks = s.marks;
     if any_mark(marks) {
-        return begun(s);
+        return begun(leaving::cancelled(s));
     }
     leaving::abandoned(s)
 }

@@ -13,12 +13,12 @@ use Rattle.rules.proofs.Answer.{the-type}
 use Rattle.rules.specs.declared.Answer.{Answer}
 use Rattle.rules.specs.declared.Answer.the-variants.{Nothing, Ack, Nack, Data, Refused}
 use Rattle.rules.specs.declared.Refusal.{Refusal}
-use Rattle.rules.specs.declared.Refusal.the-variants.{MemoryLength, UnknownKind, WrongSlot, WrongValue, WrongSetup, WrongState}
+use Rattle.rules.specs.declared.Refusal.the-variants.{MemoryLength, UnknownKind, WrongSlot, WrongValue, WrongSetup, WrongState, ProtectedPage}
 use Rattle.rules.specs.Events.{letterOf, refusalNumber}
 use Rattle.letters.specs.Letters.{hexDigit, digitsOf, lineOf, refusalLine}
 
 -- a refusal's number is a digit
-refusal-small : (r : Refusal) → refusalNumber r ≤ 6
+refusal-small : (r : Refusal) → refusalNumber r ≤ 7
 unfolding refusalNumber
 refusal-small MemoryLength = omega arith
 refusal-small UnknownKind = omega arith
@@ -26,8 +26,9 @@ refusal-small WrongSlot = omega arith
 refusal-small WrongValue = omega arith
 refusal-small WrongSetup = omega arith
 refusal-small WrongState = omega arith
+refusal-small ProtectedPage = omega arith
 
-pub digit-small : (r : Refusal) (n : ℕ) → n ≡ refusalNumber r → n ≤ 6
+pub digit-small : (r : Refusal) (n : ℕ) → n ≡ refusalNumber r → n ≤ 7
 digit-small r n e = omega (arith, refusal-small r)
 
 -- a line has at most four bytes

@@ -10,7 +10,7 @@ use rules::Answer;
 use rules::Refusal;
 
 // A digit below sixteen as a hexadecimal one, in capitals.
-fn hex_digit(n: u8) -> u8
+pub fn hex_digit(n: u8) -> u8
     requires { ⌜ n < 16 ⌝ }
     ensures { λ r. ⌜ r ≡ hexDigit n ⌝ }
 {
@@ -28,11 +28,12 @@ fn number_of(r: Refusal) -> u8
         Refusal::WrongValue => 4,
         Refusal::WrongSetup => 5,
         Refusal::WrongState => 6,
+        Refusal::ProtectedPage => 7,
     }
 }
 
 // A line of one, two or three characters, put at a place; the place after it.
-fn put_one(out: &mut [u8], at: usize, a: u8) -> usize
+pub fn put_one(out: &mut [u8], at: usize, a: u8) -> usize
     requires { ⌜ at + 4 ≤ length (now out) ⌝ }
     ensures { λ r. ⌜ (r ≡ at + 2) × (now (out .exit) ≡ sets (now (out .entry)) at (a ∷ 10 ∷ [])) ⌝ }
 {
@@ -41,7 +42,7 @@ fn put_one(out: &mut [u8], at: usize, a: u8) -> usize
     at + 2
 }
 
-fn put_two(out: &mut [u8], at: usize, a: u8, b: u8) -> usize
+pub fn put_two(out: &mut [u8], at: usize, a: u8, b: u8) -> usize
     requires { ⌜ at + 4 ≤ length (now out) ⌝ }
     ensures { λ r. ⌜ (r ≡ at + 3) × (now (out .exit) ≡ sets (now (out .entry)) at (a ∷ b ∷ 10 ∷ [])) ⌝ }
 {
@@ -51,7 +52,7 @@ fn put_two(out: &mut [u8], at: usize, a: u8, b: u8) -> usize
     at + 3
 }
 
-fn put_three(out: &mut [u8], at: usize, a: u8, b: u8, c: u8) -> usize
+pub fn put_three(out: &mut [u8], at: usize, a: u8, b: u8, c: u8) -> usize
     requires { ⌜ at + 4 ≤ length (now out) ⌝ }
     ensures { λ r. ⌜ (r ≡ at + 4) × (now (out .exit) ≡ sets (now (out .entry)) at (a ∷ b ∷ c ∷ 10 ∷ [])) ⌝ }
 {

@@ -26,6 +26,10 @@ record-first p q i h = same-record (p ++ q) p i i (λ k l. List·getD-append p q
 record-later : (p : List ℕ) (n i : ℕ) → recordAt (drop n p) i ≡ recordAt p (n + i)
 record-later p n i = same-record (drop n p) p i (n + i) (λ k l. getD-drop n p (i + k) 0 ∙ ap (λ m. getD p m 0) (omega arith))
 
+-- how many records two pieces have
+count-cut : (p q : List ℕ) → length (p ++ q) / 4 ≡ length p / 4 + length (drop (4 * (length p / 4)) p ++ q) / 4
+count-cut p q = rw (length-append p q, length-append (drop (4 * (length p / 4)) p) q, length-drop (4 * (length p / 4)) p) (omega arith)
+
 module _ (x : Bench) where
   -- the lines of a first piece do not depend on what follows
   bench-first : (p q : List ℕ) (n : ℕ) → 4 * n ≤ length p → benchTo x (p ++ q) n ≡ benchTo x p n
@@ -56,6 +60,16 @@ module _ (x : Bench) where
       ∙ append-assoc (linesTo x p m) (linesTo (benchTo x p m) (drop (4 * m) p) n) _
 
   -- all records of two pieces: those of the first, and then those of what it left with the second
+  pub bench-cut : (p q : List ℕ) → benchTo x (p ++ q) (recordsIn (p ++ q))
+      ≡ benchTo (benchTo x p (recordsIn p)) (leftOf p ++ q) (recordsIn (leftOf p ++ q))
+  unfolding recordsIn leftOf
+  bench-cut p q =
+      let m : ℕ = length p / 4 in
+      let h : 4 * m ≤ length p = omega arith in
+      let n : ℕ = length (drop (4 * m) p ++ q) / 4 in
+      ap (benchTo x (p ++ q)) (count-cut p q) ∙ bench-later (p ++ q) m n
+      ∙ ap₂ (λ y bs. benchTo y bs n) (bench-first p q m h) (drop-append-le (4 * m) p q h)
+
   pub lines-cut : (p q : List ℕ) → linesTo x (p ++ q) (recordsIn (p ++ q))
       ≡ linesTo x p (recordsIn p) ++ linesTo (benchTo x p (recordsIn p)) (leftOf p ++ q) (recordsIn (leftOf p ++ q))
   unfolding recordsIn leftOf
@@ -63,8 +77,7 @@ module _ (x : Bench) where
       let m : ℕ = length p / 4 in
       let h : 4 * m ≤ length p = omega arith in
       let n : ℕ = length (drop (4 * m) p ++ q) / 4 in
-      let e : length (p ++ q) / 4 ≡ m + n = rw (length-append p q, length-append (drop (4 * m) p) q, length-drop (4 * m) p) (omega arith) in
-      ap (linesTo x (p ++ q)) e ∙ lines-later (p ++ q) m n
+      ap (linesTo x (p ++ q)) (count-cut p q) ∙ lines-later (p ++ q) m n
       ∙ ap₂ _++_ (lines-first p q m h) (ap₂ (λ y bs. linesTo y bs n) (bench-first p q m h) (drop-append-le (4 * m) p q h))
 
 -- and the input ends in the middle of a record in both or in neither

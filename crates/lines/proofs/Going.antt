@@ -8,6 +8,7 @@ use mathlib.Core.Bool.{true}
 use mathlib.Core.List.{List, _++_}
 use lib.ListN.{length, length-append}
 use lib.Seq.{sets}
+use Rattle.lists.specs.Stores.{sets-append}
 use Rattle.rules.specs.declared.Bus.{Bus}
 use Rattle.rules.specs.declared.Event.{Event}
 use Rattle.rules.specs.declared.Outcome.{Outcome}
@@ -21,7 +22,7 @@ use Rattle.letters.specs.Letters.{lineOf}
 use Rattle.lines.specs.Script.{recordsIn, benchTo, linesTo}
 use Rattle.lines.specs.Steps.{runOf}
 use Rattle.letters.proofs.Laws.{line-length}
-use Rattle.lines.proofs.Laws.{bench-step, lines-step, sets-append, event-bench, event-answer}
+use Rattle.lines.proofs.Laws.{bench-step, lines-step, event-bench, event-answer}
 
 -- bus b, memory m, output out and its end, after k records of bs from the bench x and the output o
 pub record Going (x : Bench) (bs o : List ℕ) (k : ℕ) (b : Bus) (m out : List ℕ) (end : ℕ) : Type 0 where

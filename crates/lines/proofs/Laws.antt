@@ -1,12 +1,11 @@
 -- Laws for the script's lines: what fits, and lines put one after another.
 -- Assumes nothing.
 use mathlib.Core.Path.{_≡_, refl, sym, _∙_, ap}
-use mathlib.Core.List.{List, [], _∷_, _++_}
+use mathlib.Core.List.{List, _++_}
 use Prim.Native.Nat.{ℕ, zero, suc, _+_, _-_, _*_, _/_, _%_, _≤_}
-use native.Mathlib.Nat.{add-zero, add-suc, suc-add}
 use native.Mathlib.Numerals.{add-one}
 use native.Mathlib.Omega.{arith}
-use lib.ListN.{length, set, length-append, length-drop}
+use lib.ListN.{length, length-append, length-drop}
 use lib.Seq.{sets}
 use Rattle.rules.specs.declared.Bus.{Bus}
 use Rattle.rules.specs.declared.Event.{Event}
@@ -41,11 +40,6 @@ lines-length x bs (suc n) =
 pub left-length : (bs : List ℕ) → length (leftOf bs) ≡ length bs % 4
 unfolding leftOf recordsIn
 left-length bs = length-drop (4 * (length bs / 4)) bs ∙ omega arith
-
--- stores after stores
-pub sets-append : (l : List ℕ) (i : ℕ) (p q : List ℕ) → sets l i (p ++ q) ≡ sets (sets l i p) (i + length p) q
-sets-append l i [] q = rw add-zero
-sets-append l i (a ∷ p) q = sets-append (set l i a) (suc i) p q ∙ ap (λ (n : ℕ). sets (sets (set l i a) (suc i) p) n q) (suc-add i (length p) ∙ sym (add-suc i (length p)))
 
 -- what the public event gives is the next bench and its answer
 module _ (b : Bus) (m : List ℕ) (e : Event) (o : Outcome) (n : List ℕ) (p : eventOf b m e ≡ (o, n)) where

@@ -27,7 +27,7 @@ use Rattle.frame.proofs.Laws.{first-length, last-length}
 use Rattle.lines.proofs.Cut.{lines-cut, ending-cut}
 
 -- what was put at the front of the output and is written from there
-written : (out ls : List ℕ) → length ls ≤ length out → take (length ls) (sets out 0 ls) ≡ ls
+pub written : (out ls : List ℕ) → length ls ≤ length out → take (length ls) (sets out 0 ls) ≡ ls
 written out ls h = ap (take (length ls)) (sets-eq ls out 0 (omega arith)) ∙ take-append-seam ls (drop (0 + length ls) out)
 
 -- fewer than four bytes are no record
@@ -44,10 +44,10 @@ come buf h r e =
     ∙ ap (h ++_) (take-append-seam (r .came) (r .behind))
 
 -- so a turn is one over these
-abbrev After : Type 0
+abbrev pub After : Type 0
 After = Turned × List ℕ × List ℕ × List ℕ
 
-turn-come : (x : Bench) (buf h out : List ℕ) (r : Read) → take (length h) buf ≡ h
+pub turn-come : (x : Bench) (buf h out : List ℕ) (r : Read) → take (length h) buf ≡ h
     → turnOf (x .bus) (x .memory) (readInto buf (length h) r) (length h) (length (r .came)) out
     ≡ (
       record {
@@ -95,7 +95,7 @@ turns-whole x buf h out (r ∷ rs) l e room f =
     ∙ ap (λ (z : List ℕ). linesTo x z (recordsIn z) ++ ending z) (append-assoc h (r .came) more)
 
 -- the setup's pairs stand in the first sixteen bytes
-pairs-first : (p q : List ℕ) (n : ℕ) → 2 * n ≤ length p → pairsTo (p ++ q) n ≡ pairsTo p n
+pub pairs-first : (p q : List ℕ) (n : ℕ) → 2 * n ≤ length p → pairsTo (p ++ q) n ≡ pairsTo p n
 unfolding pairsTo pairAt
 pairs-first p q zero h = refl
 pairs-first p q (suc n) h =

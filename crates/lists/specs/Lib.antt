@@ -1,3 +1,4 @@
 pub mod Each
 pub mod Parts
 pub mod Tests
+pub mod Stores

@@ -9,7 +9,7 @@ use Rattle.rules.specs.declared.Event.{Event}
 use Rattle.rules.specs.declared.Act.{Act}
 use Rattle.rules.specs.declared.Act.the-variants.{Start, Byte, Read, Stop, Timeout, Tick, Voltage, Power, Temperature}
 use Rattle.rules.specs.declared.Refusal.{Refusal}
-use Rattle.rules.specs.declared.Refusal.the-variants.{MemoryLength, UnknownKind, WrongSlot, WrongValue, WrongSetup, WrongState}
+use Rattle.rules.specs.declared.Refusal.the-variants.{MemoryLength, UnknownKind, WrongSlot, WrongValue, WrongSetup, WrongState, ProtectedPage}
 use Rattle.rules.specs.declared.Answer.{Answer}
 use Rattle.rules.specs.declared.Answer.the-variants as answer
 
@@ -30,7 +30,7 @@ actOf e =
     (cond (eqb (e .kind) 8) Power
     (Temperature (e .slot) (e .value)))))))))
 
--- the refusals' numbers
+-- the refusals' numbers, of document 01 and of the change requests
 unfoldable pub refusalNumber : Refusal → ℕ
 refusalNumber MemoryLength = 1
 refusalNumber UnknownKind = 2
@@ -38,6 +38,7 @@ refusalNumber WrongSlot = 3
 refusalNumber WrongValue = 4
 refusalNumber WrongSetup = 5
 refusalNumber WrongState = 6
+refusalNumber ProtectedPage = 7
 
 -- the answers' letters, as bytes: `-`, `A`, `N`, `D`, `R`
 unfoldable pub letterOf : Answer → ℕ

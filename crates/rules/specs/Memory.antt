@@ -59,8 +59,9 @@ anyMark marks = anyFrom (λ n m. m) 0 marks
 unfoldable pub begun : Slot → Slot
 begun s = withLeft (s .length) (placed 0 s)
 
+-- a page's cycle, which brings no protection: what is to come after it is what stands
 unfoldable pub dataStop : Slot → Slot
-dataStop s = cond (anyMark (s .marks)) (begun s) (abandoned s)
+dataStop s = cond (anyMark (s .marks)) (begun (cancelled s)) (abandoned s)
 
 -- "the tick that ends it (the slot's Nth after the stop)": what was latched is in memory, and the protection to come stands
 unfoldable pub ended : Slot → Slot

@@ -34,7 +34,7 @@ pub enum Act {
     Temperature(SlotNo, i16),
 }
 
-// Why an event or a setup is refused. The paper's number of each: specs/Events.
+// Why an event, a setup or a plan is refused. The paper's number of each: specs/Events.
 pub enum Refusal {
     MemoryLength,
     UnknownKind,
@@ -42,6 +42,8 @@ pub enum Refusal {
     WrongValue,
     WrongSetup,
     WrongState,
+    // A page that a plan would write lies in a protected block.
+    ProtectedPage,
 }
 
 // What an event is taken for.

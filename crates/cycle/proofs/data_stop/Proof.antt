@@ -12,6 +12,7 @@ data-stop-spec =
     (tie.spec
     (λ c κs. search needs)
     (λ c κs. search needs)
-    (λ c. rw (← c .before .before .any-mark .ensures, c .before .if1 .taken, c .begun .ensures))
+    (λ c κs. search needs)
+    (λ c. rw (← c .before .before .before .any-mark .ensures, c .before .before .if1 .taken, ← c .before .cancelled .ensures, c .begun .ensures))
     (λ c κs. search needs)
     (λ c. rw (← c .before .before .any-mark .ensures, c .before .if1 .left, c .abandoned .ensures)))

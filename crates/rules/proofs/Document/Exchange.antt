@@ -119,9 +119,9 @@ pub guarded-block : (s : Slot) → guarded s ≡ getD (s .protection) ((256 * s 
 unfolding guarded protects blockOf addressOf
 guarded-block s = refl
 
--- "A stop with at least one latched byte begins the write cycle"
+-- "A stop with at least one latched byte begins the write cycle", a page's, which brings no protection
 pub stop-begins : (n : ℕ) (s : Slot) → standing s ≡ MemoryData → anyMark (s .marks) ≡ true
-    → slotNext n Stop s ≡ inPhase Idle (withLeft (s .length) (placed 0 s))
+    → slotNext n Stop s ≡ inPhase Idle (withLeft (s .length) (placed 0 (expecting (s .protection) s)))
 unfolding open-memory open-slot open-fields
 stop-begins n s e h0 = at-stop n s MemoryData e (apart MemoryData Deaf refl) ∙ rw h0
 

@@ -64,7 +64,7 @@ unfolding next
 tick-alone-next e x h = tick-alone-ruled (rulingOn e x) x h
 
 -- no byte is added and none is lost
-length-putUpTo : (latch : List ℕ) (marks : List Bool) (at n : ℕ) (m : List ℕ) → length (putUpTo latch marks at n m) ≡ length m
+pub length-putUpTo : (latch : List ℕ) (marks : List Bool) (at n : ℕ) (m : List ℕ) → length (putUpTo latch marks at n m) ≡ length m
 unfolding putUpTo
 length-putUpTo latch marks at zero m = refl
 length-putUpTo latch marks at (suc n) m =
@@ -111,12 +111,12 @@ module _ (latch : List ℕ) (marks : List Bool) (at : ℕ) (m : List ℕ) (a d :
       cond-cases (λ (l : List ℕ). getD l a d ≡ getD (putUpTo latch marks at n m) a d) (getD marks n false)
       (λ e. getD-set-other (putUpTo latch marks at n m) (at + n) a (getD latch n 0) d h) (λ e. refl)
 
-  put-elsewhere : (n : ℕ) → (at ≤ a → a < at + n → ⊥) → getD (putUpTo latch marks at n m) a d ≡ getD m a d
+  pub put-elsewhere : (n : ℕ) → (at ≤ a → a < at + n → ⊥) → getD (putUpTo latch marks at n m) a d ≡ getD m a d
   unfolding putUpTo
   put-elsewhere zero h = refl
   put-elsewhere (suc n) h = put-beside n (λ e. h (omega arith) (omega arith)) ∙ put-elsewhere n (λ p q. h p (omega arith))
 
-  put-here : (n : ℕ) → at ≤ a → a < at + n → a < length m
+  pub put-here : (n : ℕ) → at ≤ a → a < at + n → a < length m
       → getD (putUpTo latch marks at n m) a d ≡ cond (getD marks (a - at) false) (getD latch (a - at) 0) (getD m a d)
   unfolding putUpTo
   put-here zero p q h = absurd (omega arith)

@@ -16,7 +16,7 @@ use Rattle.rules.specs.declared.Bus.{Bus}
 use Rattle.rules.specs.declared.Event.{Event}
 use Rattle.rules.specs.declared.Pair.{Pair}
 use Rattle.rules.specs.declared.Refusal.{Refusal}
-use Rattle.rules.specs.declared.Refusal.the-variants.{MemoryLength, UnknownKind, WrongSlot, WrongValue, WrongSetup, WrongState}
+use Rattle.rules.specs.declared.Refusal.the-variants.{MemoryLength, UnknownKind, WrongSlot, WrongValue, WrongSetup, WrongState, ProtectedPage}
 use Rattle.rules.specs.declared.Ruling.{Ruling}
 use Rattle.rules.specs.declared.Ruling.the-variants.{Taken, Refused}
 use Rattle.rules.specs.Events.{actOf, refusalNumber, letterOf, valueOf}
@@ -26,9 +26,9 @@ use Rattle.rules.specs.Refusals.{wrongLength, unknownKind, kindsOf, kind
 use Rattle.rules.specs.Runs.{Bench, given, rulingOn, ruledNext, ruledAnswer, next, answered}
 
 -- The paper's number tells the refusal.
-abbrev refusalOf : ℕ → Refusal
+abbrev pub refusalOf : ℕ → Refusal
 refusalOf n =
-    cond (eqb n 1) MemoryLength (cond (eqb n 2) UnknownKind (cond (eqb n 3) WrongSlot (cond (eqb n 4) WrongValue (cond (eqb n 5) WrongSetup WrongState))))
+    cond (eqb n 1) MemoryLength (cond (eqb n 2) UnknownKind (cond (eqb n 3) WrongSlot (cond (eqb n 4) WrongValue (cond (eqb n 5) WrongSetup (cond (eqb n 6) WrongState ProtectedPage)))))
 
 pub numbered : (r : Refusal) → refusalOf (refusalNumber r) ≡ r
 unfolding refusalNumber
@@ -38,6 +38,7 @@ numbered WrongSlot = refl
 numbered WrongValue = refl
 numbered WrongSetup = refl
 numbered WrongState = refl
+numbered ProtectedPage = refl
 
 -- The rows as conditions on what is handed in, each with those before it in the order 1, 6, 2, 3, 4 not met; a refusal is known by the paper's
 -- number for it.

@@ -269,7 +269,7 @@ stop-holds Idle s l q = q
 stop-holds Control s l q = q
 stop-holds Deaf s l q = q
 stop-holds MemoryCounter s l q = rests q
-stop-holds MemoryData s l q = cond-cases Waiting (anyMark (s .marks)) (λ e. page l e (q .steady) refl (q .no-word)) (λ e. let-go-waits MemoryData s q)
+stop-holds MemoryData s l q = cond-cases Waiting (anyMark (s .marks)) (λ e. page l e refl refl (q .no-word)) (λ e. let-go-waits MemoryData s q)
 stop-holds MemoryRead s l q = rests q
 stop-holds HalfSelected s l q = rests q
 stop-holds CommandAddress s l q = cancels s q
@@ -282,7 +282,7 @@ stop-holds SensorReadHigh s l q = let-go-waits SensorReadHigh s q
 stop-holds SensorReadLow s l q = let-go-waits SensorReadLow s q
 
 -- a tick: in no cycle nothing moves
-no-cycle : (s : Slot) → s .left ≡ 0 → ticked s ≡ s
+pub no-cycle : (s : Slot) → s .left ≡ 0 → ticked s ≡ s
 unfolding ticked withLeft
 no-cycle s e = rw (ne-eqb (s .left) 1 (omega arith)) (ap (λ (n : ℕ). withLeft n s) (omega arith))
 

@@ -50,20 +50,20 @@ woven-one (Taken a) f r x = refl
 woven-one (Refused n) f r x = refl
 
 -- a bench that meets neither row 1 nor row 6, with slots of these kinds
-record Sound (kinds : List ℕ) (x : Bench) : Type 0 where
-  long : length (x .memory) ≡ memoryBytes
-  ranged : inRange (x .bus) ≡ true
-  alike : kindsOf (x .bus) ≡ kinds
+pub record Sound (kinds : List ℕ) (x : Bench) : Type 0 where
+  pub long : length (x .memory) ≡ memoryBytes
+  pub ranged : inRange (x .bus) ≡ true
+  pub alike : kindsOf (x .bus) ≡ kinds
 
 module _ (kinds : List ℕ) where
-  sound-next : (e : Event) (x : Bench) → Sound kinds x → Sound kinds (next e x)
+  pub sound-next : (e : Event) (x : Bench) → Sound kinds x → Sound kinds (next e x)
   sound-next e x s = record {
     long = memory-length-next e x ∙ s .long;
     ranged = next-in-range e x (s .ranged);
     alike = kinds-next e x ∙ s .alike;
   }
 
-  ruled-by-kinds : (e : Event) (x : Bench) → Sound kinds x → rulingOn e x ≡ ruledBy kinds e
+  pub ruled-by-kinds : (e : Event) (x : Bench) → Sound kinds x → rulingOn e x ≡ ruledBy kinds e
   unfolding rulingOn
   ruled-by-kinds e x s = ruling-by-kinds (x .bus) (x .memory) e (s .long) (s .ranged) ∙ ap (λ ks. ruledBy ks e) (s .alike)
 

@@ -36,11 +36,11 @@ idle-stands : (P : Phase → Type 0) (s : Slot) → Idles s → P Idle → P Dea
 unfolding standing
 idle-stands P s e i d = cond-cases P (absent s || (withSensorIn (s .phase) && not (sensing s))) (λ f. d) (λ f. subst P (sym e) i)
 
-idle-same : (s : Slot) → Idles s → inPhase Idle s ≡ s
+pub idle-same : (s : Slot) → Idles s → inPhase Idle s ≡ s
 unfolding inPhase
 idle-same s e = ap (λ (p : Phase). inPhase p s) (sym e)
 
-idle-let-go : (s : Slot) → Idles s → letGo (standing s) s ≡ s
+pub idle-let-go : (s : Slot) → Idles s → letGo (standing s) s ≡ s
 unfolding letGo
 idle-let-go s e = idle-stands (λ p. letGo p s ≡ s) s e refl refl
 

@@ -1,0 +1,4 @@
+pub mod Fits
+pub mod Laws
+pub mod Whole
+pub mod Onward

@@ -1,0 +1,16 @@
+pub mod Settled
+pub mod LetGo
+pub mod Ran
+pub mod Page
+pub mod Half
+pub mod Others
+pub mod Pages
+pub mod Steps
+pub mod Acted
+pub mod Carried
+pub mod Right
+pub mod Exact
+pub mod Count
+pub mod Again
+pub mod Back
+pub mod Promise

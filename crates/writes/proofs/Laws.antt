@@ -1,0 +1,117 @@
+-- The definitions in the form in which a function's proof asks for them: a premise for each fact of the way to a return.
+-- Assumes nothing.
+use mathlib.Core.Path.{_≡_, refl, sym, _∙_, ap}
+use mathlib.Core.Bool.{Bool, true, false}
+use mathlib.Core.List.{List, [], _∷_, _++_, map, append-assoc, append-nil}
+use Prim.Native.Nat.{ℕ, _+_, _*_, _<_, _≤_}
+use native.Mathlib.Numerals.{add-one}
+use native.Mathlib.Omega.{arith}
+use lib.Dec.{eqb, leb}
+use borrow.Author.Tests.{eqb-true, leb-true}
+use lib.ListN.{length, getD, set, take, length-append}
+use lib.Seq.{take-all, take-suc, take-suc-set}
+use Rattle.lists.specs.Tests.{cond-cases, and-right}
+use Rattle.lists.specs.Parts.{getD-part}
+use Rattle.rules.specs.declared.Event.{Event}
+use Rattle.rules.specs.declared.Slot.{Slot}
+use Rattle.rules.specs.Modelled.{slotBytes}
+use Rattle.rules.specs.Refusals.{goodLength, slotInRange}
+use Rattle.rules.proofs.Range.Kept.{facts}
+use Rattle.planner.specs.Plan.{start, byte, stop, ticks, pageCount, pageAt, pageHalf, pageCounter, selecting, writing, differs, halfBefore, pageEvents, pagesBefore}
+use Rattle.planner.proofs.Pages.{page-length}
+use Rattle.laying.specs.Laid.{laidAt, exchanging}
+use Rattle.planner.proofs.Count.{length-writing}
+use Rattle.laying.proofs.Laws.{laid-none, laid-then, laid-count, length-exchange, length-selecting}
+
+-- the bytes passed are copied, one a turn
+pub copied-step : (u m : List ℕ) (i : ℕ) → i < length u → i < length m → take i u ≡ take i m → take (i + 1) (set u i (getD m i 0)) ≡ take (i + 1) m
+copied-step u m i h l e = rw (add-one, take-suc-set u i (getD m i 0) h, take-suc m i 0 l) (ap (λ (p : List ℕ). p ++ getD m i 0 ∷ []) e)
+
+pub copied-full : (u m : List ℕ) (i : ℕ) → length u ≤ i → length m ≤ i → take i u ≡ take i m → u ≡ m
+copied-full u m i h l e = sym (take-all i u h) ∙ e ∙ take-all i m l
+
+-- what a page's write sends: the counter, and then a byte a turn
+pub sent-step : (u image : List ℕ) (c p i : ℕ) → i < 16 → length u ≡ 17 → p < pageCount → length image ≡ slotBytes → take (i + 1) u ≡ take (i + 1) (c ∷ pageAt p image)
+    → take (i + 1 + 1) (set u (i + 1) (getD image (16 * p + i) 0)) ≡ take (i + 1 + 1) (c ∷ pageAt p image)
+unfolding pageAt
+sent-step u image c p i h l k g e =
+    let s : List ℕ = c ∷ pageAt p image in
+    let b : getD image (16 * p + i) 0 ≡ getD s (i + 1) 0 = sym (getD-part 16 p image i 0 h) ∙ sym (ap (λ (j : ℕ). getD s j 0) (add-one i)) in
+    ap (λ (x : ℕ). take (i + 1 + 1) (set u (i + 1) x)) b ∙ copied-step u s (i + 1) (omega arith) (omega (arith, page-length p image g k)) e
+
+pub sent-full : (u image : List ℕ) (c p i : ℕ) → 16 ≤ i → length u ≡ 17 → p < pageCount → length image ≡ slotBytes → take (i + 1) u ≡ take (i + 1) (c ∷ pageAt p image)
+    → u ≡ c ∷ pageAt p image
+sent-full u image c p i h l k g e = copied-full u (c ∷ pageAt p image) (i + 1) (omega arith) (omega (arith, page-length p image g k)) e
+
+-- a page: its half, its write, its ticks
+pub page-by : (n m w r k c count stands half : ℕ) (bytes sent b o u q : List ℕ) → sent ≡ c ∷ bytes → laidAt n (selecting stands half) b ≡ (m, o)
+    → laidAt m (exchanging (0xA0 + 2 * k) sent) o ≡ (w, u) → laidAt w (ticks count) u ≡ (r, q)
+    → laidAt n (selecting stands half ++ writing k c bytes count) b ≡ (r, q)
+unfolding exchanging writing
+page-by n m w r k c count stands half bytes sent b o u q s d e f =
+    let x : List Event = start ∷ byte (0xA0 + 2 * k) ∷ byte c ∷ map byte bytes ++ stop ∷ [] in
+    let g : laidAt m x o ≡ (w, u) = ap (λ (l : List ℕ). laidAt m (start ∷ byte (0xA0 + 2 * k) ∷ map byte l ++ stop ∷ []) o) (sym s) ∙ e in
+    let t : x ++ ticks count ≡ start ∷ byte (0xA0 + 2 * k) ∷ byte c ∷ map byte bytes ++ stop ∷ ticks count =
+    ap (λ (l : List Event). start ∷ byte (0xA0 + 2 * k) ∷ byte c ∷ l) (append-assoc (map byte bytes) (stop ∷ []) (ticks count)) in
+    laid-then n m r (selecting stands half) _ b o q d (ap (λ (l : List Event). laidAt m l o) (sym t) ∙ laid-then m w r x (ticks count) o u q g f)
+
+-- how many records stand there in between
+pub sent-length : (x image : List ℕ) (c p : ℕ) → p < pageCount → length image ≡ slotBytes → x ≡ c ∷ pageAt p image → length x ≡ 17
+sent-length x image c p h l e = ap length e ∙ omega (arith, page-length p image l h)
+
+pub most-selected : (n m stands half : ℕ) (b o : List ℕ) → laidAt n (selecting stands half) b ≡ (m, o) → m ≤ n + 3
+most-selected n m stands half b o e = omega (arith, laid-count n m (selecting stands half) b o e, length-selecting stands half)
+
+pub count-written : (m w control : ℕ) (sent o u : List ℕ) → laidAt m (exchanging control sent) o ≡ (w, u) → w ≡ m + (length sent + 3)
+count-written m w control sent o u e = omega (arith, laid-count m w (exchanging control sent) o u e, length-exchange control sent)
+
+-- at most 28 records
+pub most-records : (k c count stands half : ℕ) (bytes : List ℕ) → length bytes ≡ 16 → count ≤ 5 → length (selecting stands half ++ writing k c bytes count) ≤ 28
+most-records k c count stands half bytes l h =
+    rw (length-append (selecting stands half) (writing k c bytes count)) (omega (arith, length-writing k c bytes count, length-selecting stands half))
+
+pub most-page : (n m r k c count stands half p : ℕ) (image o q : List ℕ) → p < pageCount → length image ≡ slotBytes → count ≤ 5 → m ≤ n + 28 * p
+    → laidAt m (selecting stands half ++ writing k c (pageAt p image) count) o ≡ (r, q) → r ≤ n + 28 * (p + 1)
+most-page n m r k c count stands half p image o q h l f g e =
+    omega (arith, laid-count m r (selecting stands half ++ writing k c (pageAt p image) count) o q e, most-records k c count stands half (pageAt p image) (page-length p image l h) f)
+
+-- a slot's cycle is at most five ticks long
+pub short-cycle : (s : Slot) → slotInRange s ≡ true → s .length ≤ 5
+unfolding goodLength
+short-cycle s h =
+    cond-cases (λ (t : Bool). t ≡ true → s .length ≤ 5) (eqb (s .kind) 0) (λ z e. omega (arith, eqb-true (s .length) 0 e))
+    (λ z e. leb-true (s .length) 5 (and-right (leb 1 (s .length)) (leb (s .length) 5) e)) (facts s h .lengths)
+
+-- no page, a page that differs, and one that does not: the half that stands then, and the records
+module _ (old image : List ℕ) (s : Slot) where
+  pub half-none : s .half ≡ halfBefore old image s 0
+  unfolding halfBefore
+  half-none = refl
+
+  module _ (p : ℕ) (t : Bool) (judged : t ≡ differs old image p) where
+    pub half-more : t ≡ true → pageHalf p ≡ halfBefore old image s (p + 1)
+    unfolding halfBefore
+    half-more e = rw (add-one, ← judged, e)
+
+    pub half-same : (h : ℕ) → t ≡ false → h ≡ halfBefore old image s p → h ≡ halfBefore old image s (p + 1)
+    unfolding halfBefore
+    half-same h e f = rw (add-one, ← judged, e) f
+
+  module _ (k : ℕ) where
+    pub pages-none : (n : ℕ) (b : List ℕ) → laidAt n (pagesBefore old image s k 0) b ≡ (n, b)
+    unfolding pagesBefore
+    pages-none n b = laid-none n b
+
+    module _ (p : ℕ) (t : Bool) (judged : t ≡ differs old image p) where
+      pub pages-more : (n m r h : ℕ) (b o q : List ℕ) → t ≡ true → h ≡ halfBefore old image s p → laidAt n (pagesBefore old image s k p) b ≡ (m, o)
+          → laidAt m (selecting h (pageHalf p) ++ writing k (pageCounter p) (pageAt p image) (s .length)) o ≡ (r, q)
+          → laidAt n (pagesBefore old image s k (p + 1)) b ≡ (r, q)
+      unfolding pagesBefore pageEvents
+      pages-more n m r h b o q e f g v =
+          rw (add-one, ← judged, e)
+          (laid-then n m r (pagesBefore old image s k p) _ b o q g
+          (ap (λ (j : ℕ). laidAt m (selecting j (pageHalf p) ++ writing k (pageCounter p) (pageAt p image) (s .length)) o) (sym f) ∙ v))
+
+      pub pages-same : (n m : ℕ) (b o : List ℕ) → t ≡ false → laidAt n (pagesBefore old image s k p) b ≡ (m, o) → laidAt n (pagesBefore old image s k (p + 1)) b ≡ (m, o)
+      unfolding pagesBefore
+      pages-same n m b o e g = rw (add-one, ← judged, e, append-nil) g
