@@ -1,6 +1,8 @@
 /* Runs a command and measures it, or talks to it one event at a time.
  *   measure run FILE CMD..       with FILE as standard input, its output thrown away: "SECONDS KILOBYTES"
- *   measure talk EVENTS CMD..    writes a setup, then EVENTS ticks one by one, each after the line of the one before: "SECONDS" */
+ *   measure talk EVENTS CMD..    writes a setup, then EVENTS ticks one by one, each after the line of the one before: "SECONDS"
+ *   measure start COUNT FILE CMD..   COUNT times with FILE as standard input, its output thrown away: "SECONDS" of the processor for one, the
+ *                                    lower quartile */
 #include <fcntl.h>
 #include <stdio.h>
 #include <stdlib.h>
@@ -46,6 +48,39 @@ static int finish(pid_t child, double begun, int with_memory)
     return 0;
 }
 
+static double seconds(struct timeval t) { return t.tv_sec + t.tv_usec / 1e6; }
+
+static int by_size(const void *a, const void *b)
+{
+    double x = *(const double *)a, y = *(const double *)b;
+    return (x > y) - (x < y);
+}
+
+/* Any status counts as done (plan and script end with one of their own), save that of a command that cannot be run. */
+static int run_starts(long count, const char *file, char **command)
+{
+    struct rusage used;
+    double *took = malloc(count * sizeof *took);
+    int status;
+    for (long i = 0; i < count; i++) {
+        int in = open(file, O_RDONLY), out = open("/dev/null", O_WRONLY);
+        if (in < 0 || out < 0) {
+            perror(file);
+            return 1;
+        }
+        pid_t child = spawn(command, in, out, -1, -1);
+        close(in);
+        close(out);
+        if (wait4(child, &status, 0, &used) < 0 || (status & 127) != 0 || status >> 8 >= 126)
+            return 1;
+        took[i] = seconds(used.ru_utime) + seconds(used.ru_stime);
+    }
+    qsort(took, count, sizeof *took, by_size);
+    printf("%.6f\n", took[count / 4]);
+    free(took);
+    return 0;
+}
+
 int main(int count, char **words)
 {
     if (count >= 4 && strcmp(words[1], "run") == 0) {
@@ -79,6 +114,8 @@ int main(int count, char **words)
         printf("%.3f\n", done - begun);
         return 0;
     }
-    fprintf(stderr, "usage: measure run FILE CMD.. | measure talk EVENTS CMD..\n");
+    if (count >= 5 && strcmp(words[1], "start") == 0)
+        return run_starts(atol(words[2]), words[3], words + 4);
+    fprintf(stderr, "usage: measure run FILE CMD.. | measure talk EVENTS CMD.. | measure start COUNT FILE CMD..\n");
     return 2;
 }

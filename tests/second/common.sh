@@ -1,5 +1,5 @@
 # shellcheck shell=bash
-# Shared by compare, fuzz and faults; sourced, not run.
+# Shared by compare, fuzz, faults, replan and wrongplans; sourced, not run.
 #
 # Finds the repository root (two folders up), builds the C programs (build.sh)
 # into a temporary folder that goes away at the end, and runs the two programs.
@@ -17,12 +17,13 @@ first=${FIRST:-$(printf '%q script' "$root/run")}
 
 die() { echo "$*" >&2; exit 2; }
 
-for argument; do                  # all arguments of all three are numbers
+for argument; do                  # all arguments of all of them are numbers
     case $argument in
     "" | *[!0-9]*) die "${0##*/}: not a number: $argument" ;;
     esac
 done
 
+# shellcheck source=second/build.sh
 . "$second_dir/build.sh"
 for name in second generate shrink; do
     build "$work/$name" "$second_dir/$name.c" -O1
@@ -79,4 +80,39 @@ show() {
     "$work/shrink" "$1" "$work" "$first" "$(printf %q "$work/second")" && return
     cmp "$work/first.txt" "$work/second.txt"
     cat "$work/first.err"
+}
+
+# plant OLD NEW SOURCE: the source with the one place of OLD replaced.
+plant() {
+    OLD=$1 NEW=$2 awk '
+        { at = index($0, ENVIRON["OLD"]) }
+        at { n++; $0 = substr($0, 1, at - 1) ENVIRON["NEW"] substr($0, at + length(ENVIRON["OLD"]))
+             if (index(substr($0, at + length(ENVIRON["NEW"])), ENVIRON["OLD"])) n++ }
+        { print }
+        END { exit n != 1 }' "$3"
+}
+
+# plant_all LIST SOURCE: plants the faults of the list (its head has the form)
+# in the source, one by one, builds each as $work/faulted, and has `try NAME`
+# of the calling script say whether it is caught. Says how many were; status 0
+# if all.
+plant_all() {
+    local faults=0 caught=0 name='' old='' line
+    while IFS= read -r line; do
+        case $line in
+        'name: '*) name=${line#name: } ;;
+        'old: '*) old=${line#old: } ;;
+        'new: '*)
+            plant "$old" "${line#new: }" "$2" >"$work/faulted.c" ||
+                die "${1##*/}: the old text of '$name' must occur exactly once in ${2##*/}"
+            build "$work/faulted" "$work/faulted.c" -O0
+            ((faults += 1))
+            try "$name" && ((caught += 1))
+            ;;
+        '' | '#'*) ;;
+        *) die "${1##*/}: what is this line: $line" ;;
+        esac
+    done <"$1"
+    echo "${0##*/}: $caught of $faults caught"
+    ((caught == faults))
 }

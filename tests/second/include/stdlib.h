@@ -7,3 +7,4 @@ int system(const char *);
 long atol(const char *);
 long strtol(const char *, char **, int);
 unsigned long long strtoull(const char *, char **, int);
+void qsort(void *, size_t, size_t, int (*)(const void *, const void *));
