@@ -11,7 +11,7 @@ use borrow.Author.Tests.{eqb-false}
 use Rattle.lists.specs.Parts.{part}
 use Rattle.lists.specs.Tests.{by-test, cond-cases}
 use Rattle.rules.specs.declared.Slot.{Slot}
-use Rattle.rules.specs.Modelled.{absent, slotBytes, memoryBytes}
+use Rattle.rules.specs.Modelled.{slotBytes, memoryBytes}
 use Rattle.rules.specs.Open.{open-all}
 use Rattle.rules.specs.Fields.{inHalf}
 use Rattle.rules.specs.Fresh.{freshSlot, absentSlot}
@@ -22,7 +22,7 @@ use Rattle.rules.proofs.Range.Kept.{facts}
 use Rattle.planner.specs.Plan.{five, ticks, fiveTicks, settled, slotAt, bytesAt, pageAt, pageCount, pageHalf, pageCounter, selecting, writing, same, differs, halfBefore, pageEvents, pagesBefore, planEvents, pageBlock, barred, barredBefore, bufferBytes, wrongLengths, noSuchSlot, forbidden, planned, planOf}
 use Rattle.planner.specs.Plan as Plan
 use Rattle.planner.specs.declared.Planned.the-variants.{Records}
-use Rattle.planner.proofs.Settled.{length-range, settled-sound, slot-ranged, settled-number, settled-length, settled-slot, settled-part}
+use Rattle.planner.proofs.Settled.{short-cycle, settled-sound, slot-ranged, settled-number, settled-slot, settled-part}
 use Rattle.planner.proofs.Others.{ticks-passed}
 use Rattle.planner.proofs.Pages.{page-length}
 
@@ -109,16 +109,15 @@ module _ (old image : List ℕ) (s : Slot) (k : ℕ) (halves : s .half ≤ 1) (s
   pages-most = let i = high-most 16 (omega arith) in let b = half-small 32 (omega arith) in omega arith
 
 -- the most that any plan has, of any bench in range, whether or not it may be carried out
-pub plan-most : (k : ℕ) (x : Bench) (image : List ℕ) → length (x .memory) ≡ memoryBytes → inRange (x .bus) ≡ true → k < length (x .bus .slots) → absent (slotAt k x) ≡ false
+pub plan-most : (k : ℕ) (x : Bench) (image : List ℕ) → length (x .memory) ≡ memoryBytes → inRange (x .bus) ≡ true → k < length (x .bus .slots)
     → length image ≡ slotBytes → length (planEvents k x image) ≤ 811
 unfolding planEvents
-plan-most k x image long ranged below present wanted =
+plan-most k x image long ranged below wanted =
     let s = settled-sound x long ranged in
     let n = settled-number x long ranged in
     let half = facts (slotAt k (settled x)) (slot-ranged (settled x) (s .long) (s .ranged) k (rw n below)) .halves in
-    let count = length-range (slotAt k x) (slot-ranged x long ranged k below) present .1 in
-    let same = settled-length x long ranged k below in
-    let few = pages-most (bytesAt k (settled x)) image (slotAt k (settled x)) k half (omega arith) wanted in
+    let count = short-cycle (slotAt k (settled x)) (slot-ranged (settled x) (s .long) (s .ranged) k (rw n below)) in
+    let few = pages-most (bytesAt k (settled x)) image (slotAt k (settled x)) k half count wanted in
     let five : length fiveTicks ≡ 5 = unfold fiveTicks ticks in refl in
     let all = length-append fiveTicks (pagesBefore (bytesAt k (settled x)) image (slotAt k (settled x)) k pageCount) in
     omega arith

@@ -13,4 +13,5 @@ pub mod Exact
 pub mod Count
 pub mod Again
 pub mod Back
+pub mod Given
 pub mod Promise

@@ -3,22 +3,19 @@
 use Prim.Native.Nat.{ℕ, _<_, _≤_}
 use native.Mathlib.Omega.{arith}
 use mathlib.Core.Path.{_≡_, refl, sym, _∙_, ap, ap₂}
-use mathlib.Core.Bool.{Bool, true, false, not, _||_}
+use mathlib.Core.Bool.{true, false, not}
 use mathlib.Core.List.{List}
-use lib.Dec.{eqb, ltb}
-use lib.ListN.{length, List·getD-map}
-use borrow.Author.Tests.{eqb-true, eq-eqb, ltb-false, not-true, not-false}
+use lib.ListN.{length}
+use borrow.Author.Tests.{eq-eqb, not-true, not-false}
 use Rattle.lists.specs.Each.{Every}
-use Rattle.lists.specs.Tests.{cond-cases, or-left-false, or-right-false}
+use Rattle.lists.specs.Tests.{cond-cases}
 use Rattle.rules.specs.declared.Bus.{Bus}
 use Rattle.rules.specs.declared.Event.{Event}
 use Rattle.rules.specs.declared.Refusal.{Refusal}
-use Rattle.rules.specs.declared.Slot.{Slot}
 use Rattle.rules.specs.declared.SlotNo.{SlotNo}
-use Rattle.rules.specs.Modelled.{absent, slotCount, slotBytes, memoryBytes}
-use Rattle.rules.specs.Fresh.{freshSlot, absentSlot}
+use Rattle.rules.specs.Modelled.{slotCount}
 use Rattle.rules.specs.Events.{refusalNumber}
-use Rattle.rules.specs.Refusals.{wrongLength, kindsOf, kindAt, inRange}
+use Rattle.rules.specs.Refusals.{wrongLength, inRange}
 use Rattle.rules.specs.Runs.{Bench}
 use Rattle.rules.proofs.Memory.Protection.{kinds-after}
 use Rattle.rules.proofs.Memory.Stored.{memory-length-after}
@@ -29,7 +26,8 @@ use Rattle.planner.specs.declared.Planned.the-variants.{Records, Refused
 use Rattle.planner.specs.Records.{laid, eventsIn}
 use Rattle.planner.specs.Plan.{fiveTicks, slotAt, bufferBytes, wrongLengths, noSuchSlot, forbidden, planEvents, planned, planOf, planNumber, planValue}
 use Rattle.planner.proofs.Settled.{Sixteen}
-use Rattle.planner.proofs.Carried.{Asked, there}
+use Rattle.planner.proofs.Given.{right-lengths, slot-below, slot-there, slot-present}
+use Rattle.planner.proofs.Carried.{Asked}
 use Rattle.planner.proofs.Right.{done, Right, NoMore, is-right, does-no-more}
 use Rattle.planner.proofs.Count.{plan-most}
 use Rattle.planner.proofs.Again.{Again, planned-again}
@@ -75,30 +73,24 @@ module _ (b : Bus) (m : List ℕ) (k : SlotNo) (image buffer : List ℕ) where
   only-verdict v (row-7 {r} n h i j f) = by-number r 7 n ∙ rw (h, i, j, f)
   only-verdict v (no-row h i j f) = rw (h, i, j, f)
 
+  -- "At most 811 records", whatever is handed in
+  pub at-most : planValue (planOf b m k image buffer .0) ≤ 811
+  at-most = few (planOf b m k image buffer) judged
+    where
+      few : (v : Planned × List ℕ) → Verdict v → planValue (v .0) ≤ 811
+      few v (row-1 q h) = unfold planValue in omega arith
+      few v (row-6 q h i) = unfold planValue in omega arith
+      few v (row-3 q h i j) = unfold planValue in omega arith
+      few v (row-7 q h i j f) = unfold planValue in omega arith
+      few v (no-row h i j f) =
+          let sizes = right-lengths m image buffer h in
+          unfold planValue in plan-most (k .0) bench image (sizes .0) i (slot-there k b j) (sizes .1)
+
   -- what the types of the program say of what is handed in
   pub record Typed : Type 0 where
     pub slots : length (b .slots) ≡ slotCount
     pub arrays : Sixteen (slotAt (k .0) bench)
     pub bytes : Every (λ n. n ≤ 255) image
-
-  -- the three lengths
-  right-lengths : wrongLengths m image buffer ≡ false → (length m ≡ memoryBytes) × (length image ≡ slotBytes) × (length buffer ≡ bufferBytes)
-  unfolding wrongLengths wrongLength
-  right-lengths h =
-      let first : Bool = not (eqb (length m) memoryBytes) in
-      let second : Bool = not (eqb (length image) slotBytes) in
-      let third : Bool = not (eqb (length buffer) bufferBytes) in (
-        eqb-true _ _ (not-false _ (or-left-false first second (or-left-false (first || second) third h))),
-        eqb-true _ _ (not-false _ (or-right-false first second (or-left-false (first || second) third h))),
-        eqb-true _ _ (not-false _ (or-right-false (first || second) third h)),
-      )
-
-  -- the slot
-  right-slot : noSuchSlot k b ≡ false → (k .0 < slotCount) × (absent (slotAt (k .0) bench) ≡ false)
-  unfolding noSuchSlot kindAt kindsOf slotAt absent absentSlot freshSlot
-  right-slot j =
-      let l = ltb-false 7 (k .0) (or-left-false (ltb 7 (k .0)) (eqb (kindAt (kindsOf b) k) 0) j) in
-      (omega (arith, l), rw (← List·getD-map (λ (s : Slot). s .kind) (b .slots) (k .0) absentSlot) (or-right-false (ltb 7 (k .0)) (eqb (kindAt (kindsOf b) k) 0) j))
 
   -- "write script records into a lent buffer [..] so that running them leaves exactly the image in that slot. [..] At most 811 records, their number returned": what
   -- holds of a number n that the planner gives, and of the records in the buffer
@@ -127,25 +119,26 @@ module _ (b : Bus) (m : List ℕ) (k : SlotNo) (image buffer : List ℕ) where
   pub promised : (n : ℕ) → Typed → planOf b m k image buffer .0 ≡ Records n → Promised n (planOf b m k image buffer .1)
   promised n typed e =
       let g = given-records n (planOf b m k image buffer) judged e in
-      let sizes = right-lengths (g .0) in
-      let slot = right-slot (g .2) in
+      let sizes = right-lengths m image buffer (g .0) in
+      let below = slot-below k b (g .2) in
+      let present = slot-present b m k (g .2) in
       let asked : Asked (k .0) bench image = record {
         long = sizes .0;
         ranged = g .1;
         number = typed .slots;
-        below = slot .0;
-        present = slot .1;
+        below = below;
+        present = present;
         arrays = typed .arrays;
         wanted = sizes .1;
         bytes = typed .bytes;
         allowed = g .3;
       } in
-      let few : length plan ≤ 811 = plan-most (k .0) bench image (sizes .0) (g .1) (there (k .0) bench image asked (k .0) (slot .0)) (slot .1) (sizes .1) in
+      let few : length plan ≤ 811 = plan-most (k .0) bench image (sizes .0) (g .1) (slot-there k b (g .2)) (sizes .1) in
       record {
         asked = asked;
         number = g .4;
         most = let n≡ = g .4 in omega arith;
-        records = ap₂ eventsIn (g .5) (g .4) ∙ read-back plan buffer (unfold planEvents in plan-plain _ image _ (k .0) (slot .0) (typed .bytes)) (let s = sizes .2 in omega arith);
+        records = ap₂ eventsIn (g .5) (g .4) ∙ read-back plan buffer (unfold planEvents in plan-plain _ image _ (k .0) below (typed .bytes)) (let s = sizes .2 in omega arith);
         right = is-right (k .0) bench image asked;
         no-more = does-no-more (k .0) bench image asked;
         again = planned-again (k .0) bench image asked;

@@ -3,7 +3,7 @@
 use Prim.Native.Nat.{ℕ, zero, suc, _-_, _<_, _≤_}
 use native.Mathlib.Omega.{arith}
 use mathlib.Core.Path.{_≡_, refl, _∙_, ap}
-use mathlib.Core.Bool.{true, false}
+use mathlib.Core.Bool.{Bool, true, false}
 use mathlib.Core.List.{List}
 use lib.Dec.{eqb, leb}
 use lib.ListN.{length, replicate}
@@ -69,6 +69,13 @@ unfolding absent goodLength
 length-range s v a =
     let g : goodLength (s .length) ≡ true = rw a at (facts s v .lengths) in
     (leb-true _ _ (and-left (leb 1 (s .length)) (leb (s .length) 5) g), leb-true _ _ (and-right (leb 1 (s .length)) (leb (s .length) 5) g))
+
+-- a slot's cycle is at most five ticks long
+pub short-cycle : (s : Slot) → slotInRange s ≡ true → s .length ≤ 5
+unfolding goodLength
+short-cycle s h =
+    cond-cases (λ (t : Bool). t ≡ true → s .length ≤ 5) (eqb (s .kind) 0) (λ z e. omega (arith, eqb-true (s .length) 0 e))
+    (λ z e. leb-true (s .length) 5 (and-right (leb 1 (s .length)) (leb (s .length) 5) e)) (facts s h .lengths)
 
 absent-left : (s : Slot) → slotInRange s ≡ true → absent s ≡ true → s .left ≡ 0
 unfolding absent

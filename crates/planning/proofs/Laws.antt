@@ -1,44 +1,27 @@
 -- The definitions in the form in which a function's proof asks for them: a premise for each fact of the way to a return.
 -- Assumes nothing.
 use mathlib.Core.Path.{_≡_, refl, sym, _∙_, ap, ap₂}
-use mathlib.Core.Bool.{Bool, true, false, not, _||_}
-use mathlib.Core.List.{List, _∷_, map}
-use Prim.Native.Nat.{ℕ, zero, suc, _*_, _<_, _≤_, suc-le-suc}
-use native.Mathlib.Omega.{arith}
-use lib.Dec.{eqb, ltb}
-use borrow.Author.Tests.{eqb-true, eqb-false, ltb-true, ltb-false}
-use lib.ListN.{length, getD, take, drop, replicate, length-map, List·getD-eq-default}
+use mathlib.Core.Bool.{Bool, true, false, not}
+use mathlib.Core.List.{List, _∷_}
+use Prim.Native.Nat.{ℕ, zero, suc, _*_, _<_, suc-le-suc}
+use lib.ListN.{length, getD, take, drop, replicate}
 use Rattle.lists.specs.Each.{allOf-at}
-use Rattle.lists.specs.Tests.{by-test, or-left-false, or-right-false}
 use Rattle.lists.specs.Parts.{part-flat}
 use Rattle.rules.specs.declared.Act.the-variants.{Tick}
 use Rattle.rules.specs.declared.Bus.{Bus}
 use Rattle.rules.specs.declared.Refusal.the-variants.{MemoryLength, WrongSlot, WrongState}
 use Rattle.rules.specs.declared.Slot.{Slot}
 use Rattle.rules.specs.declared.SlotNo.{SlotNo}
-use Rattle.rules.specs.Modelled.{slotBytes, memoryBytes}
+use Rattle.rules.specs.Modelled.{memoryBytes}
 use Rattle.rules.specs.Fresh.{absentSlot}
-use Rattle.rules.specs.Refusals.{wrongLength, kindsOf, kindAt, slotInRange, inRange}
+use Rattle.rules.specs.Refusals.{slotInRange, inRange}
 use Rattle.rules.specs.Runs.{Bench, slotAfter, partAfter}
 use Rattle.planner.specs.declared.Planned.{Planned}
 use Rattle.planner.specs.declared.Planned.the-variants.{Refused}
-use Rattle.planner.specs.Plan.{bufferBytes, wrongLengths, noSuchSlot, forbidden, planEvents, planOf, slotAt, bytesAt}
+use Rattle.planner.specs.Plan.{wrongLengths, noSuchSlot, forbidden, planEvents, planOf, slotAt, bytesAt}
+use Rattle.planner.proofs.Given.{right-lengths, slot-there}
 use Rattle.planner.proofs.Settled.{settled-slot, settled-part}
 use Rattle.single.specs.Alone.{aloneOf}
-
--- a slot that is there, by whatever stands for those that are not
-pub slot-below : (k : SlotNo) (b : Bus) → noSuchSlot k b ≡ false → k .0 < 8
-unfolding noSuchSlot
-slot-below k b h = omega (arith, ltb-false 7 (k .0) (or-left-false (ltb 7 (k .0)) _ h))
-
-pub slot-there : (k : SlotNo) (b : Bus) → noSuchSlot k b ≡ false → k .0 < length (b .slots)
-unfolding noSuchSlot kindAt kindsOf
-slot-there k b h =
-    by-test (ltb (k .0) (length (b .slots))) (λ e. ltb-true _ _ e)
-    (λ e.
-    let kinds : List ℕ = map (λ (s : Slot). s .kind) (b .slots) in
-    let l : length kinds ≤ k .0 = rw (length-map (b .slots) (λ (s : Slot). s .kind)) (ltb-false (k .0) (length (b .slots)) e) in
-    absurd (eqb-false (getD kinds (k .0) 0) 0 (or-right-false (ltb 7 (k .0)) _ h) (List·getD-eq-default kinds 0 l)))
 
 getD-any : (ss : List Slot) (k : ℕ) (d e : Slot) → k < length ss → getD ss k d ≡ getD ss k e
 getD-any (s ∷ ss) zero d e h = refl
@@ -51,17 +34,6 @@ slot-ranged k b d h r = allOf-at slotInRange (k .0) (b .slots) d (slot-there k b
 positive : (t : Bool) → not t ≡ false → t ≡ true
 positive true e = refl
 positive false e = sym e
-
-pub long-memory : (m image u : List ℕ) → wrongLengths m image u ≡ false → (length m ≡ memoryBytes) × (length image ≡ slotBytes) × (length u ≡ bufferBytes)
-unfolding wrongLengths wrongLength
-long-memory m image u h =
-    let p : Bool = not (eqb (length m) memoryBytes) in
-    let q : Bool = not (eqb (length image) slotBytes) in
-    let l : p || q ≡ false = or-left-false (p || q) _ h in (
-      eqb-true (length m) memoryBytes (positive _ (or-left-false p q l)),
-      eqb-true (length image) slotBytes (positive _ (or-right-false p q l)),
-      eqb-true (length u) bufferBytes (positive _ (or-right-false (p || q) _ h)),
-    )
 
 pub in-range : (b : Bus) (ranged : Bool) → ranged ≡ inRange b → not ranged ≡ false → inRange b ≡ true
 in-range b ranged e f = sym e ∙ positive ranged f
@@ -89,7 +61,7 @@ module _ (b : Bus) (m : List ℕ) (k : SlotNo) (image u : List ℕ) (lengths : B
       plan-alone e d part z f g =
           let x : Bench = record { bus = b; memory = m } in
           let below : k .0 < length (b .slots) = slot-there k b (sym looked ∙ e) in
-          let long : length m ≡ memoryBytes = long-memory m image u (sym judged ∙ fit) .0 in
+          let long : length m ≡ memoryBytes = right-lengths m image u (sym judged ∙ fit) .0 in
           let good : inRange b ≡ true = in-range b ranged tested usual in
           let s : getD (b .slots) (k .0) d ≡ slotAt (k .0) x = getD-any (b .slots) (k .0) d absentSlot below in
           rw (← judged, fit, ← tested, usual, ← looked, e)

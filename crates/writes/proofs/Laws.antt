@@ -6,17 +6,12 @@ use mathlib.Core.List.{List, [], _∷_, _++_, map, append-assoc, append-nil}
 use Prim.Native.Nat.{ℕ, _+_, _*_, _<_, _≤_}
 use native.Mathlib.Numerals.{add-one}
 use native.Mathlib.Omega.{arith}
-use lib.Dec.{eqb, leb}
-use borrow.Author.Tests.{eqb-true, leb-true}
 use lib.ListN.{length, getD, set, take, length-append}
 use lib.Seq.{take-all, take-suc, take-suc-set}
-use Rattle.lists.specs.Tests.{cond-cases, and-right}
 use Rattle.lists.specs.Parts.{getD-part}
 use Rattle.rules.specs.declared.Event.{Event}
 use Rattle.rules.specs.declared.Slot.{Slot}
 use Rattle.rules.specs.Modelled.{slotBytes}
-use Rattle.rules.specs.Refusals.{goodLength, slotInRange}
-use Rattle.rules.proofs.Range.Kept.{facts}
 use Rattle.planner.specs.Plan.{start, byte, stop, ticks, pageCount, pageAt, pageHalf, pageCounter, selecting, writing, differs, halfBefore, pageEvents, pagesBefore}
 use Rattle.planner.proofs.Pages.{page-length}
 use Rattle.laying.specs.Laid.{laidAt, exchanging}
@@ -74,13 +69,6 @@ pub most-page : (n m r k c count stands half p : ℕ) (image o q : List ℕ) →
     → laidAt m (selecting stands half ++ writing k c (pageAt p image) count) o ≡ (r, q) → r ≤ n + 28 * (p + 1)
 most-page n m r k c count stands half p image o q h l f g e =
     omega (arith, laid-count m r (selecting stands half ++ writing k c (pageAt p image) count) o q e, most-records k c count stands half (pageAt p image) (page-length p image l h) f)
-
--- a slot's cycle is at most five ticks long
-pub short-cycle : (s : Slot) → slotInRange s ≡ true → s .length ≤ 5
-unfolding goodLength
-short-cycle s h =
-    cond-cases (λ (t : Bool). t ≡ true → s .length ≤ 5) (eqb (s .kind) 0) (λ z e. omega (arith, eqb-true (s .length) 0 e))
-    (λ z e. leb-true (s .length) 5 (and-right (leb 1 (s .length)) (leb (s .length) 5) e)) (facts s h .lengths)
 
 -- no page, a page that differs, and one that does not: the half that stands then, and the records
 module _ (old image : List ℕ) (s : Slot) where

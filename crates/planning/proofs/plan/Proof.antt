@@ -7,7 +7,8 @@ use borrow.Author.Needs.{needs}
 use lib.ListN.{length-take, length-drop}
 use Rattle.rules.specs.Refusals.{inRange}
 use Rattle.single.proofs.Laws.{refused-by}
-use Rattle.planning.proofs.Laws.{slot-below, slot-ranged, slot-cut, long-memory, in-range, plan-lengths, plan-state, plan-slot, plan-alone}
+use Rattle.planner.proofs.Given.{right-lengths, slot-below}
+use Rattle.planning.proofs.Laws.{slot-ranged, slot-cut, in-range, plan-lengths, plan-state, plan-slot, plan-alone}
 use Rattle.planning.proofs.plan.Statement.{statement}
 use Rattle.planning.proofs.plan.Tie as tie
 
@@ -50,13 +51,13 @@ plan-spec =
     (λ c.
     let j = c .before .before .before .before .before in
     let a = j .before .before .before .before .before .before .before .before .args in
-    let l = long-memory (a .memory .now) (a .image .now) (a .buffer .now) (sym (j .before .before .wrong-lengths .ensures) ∙ c .before .before .before .before .if1 .left) in
+    let l = right-lengths (a .memory .now) (a .image .now) (a .buffer .now) (sym (j .before .before .wrong-lengths .ensures) ∙ c .before .before .before .before .if1 .left) in
     omega (arith, l .0, slot-below (a .slot) (a .bus) (sym (j .no-such-slot .ensures) ∙ c .before .before .if3 .left)))
     (λ c κs.
     let f = c .before .before .before .before in
     let j = f .before .before .before in
     let a = j .before .before .before .before .before .before .before .before .args in
-    let l = long-memory (a .memory .now) (a .image .now) (a .buffer .now) (sym (j .before .before .wrong-lengths .ensures) ∙ f .before .before .if1 .left) in
+    let l = right-lengths (a .memory .now) (a .image .now) (a .buffer .now) (sym (j .before .before .wrong-lengths .ensures) ∙ f .before .before .if1 .left) in
     let t = sym (j .no-such-slot .ensures) ∙ f .if3 .left in
     let s = slot-below (a .slot) (a .bus) t in
     (slot-ranged (a .slot) (a .bus) _ t (in-range (a .bus) _ (j .before .in-range .ensures) (f .before .if2 .left)), s, simp (length-take, length-drop) (omega (arith, l .0, s)), l .1, l .2))

@@ -9,7 +9,8 @@ use lib.ListN.{length}
 use Rattle.planner.specs.Plan.{pageHalf, halfBefore, pagesBefore}
 use Rattle.laying.specs.Laid.{laidAt}
 use Rattle.laying.proofs.Laws.{laid-length, laid-as}
-use Rattle.writes.proofs.Laws.{most-page, pages-none, half-none, pages-more, half-more, pages-same, half-same, short-cycle}
+use Rattle.planner.proofs.Settled.{short-cycle}
+use Rattle.writes.proofs.Laws.{most-page, pages-none, half-none, pages-more, half-more, pages-same, half-same}
 use Rattle.writes.proofs.all_pages.Statement.{statement}
 use Rattle.writes.proofs.all_pages.Tie as tie
 
