@@ -10,30 +10,20 @@ use lib.Dec.{eqb}
 use lib.ListN.{length, getD, take, drop, replicate, drop-of-length-le}
 use lib.Seq.{drop-cons}
 use Rattle.lists.specs.Parts.{part-flat}
-use Rattle.lists.specs.Tests.{cond-cases}
 use Rattle.rules.specs.declared.Act.the-variants.{Tick}
 use Rattle.rules.specs.declared.Slot.{Slot}
-use Rattle.rules.specs.Modelled.{absent}
 use Rattle.rules.specs.Control.{protects}
-use Rattle.rules.specs.Fields.{withLeft, latched, protecting}
-use Rattle.rules.specs.Memory.{emptied, ended, ticked, tickedPart}
-use Rattle.rules.specs.Slot.{presentNext, slotNext, partNext}
+use Rattle.rules.specs.Memory.{tickedPart}
+use Rattle.rules.specs.Slot.{slotNext, partNext}
 use Rattle.rules.specs.Refusals.{slotInRange}
 use Rattle.rules.specs.Runs.{slotAfter, partAfter}
-use Rattle.rules.proofs.Range.Kept.{InRange, facts, test}
+use Rattle.rules.proofs.Range.Kept.{facts, test, byteFits, slot-kept}
 use Rattle.planner.specs.Plan.{pageAt, pageBlock, same, differs, barred, barredBefore}
 
 -- a tick keeps the range
 pub tick-kept : (s r : Slot) → slotInRange s ≡ true → r ≡ slotNext 0 Tick s → slotInRange r ≡ true
-unfolding slotNext presentNext ticked ended emptied withLeft latched protecting
-tick-kept s r h e =
-    let v : InRange s = facts s h in
-    ap slotInRange e
-    ∙ test _
-    (cond-cases InRange (absent s) (λ z. v) λ z.
-    cond-cases InRange (eqb (s .left) 1)
-    (λ z. record { kinds = v .kinds; lengths = v .lengths; lefts = omega arith; halves = v .halves; counters = v .counters; places = v .places; sensors = v .sensors })
-    (λ z. record { kinds = v .kinds; lengths = v .lengths; lefts = omega (arith, v .lefts); halves = v .halves; counters = v .counters; places = v .places; sensors = v .sensors }))
+unfolding byteFits
+tick-kept s r h e = ap slotInRange e ∙ test _ (slot-kept 0 Tick s refl (facts s h))
 
 pub ticks-kept : (n : ℕ) (s : Slot) → slotInRange s ≡ true → slotInRange (slotAfter 0 (replicate n Tick) s) ≡ true
 unfolding slotAfter

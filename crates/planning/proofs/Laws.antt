@@ -5,6 +5,7 @@ use mathlib.Core.Bool.{Bool, true, false, not}
 use mathlib.Core.List.{List, _∷_}
 use Prim.Native.Nat.{ℕ, zero, suc, _*_, _<_, suc-le-suc}
 use lib.ListN.{length, getD, take, drop, replicate}
+use borrow.Author.Tests.{not-false}
 use Rattle.lists.specs.Each.{allOf-at}
 use Rattle.lists.specs.Parts.{part-flat}
 use Rattle.rules.specs.declared.Act.the-variants.{Tick}
@@ -31,12 +32,8 @@ pub slot-ranged : (k : SlotNo) (b : Bus) (d : Slot) → noSuchSlot k b ≡ false
 unfolding inRange
 slot-ranged k b d h r = allOf-at slotInRange (k .0) (b .slots) d (slot-there k b h) r
 
-positive : (t : Bool) → not t ≡ false → t ≡ true
-positive true e = refl
-positive false e = sym e
-
 pub in-range : (b : Bus) (ranged : Bool) → ranged ≡ inRange b → not ranged ≡ false → inRange b ≡ true
-in-range b ranged e f = sym e ∙ positive ranged f
+in-range b ranged e f = sym e ∙ not-false ranged f
 
 -- the entry, row by row
 module _ (b : Bus) (m : List ℕ) (k : SlotNo) (image u : List ℕ) (lengths : Bool) (judged : lengths ≡ wrongLengths m image u) where

@@ -300,7 +300,7 @@ unfolding powered freshSlot open-fields
 powered-kept s v = record { kinds = v .kinds; lengths = v .lengths; lefts = omega arith; halves = omega arith; counters = omega arith; places = omega arith; sensors = fresh-kept }
 
 -- an act whose byte is a byte keeps a slot in range
-pub byteFits : Act → Bool
+unfoldable pub byteFits : Act → Bool
 byteFits Start = true
 byteFits (Byte b) = leb b 255
 byteFits (Read more) = true
