@@ -27,9 +27,7 @@ fn copied(part: &[u8]) -> [u8; 512]
     ensures { λ r. ⌜ r ≡ now (part .entry) ⌝ }
 {
     let mut all = [0u8; 512];
-    for i in 0..Slot::BYTES {
-        all[i] = part[i];
-    }
+    bytes::copy(part, &mut all);
     all
 }
 
