@@ -2,12 +2,10 @@
 -- Assumes nothing.
 use mathlib.Core.Path.{_≡_, sym, _∙_, ap, ap₂}
 use mathlib.Core.Bool.{Bool, true, false}
-use mathlib.Core.List.{List, _++_, append-nil}
-use Prim.Native.Nat.{ℕ, _≤_}
+use mathlib.Core.List.{List}
+use Prim.Native.Nat.{ℕ}
 use native.Mathlib.Nat.{zero-add}
-use native.Mathlib.Omega.{arith}
-use lib.ListN.{length, take, drop, drop-of-length-le}
-use lib.Seq.{take-all}
+use lib.ListN.{length}
 use Rattle.rules.specs.declared.Event.{Event}
 use Rattle.rules.specs.declared.Refusal.{Refusal}
 use Rattle.rules.specs.declared.Refusal.the-variants.{ProtectedPage}
@@ -40,7 +38,3 @@ module _ (t s : Slot) (k : ℕ) (o old image b : List ℕ) (settled : t ≡ s) (
     where
       whole : (es : List Event) → laidAt 0 es b ≡ (r, v) → planned es b ≡ (Records r, v)
       whole es w = ap (λ (z : ℕ × List ℕ). (Records (z .0), z .1)) (ap (λ (j : ℕ). (j, laid es b)) (sym (zero-add (length es))) ∙ w)
-
--- a whole slot's bytes copied over as many
-pub all-copied : (all part own : List ℕ) → all ≡ take (length part) part ++ drop (length part) own → length own ≤ length part → all ≡ part
-all-copied all part own e h = e ∙ ap₂ _++_ (take-all (length part) part (omega arith)) (drop-of-length-le own h) ∙ append-nil part

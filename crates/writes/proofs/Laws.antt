@@ -1,14 +1,13 @@
 -- The definitions in the form in which a function's proof asks for them: a premise for each fact of the way to a return.
 -- Assumes nothing.
-use mathlib.Core.Path.{_≡_, refl, sym, _∙_, ap}
+use mathlib.Core.Path.{_≡_, refl, sym, _∙_, ap, ap₂}
 use mathlib.Core.Bool.{Bool, true, false}
 use mathlib.Core.List.{List, [], _∷_, _++_, map, append-assoc, append-nil}
 use Prim.Native.Nat.{ℕ, _+_, _*_, _<_, _≤_}
 use native.Mathlib.Numerals.{add-one}
 use native.Mathlib.Omega.{arith}
-use lib.ListN.{length, getD, set, take, length-append}
-use lib.Seq.{take-all, take-suc, take-suc-set}
-use Rattle.lists.specs.Parts.{getD-part}
+use lib.ListN.{length, take, drop, length-append, drop-of-length-le}
+use lib.Seq.{take-all}
 use Rattle.rules.specs.declared.Event.{Event}
 use Rattle.rules.specs.declared.Slot.{Slot}
 use Rattle.rules.specs.Modelled.{slotBytes}
@@ -18,25 +17,15 @@ use Rattle.laying.specs.Laid.{laidAt, exchanging}
 use Rattle.planner.proofs.Count.{length-writing}
 use Rattle.laying.proofs.Laws.{laid-none, laid-then, laid-count, length-exchange, length-selecting}
 
--- the bytes passed are copied, one a turn
-pub copied-step : (u m : List ℕ) (i : ℕ) → i < length u → i < length m → take i u ≡ take i m → take (i + 1) (set u i (getD m i 0)) ≡ take (i + 1) m
-copied-step u m i h l e = rw (add-one, take-suc-set u i (getD m i 0) h, take-suc m i 0 l) (ap (λ (p : List ℕ). p ++ getD m i 0 ∷ []) e)
+-- bytes copied over as many, or fewer
+pub all-copied : (all part own : List ℕ) → all ≡ take (length part) part ++ drop (length part) own → length own ≤ length part → all ≡ part
+all-copied all part own e h = e ∙ ap₂ _++_ (take-all (length part) part (omega arith)) (drop-of-length-le own h) ∙ append-nil part
 
-pub copied-full : (u m : List ℕ) (i : ℕ) → length u ≤ i → length m ≤ i → take i u ≡ take i m → u ≡ m
-copied-full u m i h l e = sym (take-all i u h) ∙ e ∙ take-all i m l
-
--- what a page's write sends: the counter, and then a byte a turn
-pub sent-step : (u image : List ℕ) (c p i : ℕ) → i < 16 → length u ≡ 17 → p < pageCount → length image ≡ slotBytes → take (i + 1) u ≡ take (i + 1) (c ∷ pageAt p image)
-    → take (i + 1 + 1) (set u (i + 1) (getD image (16 * p + i) 0)) ≡ take (i + 1 + 1) (c ∷ pageAt p image)
-unfolding pageAt
-sent-step u image c p i h l k g e =
-    let s : List ℕ = c ∷ pageAt p image in
-    let b : getD image (16 * p + i) 0 ≡ getD s (i + 1) 0 = sym (getD-part 16 p image i 0 h) ∙ sym (ap (λ (j : ℕ). getD s j 0) (add-one i)) in
-    ap (λ (x : ℕ). take (i + 1 + 1) (set u (i + 1) x)) b ∙ copied-step u s (i + 1) (omega arith) (omega (arith, page-length p image g k)) e
-
-pub sent-full : (u image : List ℕ) (c p i : ℕ) → 16 ≤ i → length u ≡ 17 → p < pageCount → length image ≡ slotBytes → take (i + 1) u ≡ take (i + 1) (c ∷ pageAt p image)
-    → u ≡ c ∷ pageAt p image
-sent-full u image c p i h l k g e = copied-full u (c ∷ pageAt p image) (i + 1) (omega arith) (omega (arith, page-length p image g k)) e
+-- what a page's write sends: the counter, and behind it the page
+pub sent-by : (all part own image : List ℕ) (c p : ℕ) → all ≡ take (length part) part ++ drop (length part) own → part ≡ pageAt p image → length own ≤ 16
+    → p < pageCount → length image ≡ slotBytes → c ∷ (all ++ []) ≡ c ∷ pageAt p image
+sent-by all part own image c p e f h k l =
+    ap (c ∷_) (append-nil all ∙ all-copied all part own e (omega (arith, ap length f, page-length p image l k)) ∙ f)
 
 -- a page: its half, its write, its ticks
 pub page-by : (n m w r k c count stands half : ℕ) (bytes sent b o u q : List ℕ) → sent ≡ c ∷ bytes → laidAt n (selecting stands half) b ≡ (m, o)

@@ -18,9 +18,8 @@ fn sent(counter: u8, image: &[u8], p: usize) -> [u8; 17]
 {
     let mut all = [counter; 17];
     let from = Slot::PAGE * p;
-    for i in 0..Slot::PAGE {
-        all[i + 1] = image[from + i];
-    }
+    let to = from + Slot::PAGE;
+    bytes::copy(&image[from..to], &mut all[1..]);
     all
 }
 
