@@ -1,2 +1,4 @@
-pub mod Going
 pub mod Laws
+pub mod Going
+pub mod Onward
+pub mod Determined
