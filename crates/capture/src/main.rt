@@ -2,13 +2,11 @@
 // reads a piece at a time, hands what came to `frame` and `pieces`, and writes what `frame` or `verdicts` put at the front of the output: all that
 // decides is said and proved there. The status that a verdict has, the script `run` gives it (the file status).
 ghost use mathlib.Core.Path.{_≡_};
-ghost use mathlib.Core.Bool.{true, _&&_};
+ghost use mathlib.Core.Bool.{true};
 ghost use Prim.Native.Nat.{_+_, _≤_};
-ghost use lib.Dec.{eqb};
 ghost use lib.ListN.{length};
 ghost use Rattle.rules.specs.Modelled.{memoryBytes};
 ghost use Rattle.rules.specs.Refusals.{inRange};
-ghost use Rattle.captures.specs.Agreement.{isAccepted};
 ghost use Rattle.capture.specs.Program.{Came, Ended, Served};
 use captures::Verdict;
 use libc::STDIN_FILENO;
@@ -23,13 +21,11 @@ struct Going {
     on: bool,
 }
 
-fn accepted(v: Verdict) -> bool
-    ensures { λ r. ⌜ r ≡ isAccepted v ⌝ }
+// Room for a piece: 4,096 records.
+fn room() -> [u8; 24576]
+    ensures { λ r. ⌜ 24576 ≡ length r ⌝ }
 {
-    if let Verdict::Accepted = v {
-        return true;
-    }
-    false
+    [0; 24576]
 }
 
 // One piece: as many bytes as the buffer holds, or fewer at the input's end. It goes on behind a full piece that agrees.
@@ -49,7 +45,7 @@ fn read_on(g: Going, mem: &mut [u8], buf: &mut [u8]) -> Going
         bus: next,
         number: number + n / pieces::RECORD,
         verdict,
-        on: accepted(verdict) & full,
+        on: pieces::accepted(verdict) & full,
     }
 }
 
@@ -58,7 +54,7 @@ fn check_records(bus: Bus, mem: &mut [u8]) -> Verdict
     requires { ⌜ (inRange bus ≡ true) × (length (now mem) ≡ memoryBytes) ⌝ }
     ensures { λ r. ⌜ Ended bus (now (mem .entry)) r ⌝ }
 {
-    let mut buf = [0u8; 24576];
+    let mut buf = room();
     let mut g = Going {
         bus,
         number: 0,

@@ -7,6 +7,7 @@ ghost use lib.ListN.{length};
 ghost use Rattle.rules.specs.Modelled.{memoryBytes};
 ghost use Rattle.rules.specs.Refusals.{inRange};
 ghost use Rattle.captures.specs.Capture.{agrees as Capture·agrees, closed as Capture·closed};
+ghost use Rattle.captures.specs.Agreement.{isAccepted};
 ghost use Rattle.pieces.specs.Piece.{pieceOf};
 use captures::Seen;
 use captures::Verdict;
@@ -70,6 +71,16 @@ pub fn piece(bus: Bus, mem: &mut [u8], number: usize, records: &[u8]) -> Checked
     let last = x.bus;
     let verdict = Verdict::Accepted;
     Checked { bus: last, verdict }
+}
+
+// Whether all agreed.
+pub fn accepted(v: Verdict) -> bool
+    ensures { λ r. ⌜ r ≡ isAccepted v ⌝ }
+{
+    if let Verdict::Accepted = v {
+        return true;
+    }
+    false
 }
 
 // The verdict on records that end with so many bytes of one that is cut.
