@@ -70,7 +70,10 @@ difference-length : (n : ℕ) (a : Answer) (s : Seen) → length (differenceLine
 unfolding differenceLine
 difference-length n a s = simp length-append
 
--- a verdict as the type holds it has at most thirty bytes, its number being a `usize`
+pub difference-most : (n : ℕ) (a : Answer) (s : Seen) → n < 2 ^ 64 → s .byte < 256 → length (differenceLine n a s) ≤ 30
+difference-most n a s h l = omega (arith, difference-length n a s, usize-digits n h, answer-length a, seen-length s l)
+
+-- so no verdict that the type can hold has a longer one, its number being a `usize` and the captured byte a byte
 abbrev pub SizedVerdict : Verdict → Type 0
 SizedVerdict Accepted = Unit {0}
 SizedVerdict (Differs n a s) = (n < 2 ^ 64) × (s .byte < 256)
@@ -80,7 +83,7 @@ SizedVerdict (Refused r) = Unit {0}
 pub verdict-length : (v : Verdict) → SizedVerdict v → length (verdictLine v) ≤ 30
 unfolding verdictLine
 verdict-length Accepted h = omega arith
-verdict-length (Differs n a s) h = omega (arith, difference-length n a s, usize-digits n (h .0), answer-length a, seen-length s (h .1))
+verdict-length (Differs n a s) h = difference-most n a s (h .0) (h .1)
 verdict-length Short h = omega arith
 verdict-length (Refused r) h = omega (arith, line-length (answer.Refused r))
 
@@ -107,6 +110,8 @@ module _ (n : ℕ) (a : Answer) (s : Seen) (out o p q r t u : List ℕ) (i j k l
 
 -- a refusal
 pub not-checked-by : (v : Verdict) (r : Refusal) (end : ℕ) (out o : List ℕ) → v ≡ Refused r → Put out 0 (lineOf (answer.Refused r)) end o
-    → (end ≡ length (verdictLine v)) × (o ≡ sets out 0 (verdictLine v))
+    → (end ≡ length (verdictLine v)) × (o ≡ sets out 0 (verdictLine v)) × (end ≤ 30)
 unfolding verdictLine
-not-checked-by v r end out o e p = rw e (at-front out o end (lineOf (answer.Refused r)) p)
+not-checked-by v r end out o e p =
+    let q = at-front out o end (lineOf (answer.Refused r)) p in
+    rw e (q .0, q .1, omega (arith, line-length (answer.Refused r)))

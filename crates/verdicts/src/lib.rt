@@ -48,7 +48,7 @@ fn put_seen(out: &mut [u8], at: usize, s: Seen) -> usize
 // The line of a record that differs, put at the beginning; the place after it.
 fn put_difference(out: &mut [u8], n: usize, model: Answer, seen: Seen) -> usize
     requires { ⌜ 32 ≤ length (now out) ⌝ }
-    ensures { λ r. ⌜ (r ≡ length (differenceLine n model seen)) × (now (out .exit) ≡ sets (now (out .entry)) 0 (differenceLine n model seen)) ⌝ }
+    ensures { λ r. ⌜ (r ≡ length (differenceLine n model seen)) × (now (out .exit) ≡ sets (now (out .entry)) 0 (differenceLine n model seen)) × (r ≤ 30) ⌝ }
 {
     let number = letters::put_decimal(out, 0, n);
     let first = letters::put_one(out, number, b' ');
@@ -58,10 +58,10 @@ fn put_difference(out: &mut [u8], n: usize, model: Answer, seen: Seen) -> usize
     letters::put_one(out, end, b'\n')
 }
 
-// A verdict's line, put at the beginning; the place after it.
+// A verdict's line, put at the beginning; the place after it, which for every verdict that the type can hold is at most 30.
 pub fn put_verdict(out: &mut [u8], v: Verdict) -> usize
     requires { ⌜ 32 ≤ length (now out) ⌝ }
-    ensures { λ r. ⌜ (r ≡ length (verdictLine v)) × (now (out .exit) ≡ sets (now (out .entry)) 0 (verdictLine v)) ⌝ }
+    ensures { λ r. ⌜ (r ≡ length (verdictLine v)) × (now (out .exit) ≡ sets (now (out .entry)) 0 (verdictLine v)) × (r ≤ 30) ⌝ }
 {
     match v {
         Verdict::Accepted => letters::put_three(out, 0, b'O', b'K', b'\n'),
