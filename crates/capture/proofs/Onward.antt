@@ -1,21 +1,26 @@
--- One piece more.
+-- One piece more, and what is put at the front of the output in the end.
 -- Assumes nothing.
-use Prim.Native.Nat.{ℕ, _+_, _/_, _%_, _≤_}
+use Prim.Native.Nat.{ℕ, _+_, _/_, _%_, _<_, _≤_}
 use native.Mathlib.Omega.{arith}
 use mathlib.Core.Path.{_≡_, refl, sym, _∙_, ap, ap₂}
 use mathlib.Core.Bool.{Bool, true, false, false≢true, _&&_}
 use mathlib.Core.List.{List, [], _∷_, _++_}
+use borrow.Author.Tests.{lt-ltb, le-ltb}
 use lib.Dec.{eqb}
 use lib.ListN.{length}
+use lib.Seq.{sets}
 use Rattle.lists.specs.Tests.{by-test, cond-true, cond-false}
 use Rattle.rules.specs.declared.Bus.{Bus}
+use Rattle.letters.specs.Letters.{shortLine}
 use Rattle.captures.specs.declared.Verdict.{Verdict}
+use Rattle.captures.specs.declared.Verdict.the-variants.{Short}
 use Rattle.captures.specs.Capture.{leftOver, closed}
 use Rattle.captures.specs.Agreement.{isAccepted}
+use Rattle.verdicts.specs.Line.{verdictLine}
 use Rattle.pieces.specs.declared.Checked.{Checked}
 use Rattle.pieces.specs.Piece.{pieceOf}
 use Rattle.capture.specs.declared.Going.{Going}
-use Rattle.capture.specs.Program.{pieceBytes, stepOf, stepsOf, Came, Reached}
+use Rattle.capture.specs.Program.{pieceBytes, stepOf, stepsOf, Came, Reached, Ended, servedWith, Served}
 
 -- a piece is looked at where it goes on, and not otherwise
 pub steps-on : (g : Going) (m r : List ℕ) (rs : List (List ℕ)) → g .on ≡ true → stepsOf g m (r ∷ rs) ≡ stepsOf (stepOf g m r .0) (stepOf g m r .1) rs
@@ -62,3 +67,30 @@ came-by g m bs left c v n size on k l z p q a =
       fits = omega (arith, k, l, z);
       step = λ i. (record { bus = (p i) .0 .bus; number = g .number + sym k i / 6; verdict = w i; on = o i }, (p i) .1);
     }
+
+-- a memory that is cut, and the verdict where it is whole
+module _ (b : Bus) (m : List ℕ) (came : ℕ) (out : List ℕ) (end : ℕ) (o : List ℕ) (z : length m ≡ 4096) where
+  clash : {i : ℕ} → i < 4096 → 4096 ≤ i → ⊥
+  clash h n = omega (arith, h, n)
+
+  pub served-short : came < 4096 → (end ≡ 6) × (o ≡ sets out 0 shortLine) → Served b out end o
+  unfolding servedWith verdictLine
+  served-short h p = record {
+    memory = m;
+    came = came;
+    verdict = Short;
+    size = z;
+    ended = λ n. absurd (clash h n);
+    put = rw (lt-ltb came 4096 h) p;
+  }
+
+  pub served-whole : (v : Verdict) → 4096 ≤ came → Ended b m v → (end ≡ length (verdictLine v)) × (o ≡ sets out 0 (verdictLine v)) → Served b out end o
+  unfolding servedWith
+  served-whole v h e p = record {
+    memory = m;
+    came = came;
+    verdict = v;
+    size = z;
+    ended = λ n. e;
+    put = rw (le-ltb came 4096 h) p;
+  }

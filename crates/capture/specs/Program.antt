@@ -67,12 +67,16 @@ pub record Served (b : Bus) (out : List ℕ) (end : ℕ) (written : List ℕ) : 
   pub came : ℕ
   pub verdict : Verdict
   pub size : length memory ≡ 4096
-  pub ended : (came < 4096 → ⊥) → Ended b memory verdict
+  pub ended : 4096 ≤ came → Ended b memory verdict
   pub put : (end ≡ length (verdictLine (servedWith came verdict))) × (written ≡ sets out 0 (verdictLine (servedWith came verdict)))
 
 -- what is written after a good setup, and altogether, with an output that holds anything
 unfoldable pub serveWrites : Bus → List ℕ → List (List ℕ) → List ℕ
 serveWrites b m rs = verdictLine (servedWith (length m) (stepsOf (begun b) m rs .0 .verdict))
+
+pub record Wrote (b : Bus) (m text : List ℕ) : Type 0 where
+  pub pieces : List (List ℕ)
+  pub wrote : text ≡ serveWrites b m pieces
 
 unfoldable pub captureWrites : List ℕ → List ℕ → List (List ℕ) → List ℕ → List ℕ
 captureWrites head m rs out =

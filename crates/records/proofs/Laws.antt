@@ -13,7 +13,8 @@ use lib.Seq.{getD-at, getD-drop}
 use Rattle.lists.specs.Each.{filled, filled-step}
 use Rattle.lists.specs.Tests.{by-test}
 use Rattle.rules.specs.declared.Pair.{Pair}
-use Rattle.records.specs.Records.{pairAt, pairsTo, valueAt, recordAt}
+use Rattle.rules.specs.Modelled.{slotCount}
+use Rattle.records.specs.Records.{pairAt, pairsTo, pairsOf, valueAt, recordAt}
 
 -- one below zero, and so many more
 pub below-zero : (m : ℕ) → negsuc 0 -ℤ pos m ≡ negsuc m
@@ -63,3 +64,16 @@ record-first p q i h = same-record (p ++ q) p i i (λ k l. List·getD-append p q
 
 pub record-later : (p : List ℕ) (n i : ℕ) → recordAt (drop n p) i ≡ recordAt p (n + i)
 record-later p n i = same-record (drop n p) p i (n + i) (λ k l. getD-drop n p (i + k) 0 ∙ ap (λ m. getD p m 0) (omega arith))
+
+-- the setup's pairs stand in the first sixteen bytes
+pairs-first : (p q : List ℕ) (n : ℕ) → 2 * n ≤ length p → pairsTo (p ++ q) n ≡ pairsTo p n
+unfolding pairsTo pairAt
+pairs-first p q zero h = refl
+pairs-first p q (suc n) h =
+    let a : getD (p ++ q) (2 * n) 0 ≡ getD p (2 * n) 0 = List·getD-append p q 0 (2 * n) (omega arith) in
+    let b : getD (p ++ q) (2 * n + 1) 0 ≡ getD p (2 * n + 1) 0 = List·getD-append p q 0 (2 * n + 1) (omega arith) in
+    ap₂ _++_ (pairs-first p q n (omega arith)) (λ t. record { kind = a t; length = b t } ∷ [])
+
+pub pairs-of : (head more : List ℕ) → length head ≡ 16 → pairsOf (head ++ more) ≡ pairsOf head
+unfolding pairsOf
+pairs-of head more l = pairs-first head more slotCount (omega arith)

@@ -25,7 +25,7 @@ main-spec =
     (λ c. search needs)
     (λ c κs. let e = begin-onward _ _ _ _ _ (c .before .before .before .before .before .before .before .before .begin .ensures) (omega arith) in (e .0, search needs, search needs))
     (λ c. search needs)
-    (λ c. ?)
+    (λ c. simp length-take (omega arith))
     (λ c κs. search needs)
     (λ c. search needs)
     (λ c. search needs))
