@@ -64,19 +64,18 @@ static void show(struct answer a)
     }
 }
 
+static int alone(const char *line, int status)
+{
+    puts(line);
+    return status;
+}
+
 static int difference(unsigned long number, struct answer model, struct answer captured)
 {
     printf("%lu", number);
     show(model);
     show(captured);
-    puts("");
-    return 1;
-}
-
-static int alone(const char *line, int status)
-{
-    puts(line);
-    return status;
+    return alone("", 1);          /* ends the line */
 }
 
 int main(void)

@@ -289,6 +289,15 @@ static const char *const ways[WAYS] = { "another sort", "another sort with the s
 
 static int any_sort(void) { return below(DATA_BYTE); }
 
+/* Another byte: the least, the greatest, the next, or any. */
+static unsigned char other_than(unsigned char byte)
+{
+    int bytes[] = { 0x00, 0xFF, byte + 1, below(256) };
+    unsigned char other = (unsigned char)ONE_OF(bytes);
+
+    return other != byte ? other : byte ^ 1;
+}
+
 static int suits(int way, int code)
 {
     switch (way) {
@@ -314,7 +323,7 @@ static int change(int at, int way)
         if (way == UNKNOWN)
             r[4] = (unsigned char)(one_in(2) ? 5 : between(5, 255));
         if (way != SORT_ALONE && way != UNKNOWN)
-            r[5] ^= (unsigned char)between(1, 255);
+            r[5] = other_than(r[5]);
         snprintf(what + said, sizeof what - said, ", record %d of %d with %s", at, total, ways[way]);
         return at;
     }
