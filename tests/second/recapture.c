@@ -210,9 +210,11 @@ static int has_ended(int flags)
     return child == 0;
 }
 
-/* Gives the capture in odd pieces, each when the one before has been taken. */
+/* Gives the capture in odd pieces, each when the one before has been taken.
+ * How many pieces are taken must not change the captures that follow. */
 static void feed(int to)
 {
+    unsigned long long before = state;
     int left;
 
     for (size_t at = 0, many; at < length; at += many) {
@@ -224,6 +226,7 @@ static void feed(int to)
         while (ioctl(to, FIONREAD, &left) == 0 && left > 0 && !has_ended(WNOHANG))
             sched_yield();
     }
+    state = before;
     close(to);
 }
 
@@ -342,8 +345,10 @@ static void try_change(int at, int way)
 static void try_two_changes(void)
 {
     begin("two answers changed");
-    change(below(total), any_sort());
-    change(below(total), any_sort());
+    for (int i = 0; i < 2; i++) {
+        int at = below(total);
+        change(at, any_sort());
+    }
     try(NONE);
 }
 
@@ -355,8 +360,10 @@ static void try_cut(size_t at)
 
     begin("");
     snprintf(what, sizeof what, "cut after %lu bytes", (unsigned long)at);
-    if (total > 0 && one_in(2))
-        change(one_in(2) ? last : below(total), any_sort());
+    if (total > 0 && one_in(2)) {
+        int changed = one_in(2) ? last : below(total);
+        change(changed, any_sort());
+    }
     length = at;
     try(NONE);
 }
@@ -394,7 +401,7 @@ static void try_bad_setup(void)
 
 static void try_all(void)
 {
-    size_t all = HEAD + RECORD * (size_t)total;
+    size_t whole_records;
 
     begin("the whole run");
     try(refused);
@@ -404,12 +411,13 @@ static void try_all(void)
         try_change(0, any_sort());
         try_change(total - 1, any_sort());
         try_two_changes();
-        try_cut(all - RECORD * (size_t)below(total) - (size_t)between(1, RECORD - 1));
+        whole_records = (size_t)below(total);
+        try_cut(HEAD + RECORD * whole_records + (size_t)between(1, RECORD - 1));
     }
     try_cut((size_t)below(SETUP));
     try_cut(inside_memory());
-    try_cut(all - RECORD * (size_t)below(total + 1));  /* between records */
-    try_cut(4096 * (1 + (size_t)below((int)(all / 4096))));
+    try_cut(HEAD + RECORD * (size_t)below(total + 1));  /* between records */
+    try_cut(4096 * (size_t)between(1, (HEAD + RECORD * total) / 4096));
     try_bad_setup();
 }
 
