@@ -37,7 +37,7 @@ static char what[200];            /* it is, in words */
 
 static unsigned char *record_of(unsigned char *bytes, int n) { return bytes + HEAD + RECORD * (size_t)n; }
 
-/* Everything that can be read of the file. */
+/* Everything that can be read of the file, with a 0 behind it. */
 static unsigned char *whole(FILE *f, size_t *length)
 {
     size_t room = 1 << 12, more;
@@ -54,6 +54,7 @@ static unsigned char *whole(FILE *f, size_t *length)
             room *= 2;
         }
     }
+    bytes[*length] = 0;
     return bytes;
 }
 
@@ -260,7 +261,7 @@ static void try(int named)
     int in_pieces = one_in(3);
     char want[40];
     int status = judge(want);
-    size_t said_length;
+    size_t said_length, first_line;
     char *said;
     FILE *f;
 
@@ -271,9 +272,11 @@ static void try(int named)
     f = open_file("said", "rb");
     said = (char *)whole(f, &said_length);
     fclose(f);
-    if (said_length != strlen(want) + 1 || memcmp(said, want, said_length - 1) != 0 || said[said_length - 1] != '\n')
-        WRONG("\"%s\" was to be said, not \"%.*s\"%s", want, said_length > 40 ? 40 : (int)said_length, said,
-              in_pieces ? " (read in pieces)" : "");
+    first_line = strcspn(said, "\n");
+    if (first_line != strlen(want) || memcmp(said, want, first_line) != 0)
+        WRONG("\"%s\" was to be said, not \"%.*s\"%s", want, (int)first_line, said, in_pieces ? ", read in pieces" : "");
+    if (said_length != first_line + 1)
+        WRONG("\"%s\" was to be said as a line, and nothing else", want);
     if (WIFSIGNALED(ended))
         WRONG("the program was ended by signal %d", WTERMSIG(ended));
     if (!is_seen)
