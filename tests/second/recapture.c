@@ -120,7 +120,7 @@ static void write_answer(char text[5], int code, int byte)
 /* The line for the capture in hand; gives the status that goes with it. */
 static int judge(char line[40])
 {
-    strcpy(line, "short");
+    strcpy(line, "short");        /* unless there is something else to say */
     if (length < SETUP)
         return 2;
     if (!setup(capture)) {
