@@ -1,4 +1,4 @@
--- Request P2, "Checking captures from real chips": the verdict on a capture.
+-- Request P2, "Checking captures from real chips", in its own words and those of its issue: the verdict on a capture.
 -- Assumes nothing.
 use Prim.Native.Nat.{ℕ, zero, suc, _+_, _*_, _/_, _%_}
 use mathlib.Core.Bool.{Bool, false, not, cond, _&&_}
