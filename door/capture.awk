@@ -36,11 +36,11 @@ function memory_line(   slot, rest, w, n, i, bytes) {
   rest = left; sub(/^memory */, "", rest)
   slot = rest; sub(/[ :].*/, "", slot)
   rest = substr(rest, length(slot) + 1)
+  if (rest !~ /^ .*[^ ]\.bin$/ && rest !~ /^: *[^ ]/) bad("the form is: memory SLOT FILE.bin, or memory SLOT: BYTE..., as in: memory 0: 23h 11h")
   slot = decimal(slot, 0, 7, "slot number")
   if (slot in memory_at) bad("the memory of slot " slot " is told twice")
   memory_at[slot] = NR
-  if (rest ~ /^ .*[^ ]\.bin$/) { row("F\t" NR "\t" slot "\t" trim(rest)); return }
-  if (rest !~ /^: *[^ ]/) bad("the form is: memory SLOT FILE.bin, or memory SLOT: BYTE..., as in: memory 0: 23h 11h")
+  if (rest ~ /^ /) { row("F\t" NR "\t" slot "\t" trim(rest)); return }
   n = split(substr(rest, 2), w, " ")
   n = spread(w, 1, n)
   if (n > 512) bad("a slot has 512 bytes, and here are " n)
@@ -87,10 +87,13 @@ function end_bytes(   i) {
 function fail(sentence) { print sentence; exit 1 }
 
 # The first event to show: eight before the record, or the start of the exchange that this one stands in, but not more than forty before.
-function shown_from(   i, from) {
+function shown_from(   i, from, inside) {
   from = i = at < 8 ? 0 : at - 8
-  while (i > 0 && i > at - 40 && kinds[i - 1] !~ /^[458]$/) if (kinds[--i] == 1) from = i
-  return i == at - 40 ? i : from
+  while (i > 0 && i > at - 40 && kinds[i - 1] !~ /^[458]$/) {
+    if (kinds[--i] == 1) { from = i; inside = 0 }
+    else if (kinds[i] ~ /^[23]$/) inside = 1
+  }
+  return inside ? i : from
 }
 function in_words(a) {
   if (a == "-") return "nothing"
