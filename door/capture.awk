@@ -104,7 +104,8 @@ function end_tell(   i, from, wide, place) {
   if (!(at in said)) fail("there is no record " at)
   if ((said[at] ~ /^\?/ ? "?" : said[at]) != seen) fail("record " at " has the answer " said[at])
   from = shown_from()
-  wide = length(at) < 4 ? 4 : length(at)
+  wide = length(lines_at[at] == "" ? at : lines_at[at])
+  if (wide < 4) wide = 4
   print ENVIRON["NAME"] ": differs at record " at (lines_at[at] == "" ? "" : ", line " lines_at[at] ": " texts[at])
   if (from) printf "%" wide "s  (%s not shown)\n", "", from (from == 1 ? " earlier event is" : " earlier events are")
   for (i = from; i <= at; i++) {
