@@ -1,5 +1,6 @@
 # shellcheck shell=bash
-# Shared by compare, fuzz, faults, replan and wrongplans; sourced, not run.
+# Shared by compare, fuzz, faults, replan, wrongplans, recapture and
+# wrongcaptures; sourced, not run.
 #
 # Finds the repository root (two folders up), builds the C programs (build.sh)
 # into a temporary folder that goes away at the end, and runs the two programs.
@@ -55,6 +56,15 @@ plan() {
 
 run_first() { sh -c "$first" <"$1" >"$2" 2>"$work/first.err"; }
 run_second() { "$work/second" <"$1" >"$2"; }
+
+# start_of PROGRAM: leaves in `command` its command line without ./run in front;
+# a start then takes a few milliseconds. `short` is what every program here
+# says to no input at all.
+start_of() {
+    [ "$("$root/run" "$1" </dev/null)" = short ] || die "${0##*/}: the program $1 could not be built or run"
+    [ -n "${tools:-}" ] || find_kit
+    command=$(printf '%q ' "${under[@]}" "$root/target/bin/$1")
+}
 
 # alike SCRIPT: both programs say the same, byte for byte.
 alike() {

@@ -13,33 +13,9 @@
 #include <stdio.h>
 #include <stdlib.h>
 #include <string.h>
+#include "chance.h"
 
 enum { START = 1, BYTE, READ, STOP, TIMEOUT, TICK, VOLTAGE, POWER, TEMPERATURE };
-
-/* ---- Chance (splitmix for the seed, then xorshift) ---------------------- */
-
-static unsigned long long state;
-
-static void seed_with(unsigned long long seed)
-{
-    seed += 0x9E3779B97F4A7C15ULL;
-    seed = (seed ^ seed >> 30) * 0xBF58476D1CE4E5B9ULL;
-    seed = (seed ^ seed >> 27) * 0x94D049BB133111EBULL;
-    state = (seed ^ seed >> 31) | 1;
-}
-
-static int below(int n)
-{
-    state ^= state >> 12;
-    state ^= state << 25;
-    state ^= state >> 27;
-    return (int)((state * 0x2545F4914F6CDD1DULL >> 33) % (unsigned)n);
-}
-
-static int between(int low, int high) { return low + below(high - low + 1); }
-static int one_in(int n) { return below(n) == 0; }
-
-#define ONE_OF(array) ((array)[below((int)(sizeof (array) / sizeof (array)[0]))])
 
 /* ---- What the generator remembers --------------------------------------- */
 

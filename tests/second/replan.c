@@ -18,6 +18,7 @@
  * number N.  `close` ends with the line that sums up.
  */
 #include "request.h"
+#include "chance.h"
 
 static const char *folder;
 static int number;                /* of the request in hand */
@@ -73,28 +74,6 @@ static unsigned char *must_read(const char *ending, size_t *length)
         WRONG("there is no file %d.%s", number, ending);
     return bytes;
 }
-
-/* ---- Chance (splitmix for the seed, then xorshift) ----------------------- */
-
-static unsigned long long state;
-
-static void seed_with(unsigned long long seed)
-{
-    seed += 0x9E3779B97F4A7C15ULL;
-    seed = (seed ^ seed >> 30) * 0xBF58476D1CE4E5B9ULL;
-    seed = (seed ^ seed >> 27) * 0x94D049BB133111EBULL;
-    state = (seed ^ seed >> 31) | 1;
-}
-
-static int below(int n)
-{
-    state ^= state >> 12;
-    state ^= state << 25;
-    state ^= state >> 27;
-    return (int)((state * 0x2545F4914F6CDD1DULL >> 33) % (unsigned)n);
-}
-
-static int one_in(int n) { return below(n) == 0; }
 
 /* ---- Making a request ---------------------------------------------------- */
 

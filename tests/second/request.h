@@ -5,30 +5,16 @@
  * A request: setup 16 bytes, memory 4,096 bytes, slot one byte, image 512
  * bytes, then records of four bytes to the end, which are run first.
  */
-#define main script_main
-#include "second.c"
-#undef main
-#include <stdlib.h>
+#include "model.h"
 
-enum { START = 1, BYTE = 2, READ = 3, STOP = 4, TIMEOUT = 5, TICK = 6, VOLTAGE = 7, POWER = 8 };
 enum { PAGES = SLOT_BYTES / PAGE, MOST_RECORDS = 811 };
-enum { SETUP = 2 * SLOTS, HEAD = SETUP + SLOTS * SLOT_BYTES + 1 + SLOT_BYTES };
+enum { HEAD = SETUP + SLOTS * SLOT_BYTES + 1 + SLOT_BYTES };
 
 struct request {
     const unsigned char *setup, *memory, *image, *records;
     int slot;
     size_t count;                 /* of the records that are run first */
 };
-
-/* One record on the model.  Gives its line, as the script program says it. */
-static const char *play(const unsigned char record[4])
-{
-    int value = 256 * record[2] + record[3];
-
-    out_length = 0;               /* the line before is not wanted any more */
-    event(record[0], record[1], value >= 32768 ? value - 65536 : value);
-    return (const char *)out;
-}
 
 /* Takes a request apart and puts its bench up, as it is when its records have
  * run.  Gives NULL, or what is to be said of a request that is none: R5 for a

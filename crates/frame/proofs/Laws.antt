@@ -8,7 +8,7 @@ use native.Mathlib.Omega.{arith}
 use borrow.Author.Tests.{lt-ltb, le-ltb, eq-eqb, ne-eqb}
 use lib.Dec.{eqb, ltb}
 use lib.ListN.{length, getD, set, take, drop, replicate, length-drop}
-use lib.Seq.{sets, getD-drop, getD-append-add, length-take-le}
+use lib.Seq.{sets, sets-eq, take-append-seam, getD-drop, getD-append-add, length-take-le}
 use Rattle.lists.specs.Each.{allOf, filled, filled-step}
 use Rattle.lists.specs.Tests.{by-test, cond-cases}
 use Rattle.rules.specs.declared.Bus.{Bus}
@@ -90,3 +90,7 @@ keep-step d u from i e h =
     let f : getD (filled d (drop from d) i) (from + i) 0 ≡ getD (drop from d) i 0 =
     filled-later d (drop from d) i (from + i) (omega arith) (omega arith) ∙ sym (getD-drop from d i 0) in
     ap₂ (λ (v : List ℕ) (x : ℕ). set v i x) e (ap (λ (v : List ℕ). getD v (from + i) 0) e ∙ f) ∙ filled-step d (drop from d) i 0 (omega arith) l
+
+-- what was put at the front of the output and is written from there
+pub written : (out ls : List ℕ) → length ls ≤ length out → take (length ls) (sets out 0 ls) ≡ ls
+written out ls h = ap (take (length ls)) (sets-eq ls out 0 (omega arith)) ∙ take-append-seam ls (drop (0 + length ls) out)

@@ -1,21 +1,24 @@
--- Laws of the answers' lines.
+-- Laws of the answers' lines and of numbers: texts put one behind the other, how long they are, and each branch of the code in the definition's words.
 -- Assumes nothing.
 use mathlib.Core.Path.{_≡_, refl, sym, _∙_, ap}
-use mathlib.Core.List.{List, [], _∷_}
-use Prim.Native.Nat.{ℕ, _+_, _/_, _%_, _≤_}
+use mathlib.Core.List.{List, [], _∷_, _++_}
+use Prim.Native.Nat.{ℕ, _+_, _/_, _%_, _≤_, _<_}
 use native.Mathlib.Nat.{zero-add}
 use native.Mathlib.Omega.{arith}
-use lib.ListN.{length}
+use lib.ListN.{length, length-append}
 use lib.Seq.{sets}
 use denote.Enum.Declared.{tagOf}
 use types.Run.{OneOf, miss}
+use Rattle.lists.specs.Stores.{sets-append}
 use Rattle.rules.proofs.Answer.{the-type}
 use Rattle.rules.specs.declared.Answer.{Answer}
 use Rattle.rules.specs.declared.Answer.the-variants.{Nothing, Ack, Nack, Data, Refused}
 use Rattle.rules.specs.declared.Refusal.{Refusal}
 use Rattle.rules.specs.declared.Refusal.the-variants.{MemoryLength, UnknownKind, WrongSlot, WrongValue, WrongSetup, WrongState, ProtectedPage}
 use Rattle.rules.specs.Events.{letterOf, refusalNumber}
-use Rattle.letters.specs.Letters.{hexDigit, digitsOf, lineOf, refusalLine}
+use Rattle.letters.specs.Decimal.{digit, decimal}
+use Rattle.letters.specs.Letters.{hexDigit, digitsOf, answerText, lineOf, refusalLine}
+use Rattle.letters.proofs.Decimal.{decimal-one, decimal-more}
 
 -- a refusal's number is a digit
 refusal-small : (r : Refusal) → refusalNumber r ≤ 7
@@ -31,28 +34,63 @@ refusal-small ProtectedPage = omega arith
 pub digit-small : (r : Refusal) (n : ℕ) → n ≡ refusalNumber r → n ≤ 7
 digit-small r n e = omega (arith, refusal-small r)
 
--- a line has at most four bytes
-pub line-length : (a : Answer) → length (lineOf a) ≤ 4
-unfolding lineOf digitsOf
-line-length Nothing = omega arith
-line-length Ack = omega arith
-line-length Nack = omega arith
-line-length (Data b) = omega arith
-line-length (Refused r) = omega arith
+-- a text put at a place, and another right behind it: together they are put there
+abbrev pub Put : List ℕ → ℕ → List ℕ → ℕ → List ℕ → Type 0
+Put out at text end o = (end ≡ at + length text) × (o ≡ sets out at text)
 
--- the line of a byte that was read
+pub put-on : (out o p : List ℕ) (at mid end : ℕ) (x y : List ℕ) → Put out at x mid o → Put o mid y end p → Put out at (x ++ y) end p
+put-on out o p at mid end x y f g = (
+  omega (arith, length-append x y),
+  g .1 ∙ ap (λ (l : List ℕ). sets l mid y) (f .1) ∙ ap (λ k. sets (sets out at x) k y) (f .0) ∙ sym (sets-append out at x y),
+)
+
+-- at the beginning the place after a text is its length
+pub at-front : (out o : List ℕ) (end : ℕ) (x : List ℕ) → Put out 0 x end o → (end ≡ length x) × (o ≡ sets out 0 x)
+at-front out o end x p = (p .0 ∙ zero-add (length x), p .1)
+
+-- an answer has at most three characters, and its line a line's end more
+pub answer-length : (a : Answer) → length (answerText a) ≤ 3
+unfolding digitsOf
+answer-length Nothing = omega arith
+answer-length Ack = omega arith
+answer-length Nack = omega arith
+answer-length (Data b) = omega arith
+answer-length (Refused r) = omega arith
+
+pub line-length : (a : Answer) → length (lineOf a) ≤ 4
+unfolding lineOf
+line-length a = rw (length-append (answerText a) (0x0A ∷ [])) (omega (arith, answer-length a))
+
+-- a byte that was read
 pub data-by : (a : Answer) (b x y at end : ℕ) (out o : List ℕ) → a ≡ Data b → x ≡ hexDigit (b / 16) → y ≡ hexDigit (b % 16)
-    → (end ≡ at + 4) × (o ≡ sets out at (0x44 ∷ x ∷ y ∷ 0x0A ∷ [])) → (end ≡ at + length (lineOf a)) × (o ≡ sets out at (lineOf a))
-unfolding lineOf digitsOf letterOf
+    → Put out at (0x44 ∷ x ∷ y ∷ []) end o → Put out at (answerText a) end o
+unfolding digitsOf letterOf
 data-by a b x y at end out o e f g p = rw (e, ← f, ← g) p
 
+-- a line: the answer, and the line's end
+pub line-by : (a : Answer) (at mid end : ℕ) (out o p : List ℕ) → Put out at (answerText a) mid o → Put o mid (0x0A ∷ []) end p → Put out at (lineOf a) end p
+unfolding lineOf
+line-by a at mid end out o p f g = put-on out o p at mid end (answerText a) (0x0A ∷ []) f g
+
+-- a number: its only digit, or a tenth of it and the last digit
+pub only-by : (n d at end : ℕ) (out o : List ℕ) → n < 10 → d ≡ digit n → Put out at (d ∷ []) end o → Put out at (decimal n) end o
+only-by n d at end out o h e p = rw (decimal-one n h, ← e) p
+
+pub digit-by : (n d at mid end : ℕ) (out o p : List ℕ) → 10 ≤ n → d ≡ digit n → Put out at (decimal (n / 10)) mid o → Put o mid (d ∷ []) end p
+    → Put out at (decimal n) end p
+digit-by n d at mid end out o p h e f g = rw (decimal-more n h, ← e) (put-on out o p at mid end (decimal (n / 10)) (d ∷ []) f g)
+
+-- a number of several digits has one more than a tenth of it
+pub more-room : (n : ℕ) → 10 ≤ n → length (decimal n) ≡ length (decimal (n / 10)) + 1
+more-room n h = rw (decimal-more n h) (length-append (decimal (n / 10)) (digit n ∷ []))
+
 -- a refusal's line
-pub refusal-by : (a : Answer) (r : Refusal) (end : ℕ) (out o : List ℕ) → a ≡ Refused r → (end ≡ 0 + length (lineOf a)) × (o ≡ sets out 0 (lineOf a))
+pub refusal-by : (a : Answer) (r : Refusal) (end : ℕ) (out o : List ℕ) → a ≡ Refused r → Put out 0 (lineOf a) end o
     → (end ≡ length (refusalLine a)) × (o ≡ sets out 0 (refusalLine a))
 unfolding refusalLine
 refusal-by a r end out o e p =
     let q : refusalLine a ≡ lineOf a = rw e in
-    (p .0 ∙ zero-add (length (lineOf a)) ∙ ap length (sym q), p .1 ∙ ap (sets out 0) (sym q))
+    rw q (at-front out o end (lineOf a) p)
 
 -- any other answer, by its place among the variants, has none
 pub other-line : (a : Answer) → OneOf (0 ∷ 1 ∷ 2 ∷ 3 ∷ []) (tagOf the-type a) → refusalLine a ≡ []

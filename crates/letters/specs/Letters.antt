@@ -20,8 +20,11 @@ digitsOf (Data b) = hexDigit (b / 16) ∷ hexDigit (b % 16) ∷ []
 digitsOf (Refused r) = (0x30 + refusalNumber r) ∷ []
 
 -- "One line for each event: `A`, `N`, `D` and two hex digits in capitals, `-`, or `R` and the number. Each line ends with 0Ah."
+abbrev pub answerText : Answer → List ℕ
+answerText a = letterOf a ∷ digitsOf a
+
 unfoldable pub lineOf : Answer → List ℕ
-lineOf a = letterOf a ∷ digitsOf a ++ 0x0A ∷ []
+lineOf a = answerText a ++ 0x0A ∷ []
 
 -- "An incomplete setup or record gives the last line `short`."
 abbrev pub shortLine : List ℕ

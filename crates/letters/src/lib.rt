@@ -1,11 +1,12 @@
-// The answers as lines, put into a lent output: the paper's letters, digits and numbers.
+// The answers as lines, put into a lent output: the paper's letters, digits and numbers; and numbers in decimal.
 ghost use mathlib.Core.Path.{_≡_};
 ghost use mathlib.Core.List.{_∷_, []};
 ghost use Prim.Native.Nat.{_+_, _≤_, _<_};
 ghost use lib.ListN.{length};
 ghost use lib.Seq.{sets};
 ghost use Rattle.rules.specs.Events.{refusalNumber};
-ghost use Rattle.letters.specs.Letters.{hexDigit, lineOf, shortLine, refusalLine};
+ghost use Rattle.letters.specs.Decimal.{digit, decimal};
+ghost use Rattle.letters.specs.Letters.{hexDigit, answerText, lineOf, shortLine, refusalLine};
 use rules::Answer;
 use rules::Refusal;
 
@@ -32,41 +33,57 @@ fn number_of(r: Refusal) -> u8
     }
 }
 
-// A line of one, two or three characters, put at a place; the place after it.
+// One, two or three characters, put at a place; the place after them.
 pub fn put_one(out: &mut [u8], at: usize, a: u8) -> usize
-    requires { ⌜ at + 4 ≤ length (now out) ⌝ }
-    ensures { λ r. ⌜ (r ≡ at + 2) × (now (out .exit) ≡ sets (now (out .entry)) at (a ∷ 10 ∷ [])) ⌝ }
+    requires { ⌜ at + 1 ≤ length (now out) ⌝ }
+    ensures { λ r. ⌜ (r ≡ at + 1) × (now (out .exit) ≡ sets (now (out .entry)) at (a ∷ [])) ⌝ }
 {
     out[at] = a;
-    out[at + 1] = b'\n';
-    at + 2
+    at + 1
 }
 
 pub fn put_two(out: &mut [u8], at: usize, a: u8, b: u8) -> usize
-    requires { ⌜ at + 4 ≤ length (now out) ⌝ }
-    ensures { λ r. ⌜ (r ≡ at + 3) × (now (out .exit) ≡ sets (now (out .entry)) at (a ∷ b ∷ 10 ∷ [])) ⌝ }
+    requires { ⌜ at + 2 ≤ length (now out) ⌝ }
+    ensures { λ r. ⌜ (r ≡ at + 2) × (now (out .exit) ≡ sets (now (out .entry)) at (a ∷ b ∷ [])) ⌝ }
 {
     out[at] = a;
     out[at + 1] = b;
-    out[at + 2] = b'\n';
-    at + 3
+    at + 2
 }
 
 pub fn put_three(out: &mut [u8], at: usize, a: u8, b: u8, c: u8) -> usize
-    requires { ⌜ at + 4 ≤ length (now out) ⌝ }
-    ensures { λ r. ⌜ (r ≡ at + 4) × (now (out .exit) ≡ sets (now (out .entry)) at (a ∷ b ∷ c ∷ 10 ∷ [])) ⌝ }
+    requires { ⌜ at + 3 ≤ length (now out) ⌝ }
+    ensures { λ r. ⌜ (r ≡ at + 3) × (now (out .exit) ≡ sets (now (out .entry)) at (a ∷ b ∷ c ∷ [])) ⌝ }
 {
     out[at] = a;
     out[at + 1] = b;
     out[at + 2] = c;
-    out[at + 3] = b'\n';
-    at + 4
+    at + 3
 }
 
-// An answer's line, put at a place; the place after it.
-pub fn put_line(out: &mut [u8], at: usize, a: Answer) -> usize
-    requires { ⌜ at + 4 ≤ length (now out) ⌝ }
-    ensures { λ r. ⌜ (r ≡ at + length (lineOf a)) × (now (out .exit) ≡ sets (now (out .entry)) at (lineOf a)) ⌝ }
+// A number's last decimal digit.
+fn last_digit(n: usize) -> u8
+    ensures { λ r. ⌜ r ≡ digit n ⌝ }
+{
+    0x30 + (n % 10) as u8
+}
+
+// A number in decimal, put at a place; the place after it. It calls itself for the digits in front of the last, nineteen at most.
+pub fn put_decimal(out: &mut [u8], at: usize, n: usize) -> usize
+    requires { ⌜ at + length (decimal n) ≤ length (now out) ⌝ }
+    ensures { λ r. ⌜ (r ≡ at + length (decimal n)) × (now (out .exit) ≡ sets (now (out .entry)) at (decimal n)) ⌝ }
+{
+    if n <= 9 {
+        return put_one(out, at, last_digit(n));
+    }
+    let end = put_decimal(out, at, n / 10);
+    put_one(out, end, last_digit(n))
+}
+
+// An answer's text without a line's end, put at a place; the place after it.
+pub fn put_answer(out: &mut [u8], at: usize, a: Answer) -> usize
+    requires { ⌜ at + 3 ≤ length (now out) ⌝ }
+    ensures { λ r. ⌜ (r ≡ at + length (answerText a)) × (now (out .exit) ≡ sets (now (out .entry)) at (answerText a)) ⌝ }
 {
     match a {
         Answer::Nothing => put_one(out, at, b'-'),
@@ -75,6 +92,15 @@ pub fn put_line(out: &mut [u8], at: usize, a: Answer) -> usize
         Answer::Data(b) => put_three(out, at, b'D', hex_digit(b / 16), hex_digit(b % 16)),
         Answer::Refused(r) => put_two(out, at, b'R', 0x30 + number_of(r)),
     }
+}
+
+// An answer's line, put at a place; the place after it.
+pub fn put_line(out: &mut [u8], at: usize, a: Answer) -> usize
+    requires { ⌜ at + 4 ≤ length (now out) ⌝ }
+    ensures { λ r. ⌜ (r ≡ at + length (lineOf a)) × (now (out .exit) ≡ sets (now (out .entry)) at (lineOf a)) ⌝ }
+{
+    let end = put_answer(out, at, a);
+    put_one(out, end, b'\n')
 }
 
 // `short`, put at the beginning; the place after it.

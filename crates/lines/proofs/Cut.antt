@@ -1,30 +1,17 @@
 -- A run may be fed in pieces, also where a record is cut between two of them: what is left of one piece goes in front of the next.
 -- Assumes nothing.
-use Prim.Native.Nat.{ℕ, zero, suc, _+_, _*_, _/_, _%_, _<_, _≤_}
+use Prim.Native.Nat.{ℕ, zero, suc, _+_, _*_, _/_, _%_, _≤_}
 use native.Mathlib.Nat.{add-zero, add-suc}
 use native.Mathlib.Omega.{arith}
 use mathlib.Core.Path.{_≡_, refl, sym, _∙_, ap, ap₂}
 use mathlib.Core.List.{List, _++_, append-nil, append-assoc}
-use lib.ListN.{length, getD, drop, length-append, length-drop, List·getD-append}
-use lib.Seq.{getD-drop, drop-append-le}
+use lib.ListN.{length, drop, length-append, length-drop}
+use lib.Seq.{drop-append-le}
 use Rattle.rules.specs.Runs.{Bench, next, answered}
-use Rattle.records.specs.Records.{valueAt, recordAt}
+use Rattle.records.specs.Records.{recordAt}
+use Rattle.records.proofs.Laws.{record-first, record-later}
 use Rattle.letters.specs.Letters.{lineOf}
 use Rattle.lines.specs.Script.{recordsIn, leftOf, benchTo, linesTo, ending}
-
--- a record is its four bytes
-same-record : (p q : List ℕ) (i j : ℕ) → ((k : ℕ) → k < 4 → getD p (i + k) 0 ≡ getD q (j + k) 0) → recordAt p i ≡ recordAt q j
-unfolding recordAt
-same-record p q i j h =
-    let a : getD p i 0 ≡ getD q j 0 = sym (ap (λ n. getD p n 0) (add-zero i)) ∙ h 0 (omega arith) ∙ ap (λ n. getD q n 0) (add-zero j) in
-    λ t. record { kind = a t; slot = record { 0 = h 1 (omega arith) t }; value = valueAt (h 2 (omega arith) t) (h 3 (omega arith) t) }
-
--- records of a first piece, and records further on
-record-first : (p q : List ℕ) (i : ℕ) → i + 4 ≤ length p → recordAt (p ++ q) i ≡ recordAt p i
-record-first p q i h = same-record (p ++ q) p i i (λ k l. List·getD-append p q 0 (i + k) (omega arith))
-
-record-later : (p : List ℕ) (n i : ℕ) → recordAt (drop n p) i ≡ recordAt p (n + i)
-record-later p n i = same-record (drop n p) p i (n + i) (λ k l. getD-drop n p (i + k) 0 ∙ ap (λ m. getD p m 0) (omega arith))
 
 -- how many records two pieces have
 count-cut : (p q : List ℕ) → length (p ++ q) / 4 ≡ length p / 4 + length (drop (4 * (length p / 4)) p ++ q) / 4

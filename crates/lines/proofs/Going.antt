@@ -22,7 +22,8 @@ use Rattle.letters.specs.Letters.{lineOf}
 use Rattle.lines.specs.Script.{recordsIn, benchTo, linesTo}
 use Rattle.lines.specs.Steps.{runOf}
 use Rattle.letters.proofs.Laws.{line-length}
-use Rattle.lines.proofs.Laws.{bench-step, lines-step, event-bench, event-answer}
+use Rattle.bus.proofs.Onward.{event-bench, event-answer}
+use Rattle.lines.proofs.Laws.{bench-step, lines-step}
 
 -- bus b, memory m, output out and its end, after k records of bs from the bench x and the output o
 pub record Going (x : Bench) (bs o : List ℕ) (k : ℕ) (b : Bus) (m out : List ℕ) (end : ℕ) : Type 0 where

@@ -1,16 +1,13 @@
 -- Laws for the script's lines: what fits, and lines put one after another.
 -- Assumes nothing.
-use mathlib.Core.Path.{_≡_, refl, sym, _∙_, ap}
+use mathlib.Core.Path.{_≡_, refl, _∙_}
 use mathlib.Core.List.{List, _++_}
 use Prim.Native.Nat.{ℕ, zero, suc, _+_, _-_, _*_, _/_, _%_, _≤_}
 use native.Mathlib.Numerals.{add-one}
 use native.Mathlib.Omega.{arith}
 use lib.ListN.{length, length-append, length-drop}
 use lib.Seq.{sets}
-use Rattle.rules.specs.declared.Bus.{Bus}
-use Rattle.rules.specs.declared.Event.{Event}
-use Rattle.rules.specs.declared.Outcome.{Outcome}
-use Rattle.rules.specs.Runs.{Bench, rulingOn, next, answered, ruledOutcome, eventOf}
+use Rattle.rules.specs.Runs.{Bench, next, answered}
 use Rattle.records.specs.Records.{recordAt}
 use Rattle.letters.specs.Letters.{lineOf}
 use Rattle.lines.specs.Script.{benchTo, linesTo, recordsIn, leftOf}
@@ -40,13 +37,3 @@ lines-length x bs (suc n) =
 pub left-length : (bs : List ℕ) → length (leftOf bs) ≡ length bs % 4
 unfolding leftOf recordsIn
 left-length bs = length-drop (4 * (length bs / 4)) bs ∙ omega arith
-
--- what the public event gives is the next bench and its answer
-module _ (b : Bus) (m : List ℕ) (e : Event) (o : Outcome) (n : List ℕ) (p : eventOf b m e ≡ (o, n)) where
-  pub event-bench : record { bus = o .bus; memory = n } ≡ next e (record { bus = b; memory = m })
-  unfolding eventOf ruledOutcome next rulingOn
-  event-bench = ap (λ (z : Outcome × List ℕ). record { bus = z .0 .bus; memory = z .1 }) (sym p)
-
-  pub event-answer : o .answer ≡ answered e (record { bus = b; memory = m })
-  unfolding eventOf ruledOutcome answered rulingOn
-  event-answer = ap (λ (z : Outcome × List ℕ). z .0 .answer) (sym p)

@@ -3,32 +3,28 @@
 use mathlib.Core.Path.{_≡_, refl, sym, _∙_, ap, ap₂}
 use mathlib.Core.Bool.{false, cond}
 use mathlib.Core.List.{List, [], _∷_, _++_, append-nil, append-assoc}
-use Prim.Native.Nat.{ℕ, zero, suc, _+_, _*_, _/_, _%_, _<_, _≤_}
+use Prim.Native.Nat.{ℕ, _+_, _/_, _%_, _<_, _≤_}
 use native.Mathlib.Nat.{add-zero}
 use native.Mathlib.Omega.{arith}
 use borrow.Author.Tests.{lt-ltb, le-ltb}
 use lib.Dec.{ltb}
-use lib.ListN.{length, getD, take, drop, length-append, List·getD-append}
-use lib.Seq.{sets, sets-eq, length-sets, take-append-seam, take-append-add, drop-append-add}
+use lib.ListN.{length, take, drop, length-append}
+use lib.Seq.{sets, length-sets, take-append-seam, take-append-add, drop-append-add}
 use Rattle.lists.specs.Each.{allOf}
 use Rattle.lists.specs.Tests.{by-test}
 use Rattle.rules.specs.declared.Pair.{Pair}
-use Rattle.rules.specs.Modelled.{slotCount}
 use Rattle.rules.specs.Refusals.{goodPair, setupOf}
 use Rattle.rules.specs.Runs.{Bench}
 use Rattle.lines.specs.declared.Turned.{Turned}
-use Rattle.records.specs.Records.{pairAt, pairsTo, pairsOf}
+use Rattle.records.specs.Records.{pairsOf}
+use Rattle.records.proofs.Laws.{pairs-of}
 use Rattle.lines.specs.Script.{recordsIn, leftOf, benchTo, linesTo, ending, begunAt, scriptOf}
 use Rattle.frame.specs.Frame.{badSetupLine, startingMemory, cutSetup, firstLine, goesOn, firstBus, beginOf, lastLine, finishOf}
 use Rattle.lines.specs.Steps.{runOf, turnOf}
 use Rattle.lines.specs.Program.{Read, readInto, inputOf, Fits, turnsWrite, programWrites}
 use Rattle.lines.proofs.Laws.{lines-length, left-length}
-use Rattle.frame.proofs.Laws.{first-length, last-length}
+use Rattle.frame.proofs.Laws.{first-length, last-length, written}
 use Rattle.lines.proofs.Cut.{lines-cut, ending-cut}
-
--- what was put at the front of the output and is written from there
-pub written : (out ls : List ℕ) → length ls ≤ length out → take (length ls) (sets out 0 ls) ≡ ls
-written out ls h = ap (take (length ls)) (sets-eq ls out 0 (omega arith)) ∙ take-append-seam ls (drop (0 + length ls) out)
 
 -- fewer than four bytes are no record
 no-record : (x : Bench) (h : List ℕ) → length h < 4 → linesTo x h (recordsIn h) ≡ []
@@ -94,15 +90,6 @@ turns-whole x buf h out (r ∷ rs) l e room f =
     ∙ ap₂ _++_ (sym (lines-cut x bs more)) (sym (ending-cut bs more))
     ∙ ap (λ (z : List ℕ). linesTo x z (recordsIn z) ++ ending z) (append-assoc h (r .came) more)
 
--- the setup's pairs stand in the first sixteen bytes
-pub pairs-first : (p q : List ℕ) (n : ℕ) → 2 * n ≤ length p → pairsTo (p ++ q) n ≡ pairsTo p n
-unfolding pairsTo pairAt
-pairs-first p q zero h = refl
-pairs-first p q (suc n) h =
-    let a : getD (p ++ q) (2 * n) 0 ≡ getD p (2 * n) 0 = List·getD-append p q 0 (2 * n) (omega arith) in
-    let b : getD (p ++ q) (2 * n + 1) 0 ≡ getD p (2 * n + 1) 0 = List·getD-append p q 0 (2 * n + 1) (omega arith) in
-    ap₂ _++_ (pairs-first p q n (omega arith)) (λ t. record { kind = a t; length = b t } ∷ [])
-
 -- what is written is the first line, and where it goes on what follows
 writes-by : (head buf out : List ℕ) (rs : List Read) → 6 ≤ length out
     → programWrites head rs buf out ≡ firstLine head ++ cond (goesOn head) (turnsWrite (firstBus head) startingMemory buf 0 (sets out 0 (firstLine head)) rs) []
@@ -118,12 +105,11 @@ writes-cut head buf out rs l room = writes-by head buf out rs room ∙ rw (lt-lt
 script-after : (head more : List ℕ) → length head ≡ 16
     → scriptOf (head ++ more)
     ≡ cond (allOf goodPair (pairsOf head)) (linesTo (begunAt (pairsOf head)) more (recordsIn more) ++ ending more) badSetupLine
-unfolding scriptOf pairsOf
+unfolding scriptOf
 script-after head more l =
     let long : ltb (length (head ++ more)) 16 ≡ false = le-ltb (length (head ++ more)) 16 (rw (length-append head more) (omega arith)) in
-    let e : pairsTo (head ++ more) slotCount ≡ pairsTo head slotCount = pairs-first head more slotCount (omega arith) in
     let d : drop 16 (head ++ more) ≡ more = sym (ap (λ n. drop n (head ++ more)) (add-zero (length head) ∙ l)) ∙ drop-append-add head more 0 in
-    rw (long, e, d)
+    rw (long, pairs-of head more l, d)
 
 -- the turns after a good setup
 good-setup : (ps : List Pair) (buf out : List ℕ) (rs : List Read) → 6 ≤ length out → Fits (length out) 0 rs

@@ -2,25 +2,13 @@
 -- alone".
 -- Assumes nothing.
 use Prim.Native.Nat.{ℕ, zero, suc, _+_, _*_, _/_, _%_}
-use mathlib.Core.Bool.{cond}
 use mathlib.Core.List.{List, [], _∷_, _++_}
-use lib.Dec.{ltb}
 use lib.ListN.{getD}
 use Rattle.rules.specs.declared.Answer.the-variants.{Refused}
+use Rattle.letters.specs.Decimal.{decimal}
 use Rattle.letters.specs.Letters.{hexDigit, lineOf}
 use Rattle.planner.specs.declared.Planned.{Planned}
 use Rattle.planner.specs.declared.Planned.the-variants.{Records, Refused as NotPlanned}
-
--- in decimal: the last digit of a number, and a number below ten thousand with no zeros in front. A buffer of 4,096 bytes holds 1,024 records.
-unfoldable pub digit : ℕ → ℕ
-digit n = 0x30 + n % 10
-
-unfoldable pub decimal : ℕ → List ℕ
-decimal n =
-    cond (ltb n 10) (digit n ∷ [])
-    (cond (ltb n 100) (digit (n / 10) ∷ digit n ∷ [])
-    (cond (ltb n 1000) (digit (n / 100) ∷ digit (n / 10) ∷ digit n ∷ [])
-    (digit (n / 1000) ∷ digit (n / 100) ∷ digit (n / 10) ∷ digit n ∷ [])))
 
 -- "the number of records on a line"
 unfoldable pub countLine : ℕ → List ℕ

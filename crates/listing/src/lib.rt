@@ -1,57 +1,22 @@
 // What the plan program writes for a result of the planner, put at the front of a lent output: the number of records and the records as lines, or
-// the refusal's line. The `requires` are about the sizes of the buffers; the program meets them, and is proved to.
+// the refusal's line. The `requires` are about the sizes of the buffers and the number of records; the program meets them, and is proved to.
 ghost use mathlib.Core.Path.{_≡_};
-ghost use mathlib.Core.List.{_∷_, []};
 ghost use Prim.Native.Nat.{_+_, _*_, _≤_, _<_};
 ghost use lib.ListN.{length};
 ghost use lib.Seq.{sets};
 ghost use Rattle.planner.specs.Plan.{planValue};
 ghost use Rattle.planner.specs.declared.Planned.the-variants.{Records};
-ghost use Rattle.listing.specs.Listing.{digit as Listing·digit, countLine, hexByte, recordLine, recordLines, textOf};
+ghost use Rattle.listing.specs.Listing.{countLine, hexByte, recordLine, recordLines, textOf};
 use planner::Planned;
 use rules::Answer;
 
-// A number's last decimal digit.
-fn digit(n: usize) -> u8
-    ensures { λ r. ⌜ r ≡ Listing·digit n ⌝ }
-{
-    0x30 + (n % 10) as u8
-}
-
-// A line of four characters, put at the beginning; the place after it.
-fn put_four(out: &mut [u8], a: u8, b: u8, c: u8, d: u8) -> usize
-    requires { ⌜ 5 ≤ length (now out) ⌝ }
-    ensures { λ r. ⌜ (r ≡ 5) × (now (out .exit) ≡ sets (now (out .entry)) 0 (a ∷ b ∷ c ∷ d ∷ 10 ∷ [])) ⌝ }
-{
-    out[0] = a;
-    out[1] = b;
-    out[2] = c;
-    out[3] = d;
-    out[4] = b'\n';
-    5
-}
-
 // The number of records as a line, put at the beginning; the place after it.
 fn put_count(out: &mut [u8], n: usize) -> usize
-    requires { ⌜ 5 ≤ length (now out) ⌝ }
+    requires { ⌜ length (countLine n) ≤ length (now out) ⌝ }
     ensures { λ r. ⌜ (r ≡ length (countLine n)) × (now (out .exit) ≡ sets (now (out .entry)) 0 (countLine n)) ⌝ }
 {
-    if n < 10 {
-        return letters::put_one(out, 0, digit(n));
-    }
-    if n < 100 {
-        return letters::put_two(out, 0, digit(n / 10), digit(n));
-    }
-    if n < 1000 {
-        return letters::put_three(out, 0, digit(n / 100), digit(n / 10), digit(n));
-    }
-    put_four(
-        out,
-        digit(n / 1000),
-        digit(n / 100),
-        digit(n / 10),
-        digit(n),
-    )
+    let end = letters::put_decimal(out, 0, n);
+    letters::put_one(out, end, b'\n')
 }
 
 // A byte as two hexadecimal digits, put at a place.
@@ -90,7 +55,7 @@ fn put_records(out: &mut [u8], at: usize, records: &[u8], count: usize) -> usize
 
 // A plan: the number of its records, and their lines; the place after them.
 fn put_counted(out: &mut [u8], records: &[u8], count: usize) -> usize
-    requires { ⌜ (5 + 9 * count ≤ length (now out)) × (4 * count ≤ length (now records)) ⌝ }
+    requires { ⌜ (count < 10000) × (5 + 9 * count ≤ length (now out)) × (4 * count ≤ length (now records)) ⌝ }
     ensures { λ r. ⌜ (r ≡ length (textOf (Records count) (now (records .entry)))) × (now (out .exit) ≡ sets (now (out .entry)) 0 (textOf (Records count) (now (records .entry)))) ⌝ }
 {
     let at = put_count(out, count);
@@ -99,7 +64,7 @@ fn put_counted(out: &mut [u8], records: &[u8], count: usize) -> usize
 
 // What the planner gave, with the records that it put at the front of its buffer, as it is written; the place after it.
 pub fn put_plan(out: &mut [u8], p: Planned, records: &[u8]) -> usize
-    requires { ⌜ (5 + 9 * planValue p ≤ length (now out)) × (4 * planValue p ≤ length (now records)) ⌝ }
+    requires { ⌜ (planValue p < 10000) × (5 + 9 * planValue p ≤ length (now out)) × (4 * planValue p ≤ length (now records)) ⌝ }
     ensures { λ r. ⌜ (r ≡ length (textOf p (now (records .entry)))) × (now (out .exit) ≡ sets (now (out .entry)) 0 (textOf p (now (records .entry)))) ⌝ }
 {
     match p {

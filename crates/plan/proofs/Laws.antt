@@ -13,7 +13,7 @@ use Rattle.rules.specs.declared.SlotNo.{SlotNo}
 use Rattle.rules.specs.Runs.{Bench}
 use Rattle.letters.specs.Letters.{shortLine}
 use Rattle.planner.specs.declared.Planned.{Planned}
-use Rattle.planner.specs.Plan.{bufferBytes, planOf}
+use Rattle.planner.specs.Plan.{bufferBytes, planOf, planValue}
 use Rattle.listing.specs.Listing.{textOf}
 use Rattle.listing.proofs.Laws.{text-length}
 use Rattle.plan.specs.Asked.{planText, lastText, jobBytes, endText, answerOf}
@@ -39,7 +39,8 @@ plan-length : (x : Bench) (k : SlotNo) (image : List ℕ) → length (planText x
 unfolding planText
 plan-length x k image =
     let p : Planned × List ℕ = planOf (x .bus) (x .memory) k image (replicate bufferBytes 0) in
-    omega (arith, text-length (p .0) (p .1), plan-fits (x .bus) (x .memory) k image (replicate bufferBytes 0) (p .1) (p .0) refl)
+    let f : planValue (p .0) ≤ 811 = plan-fits (x .bus) (x .memory) k image (replicate bufferBytes 0) (p .1) (p .0) refl in
+    omega (arith, text-length (p .0) (p .1) (omega arith))
 
 pub text-fits : (x : Bench) (k : SlotNo) (image : List ℕ) (came left : ℕ) → length (endText x k image came left) ≤ 9000
 unfolding endText lastText

@@ -13,19 +13,19 @@ use Rattle.lists.specs.Each.{allOf}
 use Rattle.lists.specs.Tests.{by-test}
 use Rattle.rules.specs.declared.Bus.{Bus}
 use Rattle.rules.specs.declared.SlotNo.{SlotNo}
-use Rattle.rules.specs.Modelled.{slotCount}
 use Rattle.rules.specs.Refusals.{goodPair, setupOf}
 use Rattle.rules.specs.Runs.{Bench}
 use Rattle.records.specs.Records.{pairsOf}
+use Rattle.records.proofs.Laws.{pairs-of}
 use Rattle.letters.specs.Letters.{shortLine}
 use Rattle.frame.specs.Frame.{cutSetup, firstLine, goesOn, firstBus, beginOf}
-use Rattle.frame.proofs.Laws.{first-length}
+use Rattle.frame.proofs.Laws.{first-length, written}
 use Rattle.lines.specs.Script.{recordsIn, leftOf, benchTo, linesTo}
 use Rattle.lines.specs.Steps.{turnOf}
 use Rattle.lines.specs.Program.{Read, readInto, inputOf}
 use Rattle.lines.proofs.Laws.{left-length}
 use Rattle.lines.proofs.Cut.{bench-cut}
-use Rattle.lines.proofs.Whole.{After, written, turn-come, pairs-first}
+use Rattle.lines.proofs.Whole.{After, turn-come}
 use Rattle.plan.specs.Asked.{endText, answerOf, askedBench, answerTo, writtenFor}
 use Rattle.plan.specs.Program.{Ran, turnsLeave, begun, serveWrites, planWrites}
 use Rattle.plan.specs.Went.{Served}
@@ -76,11 +76,6 @@ pub writes-cut-setup : (head m slot image buf out : List ℕ) (rs : List Read) �
     → planWrites head m slot image rs buf out ≡ writtenFor head
 unfolding firstLine goesOn cutSetup writtenFor
 writes-cut-setup head m slot image buf out rs l room = writes-by head m slot image buf out rs room ∙ rw (lt-ltb (length head) 16 l)
-
--- the setup's pairs, and what is written for a whole setup with anything behind it
-pairs-of : (head more : List ℕ) → length head ≡ 16 → pairsOf (head ++ more) ≡ pairsOf head
-unfolding pairsOf
-pairs-of head more l = pairs-first head more slotCount (omega arith)
 
 -- what is written after a good setup and the records
 serve-ends : (b : Bus) (m slot image buf out : List ℕ) (rs : List Read) → 9000 ≤ length out

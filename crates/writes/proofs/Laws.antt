@@ -1,13 +1,13 @@
 -- The definitions in the form in which a function's proof asks for them: a premise for each fact of the way to a return.
 -- Assumes nothing.
-use mathlib.Core.Path.{_≡_, refl, sym, _∙_, ap, ap₂}
+use mathlib.Core.Path.{_≡_, refl, sym, _∙_, ap}
 use mathlib.Core.Bool.{Bool, true, false}
 use mathlib.Core.List.{List, [], _∷_, _++_, map, append-assoc, append-nil}
 use Prim.Native.Nat.{ℕ, _+_, _*_, _<_, _≤_}
 use native.Mathlib.Numerals.{add-one}
 use native.Mathlib.Omega.{arith}
-use lib.ListN.{length, take, drop, length-append, drop-of-length-le}
-use lib.Seq.{take-all}
+use lib.ListN.{length, take, drop, length-append}
+use Rattle.lists.specs.Stores.{all-copied}
 use Rattle.rules.specs.declared.Event.{Event}
 use Rattle.rules.specs.declared.Slot.{Slot}
 use Rattle.rules.specs.Modelled.{slotBytes}
@@ -16,10 +16,6 @@ use Rattle.planner.proofs.Pages.{page-length}
 use Rattle.laying.specs.Laid.{laidAt, exchanging}
 use Rattle.planner.proofs.Count.{length-writing}
 use Rattle.laying.proofs.Laws.{laid-none, laid-then, laid-count, length-exchange, length-selecting}
-
--- bytes copied over as many, or fewer
-pub all-copied : (all part own : List ℕ) → all ≡ take (length part) part ++ drop (length part) own → length own ≤ length part → all ≡ part
-all-copied all part own e h = e ∙ ap₂ _++_ (take-all (length part) part (omega arith)) (drop-of-length-le own h) ∙ append-nil part
 
 -- what a page's write sends: the counter, and behind it the page
 pub sent-by : (all part own image : List ℕ) (c p : ℕ) → all ≡ take (length part) part ++ drop (length part) own → part ≡ pageAt p image → length own ≤ 16

@@ -1,4 +1,4 @@
--- Four stores in a row.
+-- Three stores in a row.
 -- Assumes nothing.
 use mathlib.Core.Path.{refl, _≡_}
 use Prim.Native.Nat.{suc, _+_}
@@ -18,7 +18,5 @@ put-three-spec =
     (λ c. search needs)
     (λ c. rw (length-set, length-set) (omega arith))
     (λ c. search needs)
-    (λ c. rw (length-set, length-set, length-set) (omega arith))
     (λ c. search needs)
-    (λ c. search needs)
-    (λ c. let n = c .args .at in let e : n + 1 ≡ suc n = omega arith in let f : n + 2 ≡ suc (suc n) = omega arith in let g : n + 3 ≡ suc (suc (suc n)) = omega arith in (refl, rw (e, f, g))))
+    (λ c. let n = c .args .at in let e : n + 1 ≡ suc n = omega arith in let f : n + 2 ≡ suc (suc n) = omega arith in (refl, rw (e, f))))

@@ -1,4 +1,4 @@
--- Three stores in a row.
+-- Two stores in a row.
 -- Assumes nothing.
 use mathlib.Core.Path.{refl, _≡_}
 use Prim.Native.Nat.{suc, _+_}
@@ -16,7 +16,5 @@ put-two-spec =
     (λ c. search needs)
     (λ c. rw length-set (omega arith))
     (λ c. search needs)
-    (λ c. rw (length-set, length-set) (omega arith))
     (λ c. search needs)
-    (λ c. search needs)
-    (λ c. let n = c .args .at in let e : n + 1 ≡ suc n = omega arith in let f : n + 2 ≡ suc (suc n) = omega arith in (refl, rw (e, f))))
+    (λ c. let e : c .args .at + 1 ≡ suc (c .args .at) = omega arith in (refl, rw e)))

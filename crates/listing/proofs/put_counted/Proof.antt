@@ -10,7 +10,7 @@ pub put-counted-spec : {M : Type 1} → statement M
 put-counted-spec =
     tie.close
     (tie.spec
-    (λ c κs. search needs)
-    (λ c κs. (omega (arith, count-length (c .before .before .before .before .before .before .before .args .count)), search needs))
+    (λ c κs. omega (arith, count-length (c .before .before .before .args .count) (omega arith)))
+    (λ c κs. (omega (arith, count-length (c .before .before .before .before .before .before .before .args .count) (omega arith)), search needs))
     (λ c. search needs)
     (λ c. records-by _ _ _ _ (c .before .before .before .before .before .before .before .before .before .before .args .out .now) _ _ (c .before .before .before .before .before .before .put-count .ensures) (c .before .before .put-records .ensures)))

@@ -2,7 +2,7 @@
 -- Assumes nothing.
 use native.Mathlib.Omega.{arith}
 use borrow.Author.Needs.{needs}
-use Rattle.writes.proofs.Laws.{all-copied}
+use Rattle.lists.specs.Stores.{all-copied}
 use Rattle.single.proofs.copied.Statement.{statement}
 use Rattle.single.proofs.copied.Tie as tie
 

@@ -1,0 +1,5 @@
+pub mod Cut
+pub mod Answer
+pub mod First
+pub mod Pieces
+pub mod Promise

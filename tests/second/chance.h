@@ -1,0 +1,26 @@
+/*
+ * Chance that is the same for the same seed (splitmix for the seed, then
+ * xorshift).  Included by generate.c, replan.c and recapture.c.
+ */
+static unsigned long long state;
+
+static inline void seed_with(unsigned long long seed)
+{
+    seed += 0x9E3779B97F4A7C15ULL;
+    seed = (seed ^ seed >> 30) * 0xBF58476D1CE4E5B9ULL;
+    seed = (seed ^ seed >> 27) * 0x94D049BB133111EBULL;
+    state = (seed ^ seed >> 31) | 1;
+}
+
+static inline int below(int n)
+{
+    state ^= state >> 12;
+    state ^= state << 25;
+    state ^= state >> 27;
+    return (int)((state * 0x2545F4914F6CDD1DULL >> 33) % (unsigned)n);
+}
+
+static inline int between(int low, int high) { return low + below(high - low + 1); }
+static inline int one_in(int n) { return below(n) == 0; }
+
+#define ONE_OF(array) ((array)[below((int)(sizeof (array) / sizeof (array)[0]))])
