@@ -1,10 +1,16 @@
-# The words of the case files (cases/README.md): events and setup lines, read into the script's bytes.
-# Shared by tests/case and tests/plans, which put their own part behind this one; it does nothing by itself.
+# The words of the case files (cases/README.md): setup lines, events and answers, read into the script's bytes, and told from them.
+# Shared by tests/case, tests/plans and door/capture, which put their own part behind this one; it does nothing by itself.
 #
+#   parted()          the line in $0: `left` -> `right`, `arrow` where there is one, `note` the comment; 0 if that is all
+#   setupwords(line)  a line `slot ...` or `setup ...`
+#   setupbytes()      the setup as octal escapes, when all such lines are read; kind[] and size[] have the pairs that are told
 #   event(part)       one event, or one of the short forms: its records go to the end of `input`, as octal escapes of printf; for each,
 #                     told[++nline] has its words, code[nline] its bytes in hex, counted[nline] the answer that a short form counts on
-#   setupwords(line)  a line `slot ...` or `setup ...`
-#   setupbytes()      the setup as octal escapes, when all such lines are read
+#   event_list(left)  the events of a line, parted by ;   nline is then their number
+#   answer_list(right, others, names)   the answers of a line, in want[1..nwant]; `others`, a pattern, are those besides - A N and bytes
+#   match_list()      the answer to each event of the line, in due[1..nline]
+#   record_words(kind, slot, val)   what a record is taken for; cells that are ignored are not told
+#   answer_words(a)   an answer, as the programs write it, in words
 #
 # A line that is malformed ends the reading, by bad(sentence): a row B, the line's number, what is wrong there; then `wrong` is set.
 # `cut` is set once the setup or a record was cut short, since nothing can follow that.
@@ -12,6 +18,21 @@
 function bad(sentence) { if (!wrong) printf "B\t%d\t%s\n", NR, sentence; wrong = 1; exit }
 function trim(s) { sub(/^ +/, "", s); sub(/ +$/, "", s); return s }
 function octal(b) { return sprintf("\\%03o", b) }
+
+# A line: events, or what else stands on the left, then an arrow and what is answered, then a comment.
+function parted(   text, at) {
+  sub(/\r$/, ""); gsub(/\t/, " ")
+  text = $0; note = right = ""
+  at = index(text, "#")
+  if (at) { note = substr(text, at); text = substr(text, 1, at - 1) }
+  left = text = trim(text)
+  if (text == "") return 0
+  arrow = at = index(text, "->")
+  if (arrow) { left = trim(substr(text, 1, at - 1)); right = trim(substr(text, at + 2)) }
+  if (left == "") bad("answers without an event")
+  if (index(right, "->")) bad("two arrows on one line")
+  return 1
+}
 
 # Numbers: decimal, or hex with an h at the end. `number` leaves its value in the variable value.
 function number(s,   i, low) {
@@ -52,60 +73,60 @@ function spread(w, at, n,   i, j, m, star, times, plain) {
 }
 
 # One event. `sure` is the answer a short form counts on; empty: the answer comes from the right side.
-function add(kind, slot, val, words, sure) {
+function add(kind, slot, val, sure) {
   if (cut) bad("a record was cut short before this event; nothing can follow it")
+  told[++nline] = record_words(kind, slot, val); counted[nline] = sure
   if (val < 0) val += 65536
   input = input octal(kind) octal(slot) octal(int(val / 256)) octal(val % 256)
-  told[++nline] = words; counted[nline] = sure
   code[nline] = sprintf("%02X%02X%04X", kind, slot, val)
 }
 function wants(n, least, most, form) {
   if (n < least || n > most) bad("the form is: " form)
 }
 function reads(count, sure,   i) {
-  for (i = 1; i <= count; i++) add(3, 0, i < count, i < count ? "read ack" : "read nack", sure)
+  for (i = 1; i <= count; i++) add(3, 0, i < count, sure)
 }
 
 function event(part,   w, n, i, k, s, v, bytes, digits, words) {
   n = split(part, w, " ")
-  if (w[1] == "start") { wants(n, 1, 1, "start"); add(1, 0, 0, "start", "") }
-  else if (w[1] == "stop") { wants(n, 1, 1, "stop"); add(4, 0, 0, "stop", "") }
-  else if (w[1] == "timeout") { wants(n, 1, 1, "timeout"); add(5, 0, 0, "timeout", "") }
-  else if (w[1] == "power") { wants(n, 1, 1, "power"); add(8, 0, 0, "power", "") }
+  if (w[1] == "start") { wants(n, 1, 1, "start"); add(1, 0, 0, "") }
+  else if (w[1] == "stop") { wants(n, 1, 1, "stop"); add(4, 0, 0, "") }
+  else if (w[1] == "timeout") { wants(n, 1, 1, "timeout"); add(5, 0, 0, "") }
+  else if (w[1] == "power") { wants(n, 1, 1, "power"); add(8, 0, 0, "") }
   else if (w[1] == "tick") {
     wants(n, 1, 2, "tick, or tick COUNT")
     k = n == 2 ? decimal(w[2], 1, 10000, "count") : 1
-    for (i = 1; i <= k; i++) add(6, 0, 0, "tick", "")
+    for (i = 1; i <= k; i++) add(6, 0, 0, "")
   }
   else if (w[1] == "byte") {
     wants(n, 2, 1000, "byte HEX..., as in: byte A0h 00h")
     n = spread(w, 2, n)
-    for (i = 2; i <= n; i++) { v = hex(w[i], 255, "byte"); add(2, 0, v, "byte " show(v), "") }
+    for (i = 2; i <= n; i++) { v = hex(w[i], 255, "byte"); add(2, 0, v, "") }
   }
   else if (w[1] == "read") {
     wants(n, 2, 2, "read ack, read nack, or read COUNT")
-    if (w[2] == "ack") add(3, 0, 1, "read ack", "")
-    else if (w[2] == "nack") add(3, 0, 0, "read nack", "")
+    if (w[2] == "ack") add(3, 0, 1, "")
+    else if (w[2] == "nack") add(3, 0, 0, "")
     else reads(decimal(w[2], 1, 10000, "count"), "")
   }
   else if (w[1] == "voltage") {
     wants(n, 3, 3, "voltage SLOT on, or voltage SLOT off")
     s = decimal(w[2], 0, 255, "slot number that a record can hold")
     if (w[3] != "on" && w[3] != "off") bad("the form is: voltage SLOT on, or voltage SLOT off")
-    add(7, s, w[3] == "on", "voltage " s " " w[3], "")
+    add(7, s, w[3] == "on", "")
   }
   else if (w[1] == "temperature") {
     wants(n, 3, 3, "temperature SLOT SIXTEENTHS")
     s = decimal(w[2], 0, 255, "slot number that a record can hold")
     v = decimal(w[3], -32768, 32767, "value that a record can hold")
-    add(9, s, v, "temperature " s " " v, "")
+    add(9, s, v, "")
   }
   else if (w[1] == "event") {
     wants(n, 4, 4, "event KIND SLOT VALUE")
     k = any(w[2], 0, 255, "kind that a record can hold")
     s = any(w[3], 0, 255, "slot number that a record can hold")
     v = any(w[4], -32768, 32767, "value that a record can hold")
-    add(k, s, v, "event " k " " s " " v, "")
+    add(k, s, v, ""); told[nline] = "event " k " " s " " v
   }
   else if (w[1] == "raw") {
     wants(n, 2, 1000, "raw BYTE...")
@@ -124,36 +145,36 @@ function event(part,   w, n, i, k, s, v, bytes, digits, words) {
     if (w[3] !~ /:$/) bad("the form is: write SLOT COUNTER: BYTE..., as in: write 0 1Eh: 01h 02h")
     s = decimal(w[2], 0, 7, "slot number"); sub(/:$/, "", w[3]); v = hex(w[3], 255, "counter")
     n = spread(w, 4, n)
-    add(1, 0, 0, "start", "-")
-    add(2, 0, 160 + 2 * s, "byte " show(160 + 2 * s), "A"); add(2, 0, v, "byte " show(v), "A")
-    for (i = 4; i <= n; i++) { v = hex(w[i], 255, "byte"); add(2, 0, v, "byte " show(v), "") }
-    add(4, 0, 0, "stop", "-")
+    add(1, 0, 0, "-")
+    add(2, 0, 160 + 2 * s, "A"); add(2, 0, v, "A")
+    for (i = 4; i <= n; i++) { v = hex(w[i], 255, "byte"); add(2, 0, v, "") }
+    add(4, 0, 0, "-")
   }
   else if (w[1] == "look") {
     wants(n, 4, 4, "look SLOT COUNTER COUNT, as in: look 0 1Eh 2")
     s = decimal(w[2], 0, 7, "slot number"); v = hex(w[3], 255, "counter"); k = decimal(w[4], 1, 10000, "count")
-    add(1, 0, 0, "start", "-")
-    add(2, 0, 160 + 2 * s, "byte " show(160 + 2 * s), "A"); add(2, 0, v, "byte " show(v), "A")
-    add(1, 0, 0, "start", "-")
-    add(2, 0, 161 + 2 * s, "byte " show(161 + 2 * s), "A"); reads(k, "")
-    add(4, 0, 0, "stop", "-")
+    add(1, 0, 0, "-")
+    add(2, 0, 160 + 2 * s, "A"); add(2, 0, v, "A")
+    add(1, 0, 0, "-")
+    add(2, 0, 161 + 2 * s, "A"); reads(k, "")
+    add(4, 0, 0, "-")
   }
   else if (w[1] == "set") {
     wants(n, 4, 4, "set SLOT REGISTER WORD, as in: set 3 02h 0500h")
     s = decimal(w[2], 0, 7, "slot number"); k = hex(w[3], 255, "register"); v = hex(w[4], 65535, "word")
-    add(1, 0, 0, "start", "-")
-    add(2, 0, 48 + 2 * s, "byte " show(48 + 2 * s), "A"); add(2, 0, k, "byte " show(k), "A")
-    add(2, 0, int(v / 256), "byte " show(int(v / 256)), ""); add(2, 0, v % 256, "byte " show(v % 256), "")
-    add(4, 0, 0, "stop", "-")
+    add(1, 0, 0, "-")
+    add(2, 0, 48 + 2 * s, "A"); add(2, 0, k, "A")
+    add(2, 0, int(v / 256), ""); add(2, 0, v % 256, "")
+    add(4, 0, 0, "-")
   }
   else if (w[1] == "get") {
     wants(n, 3, 3, "get SLOT REGISTER, as in: get 3 05h")
     s = decimal(w[2], 0, 7, "slot number"); k = hex(w[3], 255, "register")
-    add(1, 0, 0, "start", "-")
-    add(2, 0, 48 + 2 * s, "byte " show(48 + 2 * s), "A"); add(2, 0, k, "byte " show(k), "A")
-    add(1, 0, 0, "start", "-")
-    add(2, 0, 49 + 2 * s, "byte " show(49 + 2 * s), "A"); reads(2, "")
-    add(4, 0, 0, "stop", "-")
+    add(1, 0, 0, "-")
+    add(2, 0, 48 + 2 * s, "A"); add(2, 0, k, "A")
+    add(1, 0, 0, "-")
+    add(2, 0, 49 + 2 * s, "A"); reads(2, "")
+    add(4, 0, 0, "-")
   }
   else if (w[1] == "slot" || w[1] == "setup") bad("a setup line stands alone, without ;")
   else bad("\"" w[1] "\" is no event")
@@ -176,7 +197,11 @@ function setupwords(left,   w, n, i) {
   } else {
     if (form != "") bad(form == "slot" ? "either slot lines or one setup line, not both" : "a second setup line")
     if (n > 17) bad("a setup has 16 numbers at most, here are " n - 1)
-    for (i = 2; i <= n; i++) setup = setup octal(any(w[i], 0, 255, "setup number"))
+    for (i = 2; i <= n; i++) {
+      setup = setup octal(any(w[i], 0, 255, "setup number"))
+      if (i % 2) size[(i - 3) / 2] = value
+      else kind[(i - 2) / 2] = value
+    }
     if (n < 17) cut = 1
   }
   form = w[1]
@@ -184,4 +209,61 @@ function setupwords(left,   w, n, i) {
 function setupbytes(   i) {
   if (form != "setup") for (i = 0; i < 8; i++) setup = setup octal(kind[i] + 0) octal(size[i] + 0)
   return setup
+}
+
+# ---- the events of a line, and their answers
+function event_list(left,   parts, n, i) {
+  nline = 0
+  if (left ~ /; *;/ || left ~ /^;/ || left ~ /;$/) bad("an empty event: look at the ;")
+  n = split(left, parts, ";")
+  for (i = 1; i <= n; i++) event(trim(parts[i]))
+}
+function answer_list(right, others, names,   w, n, i, j, star, word, times) {
+  n = split(right, w, " "); nwant = 0
+  for (i = 1; i <= n; i++) {
+    word = w[i]; times = 1
+    star = index(word, "*")
+    if (star) { times = decimal(substr(word, star + 1), 1, 10000, "count"); word = substr(word, 1, star - 1) }
+    for (j = 1; j <= times; j++) {
+      if (word ~ /^[-AN]$/ || word ~ others) want[++nwant] = word
+      else if (word ~ /^[0-9A-Fa-f][0-9A-Fa-f]h$/) want[++nwant] = "D" toupper(substr(word, 1, 2))
+      else if (word ~ /^[0-9A-Fa-f][0-9A-Fa-f][0-9A-Fa-f][0-9A-Fa-f]h$/) {
+        want[++nwant] = "D" toupper(substr(word, 1, 2)); want[++nwant] = "D" toupper(substr(word, 3, 2))
+      }
+      else bad("\"" word "\" is no answer (answers: - A N, hex as in 5Ah or 4504h, " names ")")
+    }
+  }
+}
+function match_list(   i, open, next_want) {
+  for (i = 1; i <= nline; i++) if (counted[i] == "") open++
+  if (open + 0 != nwant)
+    bad(nwant (nwant == 1 ? " answer for " : " answers for ") open + 0 (open == 1 ? " event" : " events") (open < nline ? " (write, look, set and get: only their data is answered here)" : ""))
+  for (i = 1; i <= nline; i++) due[i] = counted[i] != "" ? counted[i] : want[++next_want]
+}
+
+# ---- records and answers in words
+function record_words(kind, slot, val,   plain) {
+  if (val >= 32768) val -= 65536
+  split("start - - stop timeout tick - power", plain, " ")
+  if (plain[kind] ~ /[a-z]/) return plain[kind]
+  if (kind == 2 && val >= 0 && val <= 255) return "byte " show(val)
+  if (kind == 3 && (val == 0 || val == 1)) return "read " (val ? "ack" : "nack")
+  if (kind == 7 && (val == 0 || val == 1)) return "voltage " slot " " (val ? "on" : "off")
+  if (kind == 9) return "temperature " slot " " val
+  return "event " kind " " slot " " val
+}
+function answer_words(a) {
+  if (a == "A") return "ACK"
+  if (a == "N") return "NACK"
+  if (a == "-") return "-"
+  if (a ~ /^D[0-9A-F][0-9A-F]$/) return substr(a, 2) "h"
+  if (a == "R1") return "refused: 1 (memory of the wrong length)"
+  if (a == "R2") return "refused: 2 (no such kind of event)"
+  if (a == "R3") return "refused: 3 (no such slot, or no sensor)"
+  if (a == "R4") return "refused: 4 (value out of range)"
+  if (a == "R5") return "refused: 5 (bad setup)"
+  if (a == "R6") return "refused: 6 (state out of range)"
+  if (a == "short") return "short (the input ends too early)"
+  if (a == "nothing") return "no line"
+  return "\"" a "\", which is no answer of the protocol"
 }
