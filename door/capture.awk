@@ -36,7 +36,7 @@ function memory_line(   slot, rest, w, n, i, bytes) {
   rest = left; sub(/^memory */, "", rest)
   slot = rest; sub(/[ :].*/, "", slot)
   rest = substr(rest, length(slot) + 1)
-  if (rest !~ /^ .*[^ ]\.bin$/ && rest !~ /^: *[^ ]/) bad("the form is: memory SLOT FILE.bin, or memory SLOT: BYTE..., as in: memory 0: 23h 11h")
+  if (rest !~ /^[ :] *[^ :]/ || rest ~ /^( +[0-9A-Fa-f]+h(\*[0-9]+)?)+$/) bad("the form is: memory SLOT FILE.bin, or memory SLOT: BYTE..., as in: memory 0: 23h 11h")
   slot = decimal(slot, 0, 7, "slot number")
   if (slot in memory_at) bad("the memory of slot " slot " is told twice")
   memory_at[slot] = NR
