@@ -1,9 +1,10 @@
 -- Request P2, put together: when each verdict is given, of whatever is handed in. Each is given exactly then.
 -- Assumes nothing.
-use Prim.Native.Nat.{ℕ}
+use Prim.Native.Nat.{ℕ, _/_}
+use native.Mathlib.Nat.{zero-add}
 use mathlib.Core.Path.{_≡_, refl, sym, _∙_, ap, ap₂}
 use mathlib.Core.Bool.{true, false, false≢true}
-use mathlib.Core.List.{List, []}
+use mathlib.Core.List.{List, [], _++_}
 use borrow.Author.Tests.{eq-eqb, ne-eqb, eqb-true, eqb-false}
 use lib.Dec.{eqb}
 use lib.ListN.{length}
@@ -17,9 +18,10 @@ use Rattle.rules.specs.Refusals.{wrongLength, goodPair}
 use Rattle.captures.specs.declared.Seen.{Seen}
 use Rattle.captures.specs.declared.Verdict.{Verdict}
 use Rattle.captures.specs.declared.Verdict.the-variants.{Accepted, Differs, Short, Refused}
-use Rattle.captures.specs.Capture.{capturedTo, capturedIn, leftOver, verdictFrom, closed, startOf, verdictOf}
-use Rattle.captures.specs.Agreement.{Alike, First, Begins, isAccepted, isShort, isRefused}
+use Rattle.captures.specs.Capture.{capturedTo, capturedIn, leftOver, verdictFrom, benchFrom, closed, startOf, verdictOf}
+use Rattle.captures.specs.Agreement.{Alike, First, Begins, isAccepted, isShort, isRefused, onward}
 use Rattle.captures.proofs.Cut.{not-accepted}
+use Rattle.captures.proofs.Pieces.{left-pieces, verdict-pieces}
 use Rattle.captures.proofs.First.{accepted-to, accepted-from, differs-to, differs-from, decided}
 
 -- what a verdict was before the bytes left over were looked at
@@ -118,3 +120,14 @@ module _ (ps : List Pair) (m : List ℕ) where
     not-refused b =
         ap isRefused (begun b bs)
         ∙ decided 0 (startOf ps m) (capturedIn bs) (λ f. rw f (cond-cases (λ v. isRefused v ≡ false) (eqb (leftOver bs) 0) (λ e. refl) (λ e. refl))) (λ k a s f. rw f)
+
+  -- "the verdict over pieces, cut between any two records, is the verdict over the whole"
+  pub in-pieces : Begins ps m → (p q : List ℕ) → leftOver p ≡ 0
+      → verdictOf ps m (p ++ q)
+      ≡ closed (leftOver q)
+      (onward (verdictFrom 0 (startOf ps m) (capturedIn p)) (verdictFrom (length p / 6) (benchFrom (startOf ps m) (capturedIn p)) (capturedIn q)))
+  in-pieces b p q h =
+      begun b (p ++ q)
+      ∙ ap₂ closed (left-pieces p q h)
+      (verdict-pieces p q h 0 (startOf ps m)
+      ∙ ap (λ k. onward (verdictFrom 0 (startOf ps m) (capturedIn p)) (verdictFrom k (benchFrom (startOf ps m) (capturedIn p)) (capturedIn q))) (zero-add (length p / 6)))
