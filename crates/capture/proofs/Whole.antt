@@ -1,10 +1,10 @@
 -- The program writes `writtenFor` of its input: the verdict on all of it, whichever pieces it was checked in, and however much of it was read.
 -- Assumes nothing.
-use Prim.Native.Nat.{ℕ, _+_, _/_, _%_, _<_, _≤_}
+use Prim.Native.Nat.{ℕ, _+_, _/_, _<_, _≤_}
 use native.Mathlib.Omega.{arith}
 use mathlib.Core.Path.{_≡_, refl, sym, _∙_, ap, ap₂}
 use mathlib.Core.Bool.{true, false, cond, _&&_}
-use mathlib.Core.List.{List, [], _∷_, _++_, append-nil, append-assoc}
+use mathlib.Core.List.{List, [], _∷_, _++_, append-nil}
 use borrow.Author.Tests.{lt-ltb, le-ltb, ltb-true, ltb-false, eq-eqb}
 use lib.Dec.{eqb, ltb}
 use lib.ListN.{length, take, drop, length-append}
@@ -17,7 +17,6 @@ use Rattle.rules.specs.Refusals.{wrongLength, goodPair, setupOf}
 use Rattle.rules.specs.Runs.{Bench}
 use Rattle.records.specs.Records.{pairsOf}
 use Rattle.records.proofs.Laws.{pairs-of}
-use Rattle.letters.specs.Letters.{shortLine}
 use Rattle.frame.specs.Frame.{cutSetup, firstLine, goesOn, firstBus, beginOf}
 use Rattle.frame.proofs.Laws.{first-length, written}
 use Rattle.captures.specs.declared.Verdict.{Verdict}

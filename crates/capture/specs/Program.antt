@@ -3,13 +3,12 @@
 -- Assumes nothing.
 use Prim.Native.Nat.{ℕ, _+_, _/_, _<_, _≤_}
 use mathlib.Core.Path.{_≡_}
-use mathlib.Core.Bool.{true, false, cond, _&&_}
+use mathlib.Core.Bool.{true, cond, _&&_}
 use mathlib.Core.List.{List, [], _∷_, _++_}
 use lib.Dec.{eqb, ltb}
 use lib.ListN.{length, take}
 use lib.Seq.{sets}
 use Rattle.rules.specs.declared.Bus.{Bus}
-use Rattle.letters.specs.Letters.{shortLine}
 use Rattle.frame.specs.declared.Begun.{Begun}
 use Rattle.frame.specs.Frame.{beginOf}
 use Rattle.captures.specs.declared.Verdict.{Verdict}

@@ -6,14 +6,12 @@ use native.Mathlib.Nat.{add-zero}
 use native.Mathlib.Omega.{arith}
 use mathlib.Core.Path.{_≡_, refl, sym, _∙_, ap, ap₂}
 use mathlib.Core.Bool.{true, false, false≢true}
-use mathlib.Core.List.{List, [], _∷_, _++_, head-eq-of-cons-eq, tail-eq-of-cons-eq}
+use mathlib.Core.List.{List, [], _∷_, head-eq-of-cons-eq, tail-eq-of-cons-eq}
 use lib.ListN.{length}
-use Rattle.lists.specs.Each.{Every}
 use Rattle.lists.specs.Tests.{by-test}
 use Rattle.rules.specs.declared.Answer.{Answer}
 use Rattle.rules.specs.Runs.{Bench, next, answered, after, answers}
 use Rattle.captures.specs.declared.Seen.{Seen}
-use Rattle.captures.specs.declared.Verdict.{Verdict}
 use Rattle.captures.specs.declared.Verdict.the-variants.{Accepted, Differs}
 use Rattle.captures.specs.Capture.{Captured, agrees, verdictFrom, benchFrom}
 use Rattle.captures.specs.Agreement.{eventsOf, asSeen, meant, isRefusal, Alike, First, recordOf, modelOf, seenOf, onward}

@@ -1,6 +1,6 @@
 -- A capture's bytes in pieces of whole records.
 -- Assumes nothing.
-use Prim.Native.Nat.{ℕ, zero, suc, _+_, _*_, _/_, _%_, _≤_, _<_}
+use Prim.Native.Nat.{ℕ, zero, suc, _+_, _*_, _/_, _≤_, _<_}
 use native.Mathlib.Nat.{add-zero, add-suc}
 use native.Mathlib.Omega.{arith}
 use mathlib.Core.Path.{_≡_, refl, sym, _∙_, ap, ap₂}
@@ -10,7 +10,7 @@ use lib.Seq.{getD-append-add}
 use Rattle.rules.specs.Runs.{Bench}
 use Rattle.records.specs.Records.{recordAt}
 use Rattle.records.proofs.Laws.{same-record}
-use Rattle.captures.specs.Capture.{Captured, capturedAt, capturedTo, capturedIn, leftOver, verdictFrom, benchFrom}
+use Rattle.captures.specs.Capture.{capturedAt, capturedTo, capturedIn, leftOver, verdictFrom, benchFrom}
 use Rattle.captures.specs.Agreement.{onward}
 use Rattle.captures.proofs.Cut.{verdict-cut}
 

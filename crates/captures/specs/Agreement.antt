@@ -19,7 +19,7 @@ use Rattle.rules.specs.Runs.{Bench, after, answered, answers}
 use Rattle.captures.specs.declared.Seen.{Seen}
 use Rattle.captures.specs.declared.Verdict.{Verdict}
 use Rattle.captures.specs.declared.Verdict.the-variants.{Accepted, Differs, Short, Refused}
-use Rattle.captures.specs.Capture.{Captured, capturedIn, leftOver, agrees, startOf}
+use Rattle.captures.specs.Capture.{Captured}
 
 -- a capture's events
 unfoldable pub eventsOf : List Captured → List Event

@@ -1,7 +1,7 @@
 -- Each branch of the code gives what the definition says.
 -- Assumes nothing.
 use Prim.Native.Nat.{ℕ, _%_}
-use mathlib.Core.Path.{_≡_, refl, sym, _∙_, ap, ap₂}
+use mathlib.Core.Path.{_≡_, sym, _∙_, ap, ap₂}
 use mathlib.Core.Bool.{true, false, false≢true}
 use mathlib.Core.List.{List, [], _∷_}
 use borrow.Author.Tests.{eq-eqb}
@@ -11,7 +11,6 @@ use types.Run.{OneOf, miss}
 use Rattle.lists.specs.Each.{allOf}
 use Rattle.lists.specs.Tests.{by-test}
 use Rattle.rules.proofs.Answer.{the-type}
-use Rattle.rules.specs.declared.Answer.{Answer}
 use Rattle.rules.specs.declared.Answer.the-variants as answer
 use Rattle.rules.specs.declared.Outcome.{Outcome}
 use Rattle.rules.specs.declared.Pair.{Pair}
@@ -20,7 +19,6 @@ use Rattle.rules.specs.Modelled.{memoryBytes}
 use Rattle.rules.specs.Events.{valueOf, refusalNumber}
 use Rattle.rules.proofs.Range.Judged.{refusalOf, numbered}
 use Rattle.rules.specs.Refusals.{wrongLength, goodPair, setupOf}
-use Rattle.rules.specs.Runs.{Bench}
 use Rattle.captures.specs.declared.Verdict.{Verdict}
 use Rattle.captures.specs.declared.Verdict.the-variants.{Refused}
 use Rattle.captures.specs.Capture.{capturedIn, leftOver, verdictFrom, closed, startOf, verdictOf}

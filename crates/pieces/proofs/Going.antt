@@ -5,9 +5,9 @@ use native.Mathlib.Nat.{add-zero, add-suc}
 use native.Mathlib.Numerals.{add-one}
 use native.Mathlib.Omega.{arith}
 use mathlib.Core.Path.{_≡_, refl, sym, _∙_, ap, ap₂}
-use mathlib.Core.Bool.{Bool, true, false}
-use mathlib.Core.List.{List, [], _∷_, _++_}
-use lib.ListN.{length, getD}
+use mathlib.Core.Bool.{true, false}
+use mathlib.Core.List.{List, [], _∷_}
+use lib.ListN.{length}
 use Rattle.rules.specs.declared.Answer.{Answer}
 use Rattle.rules.specs.declared.Bus.{Bus}
 use Rattle.rules.specs.declared.Event.{Event}
@@ -19,14 +19,12 @@ use Rattle.rules.proofs.Range.Kept.{next-in-range}
 use Rattle.rules.proofs.Memory.Stored.{memory-length-next}
 use Rattle.records.specs.Records.{recordAt}
 use Rattle.captures.specs.declared.Seen.{Seen}
-use Rattle.captures.specs.declared.Verdict.{Verdict}
 use Rattle.captures.specs.declared.Verdict.the-variants.{Accepted, Differs}
 use Rattle.captures.specs.Capture.{Captured, capturedAt, capturedTo, capturedIn, agrees, verdictFrom, benchFrom}
 use Rattle.captures.specs.Agreement.{onward}
 use Rattle.bus.proofs.Onward.{event-bench, event-answer}
 use Rattle.captures.proofs.Cut.{verdict-cut, bench-cut, bench-ended}
 use Rattle.captures.proofs.Pieces.{captured-length}
-use Rattle.pieces.specs.declared.Checked.{Checked}
 use Rattle.pieces.specs.Piece.{pieceOf}
 
 -- bus b and memory m, after k records of bs that agree, from the bench x, where n records went before

@@ -1,7 +1,7 @@
 -- After each turn one record more has been run, and has agreed.
 -- Assumes nothing.
 use mathlib.Core.Path.{_≡_, refl, sym, _∙_}
-use Prim.Native.Nat.{_+_, _≤_, _*_, _/_, _-_}
+use Prim.Native.Nat.{_+_, _≤_, _/_, _-_}
 use native.Mathlib.Omega.{arith}
 use borrow.Author.Needs.{needs}
 use borrow.Author.Tests.{not-true, not-false}
