@@ -23,7 +23,7 @@ fn event(slots: [Slot; 8], mem: &mut [u8], length: usize, e: Event) -> Outcome {
 }
 
 // An event, and what came of it.
-fn act(b: Bench, mem: &mut [u8; 8192], t: [u32; 18]) -> Bench {
+fn act(b: Bench, mem: &mut [u8; 8192], t: [u32; 38]) -> Bench {
     let was = b.slots;
     let old = *mem;
     let out = event(was, mem, b.length, tries::event(t));
@@ -42,23 +42,33 @@ fn block(slots: [Slot; 8], mem: &[u8], length: usize, n: u32, k: u32) {
     told::part(reader::block(&mem[..end], Bus { slots }, s, b));
 }
 
+// The capture of some pairs, the first `length` bytes, and a command's bytes as records.
+fn check(pairs: [Pair; 8], mem: &[u8], length: usize, t: [u32; 38]) {
+    let end = least(length, mem.len());
+    let records = tries::bytes(t);
+    let n = words::bytes(t);
+    told::verdict(checking::check(pairs, &mem[..end], &records[..n]));
+}
+
 // What looks, and leaves all as it is.
-fn look(b: Bench, mem: &[u8; 8192], verb: u32, n: u32, i: u32) {
+fn look(b: Bench, mem: &[u8; 8192], t: [u32; 38]) {
+    let pairs = b.pairs;
     let slots = b.slots;
-    match verb {
-        names::SHOW => told::slot(slots[(n % 8) as usize]),
-        names::AT => told::at(mem, n, i),
-        names::BLOCK => block(slots, mem, b.length, n, i),
+    match t[0] {
+        names::SHOW => told::slot(slots[(t[1] % 8) as usize]),
+        names::AT => told::at(mem, t[1], t[2]),
+        names::BLOCK => block(slots, mem, b.length, t[1], t[2]),
+        names::CHECK => check(pairs, mem, b.length, t),
         _ => {}
     }
 }
 
 // A command, if it is understood.
-fn run(b: Bench, mem: &mut [u8; 8192], t: [u32; 18]) -> Bench {
+fn run(b: Bench, mem: &mut [u8; 8192], t: [u32; 38]) -> Bench {
     if (names::EVENT <= t[0]) & (t[0] <= names::TEMPERATURE) {
         return act(b, mem, t);
     }
-    look(b, mem, t[0], t[1], t[2]);
+    look(b, mem, t);
     tries::change(b, t)
 }
 

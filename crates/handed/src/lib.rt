@@ -192,11 +192,11 @@ pub struct Handed {
 }
 
 // A name, and the numbers that go there and behind. What reads back as it was handed in fits.
-pub fn hand_in(old: Slot, t: [u32; 18]) -> Handed {
+pub fn hand_in(old: Slot, t: [u32; 38]) -> Handed {
     let mut slot = old;
-    let mut ok = (t[1] < 8) & (t[3] < WORD) & (t[17] == MISSING);
+    let mut ok = (t[1] < 8) & (t[3] < WORD) & (t[37] == MISSING);
     let mut at = 0;
-    for i in 2..18usize {
+    for i in 2..38usize {
         let v = t[i];
         if v < WORD {
             slot = poke(slot, at, v as u16);

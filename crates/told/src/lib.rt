@@ -1,5 +1,6 @@
 // What `edges` tells of its tries.
 ghost use Prim.Native.Nat.{_<_};
+use captures::Verdict;
 use libc::STDOUT_FILENO;
 use rules::Answer;
 use rules::Outcome;
@@ -172,6 +173,17 @@ pub fn at(mem: &[u8; 8192], n: u32, i: u32) {
     sign(b':');
     sign(b' ');
     hex(handed::wide(mem[(512 * (n % 16) + i % 512) as usize]));
+}
+
+// The verdict on a capture: its line as the capture program writes it, but for the line's end, which is the try's own.
+pub fn verdict(v: Verdict) {
+    let mut out = [0u8; 32];
+    let end = verdicts::put_verdict(&mut out, v);
+    sign(b':');
+    sign(b' ');
+    if 0 < end {
+        io::write_all(STDOUT_FILENO, &out[..end - 1]);
+    }
 }
 
 // A command that is not understood is said to be so.

@@ -13,7 +13,7 @@ fn pair(kind: u32, length: u32) -> Pair {
     }
 }
 
-fn pairs(t: [u32; 18]) -> [Pair; 8] {
+fn pairs(t: [u32; 38]) -> [Pair; 8] {
     let mut all = [Pair { kind: 0, length: 0 }; 8];
     for i in 0..8usize {
         all[i] = pair(t[2 * i + 1], t[2 * i + 2]);
@@ -39,13 +39,22 @@ fn made_of(kind: u32, slot: u32, value: u32) -> Event {
 }
 
 // The event that a command asks for, by its numbers or by its name; a number that is missing counts as 0.
-pub fn event(t: [u32; 18]) -> Event {
+pub fn event(t: [u32; 38]) -> Event {
     let verb = t[0];
     match verb {
         names::EVENT => made_of(t[1], t[2], t[3]),
         names::BYTE | names::READ => made_of(verb % names::EVENT, 0, t[1]),
         _ => made_of(verb % names::EVENT, t[1], t[2]),
     }
+}
+
+// The bytes of a command, with zeros behind them.
+pub fn bytes(t: [u32; 38]) -> [u8; 37] {
+    let mut all = [0u8; 37];
+    for i in 0..37usize {
+        all[i] = (t[i + 1] % 256) as u8;
+    }
+    all
 }
 
 // The pairs of the last setup, the slots as they stand, and how long the memory is.
@@ -68,7 +77,7 @@ pub fn anew(pairs: [Pair; 8], mem: &mut [u8; 8192]) -> Bench {
     }
 }
 
-fn setup(old: Bench, t: [u32; 18]) -> Bench {
+fn setup(old: Bench, t: [u32; 38]) -> Bench {
     let pairs = pairs(t);
     let made = fresh::setup(pairs);
     let answer = made.answer;
@@ -82,14 +91,14 @@ fn setup(old: Bench, t: [u32; 18]) -> Bench {
 }
 
 // From now on the memory is its first n bytes.
-fn memory(old: Bench, t: [u32; 18]) -> Bench {
+fn memory(old: Bench, t: [u32; 38]) -> Bench {
     let mut b = old;
     b.length = t[1] as usize;
     b
 }
 
 // Numbers of a slot are handed in.
-fn slot(old: Bench, t: [u32; 18]) -> Bench {
+fn slot(old: Bench, t: [u32; 38]) -> Bench {
     let n = (t[1] % 8) as usize;
     let mut slots = old.slots;
     let h = handed::hand_in(slots[n], t);
@@ -105,7 +114,7 @@ fn slot(old: Bench, t: [u32; 18]) -> Bench {
 }
 
 // What makes the bench another.
-pub fn change(b: Bench, t: [u32; 18]) -> Bench {
+pub fn change(b: Bench, t: [u32; 38]) -> Bench {
     match t[0] {
         names::SETUP => setup(b, t),
         names::MEMORY => memory(b, t),

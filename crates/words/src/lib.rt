@@ -106,15 +106,15 @@ fn list(i: usize) -> usize
     if i == 0 { 0 } else { names::NAMES_AT }
 }
 
-// The words and numbers of a command, up to eighteen.
-fn tokens(line: &[u8; 150], size: usize) -> [u32; 18]
+// The words and numbers of a command, up to thirty-eight.
+fn tokens(line: &[u8; 150], size: usize) -> [u32; 38]
     requires { ⌜ size ≤ 150 ⌝ }
 {
     let whole: &[u8] = line;
     let text = &whole[..size];
-    let mut all = [names::MISSING; 18];
+    let mut all = [names::MISSING; 38];
     let mut at = 0;
-    for i in 0..18usize {
+    for i in 0..38usize {
         let from = names::until(text, at, false);
         at = names::until(text, from, true);
         all[i] = token(&text[from..at], list(i));
@@ -122,18 +122,35 @@ fn tokens(line: &[u8; 150], size: usize) -> [u32; 18]
     all
 }
 
-// How many numbers each command takes, in the order of `names::ALL`; 99 for what is none.
-const COUNTS: [usize; 17] = [0, 16, 1, 99, 1, 2, 2, 3, 0, 1, 1, 0, 0, 0, 2, 0, 2];
+// How many bytes follow a command's first word, up to what is none.
+pub fn bytes(t: [u32; 38]) -> usize
+    ensures { λ r. ⌜ r ≤ 37 ⌝ }
+{
+    let mut n = 0;
+    while n < 37 {
+        if 255 < t[n + 1] {
+            return n;
+        }
+        n += 1;
+    }
+    n
+}
 
-fn count(verb: u32) -> usize {
-    let n = (verb % names::WORD) as usize;
-    if n < 17 { COUNTS[n] } else { 99 }
+// How many numbers each command takes, in the order of `names::ALL`; 99 for what is none, and for those that take more or fewer.
+const COUNTS: [usize; 18] = [0, 16, 1, 99, 1, 2, 2, 99, 3, 0, 1, 1, 0, 0, 0, 2, 0, 2];
+
+fn count(t: [u32; 38]) -> usize {
+    if t[0] == names::CHECK {
+        return bytes(t);
+    }
+    let n = (t[0] % names::WORD) as usize;
+    if n < 18 { COUNTS[n] } else { 99 }
 }
 
 // How large its last number may be.
 fn most(verb: u32) -> u32 {
     match verb {
-        names::SETUP | names::BLOCK => 255,
+        names::SETUP | names::BLOCK | names::CHECK => 255,
         names::MEMORY => 8192,
         names::SHOW => 7,
         names::AT => 511,
@@ -142,14 +159,14 @@ fn most(verb: u32) -> u32 {
 }
 
 // Whether a command has the numbers that it takes, and no more; those before the last are bytes. What a slot is handed is not looked at here.
-fn is_whole(t: [u32; 18]) -> bool {
+fn is_whole(t: [u32; 38]) -> bool {
     if t[0] == names::SLOT {
         return true;
     }
-    let n = count(t[0]);
+    let n = count(t);
     let top = most(t[0]);
-    let mut ok = (names::WORD <= t[0]) & (n < 18);
-    for i in 1..18usize {
+    let mut ok = (names::WORD <= t[0]) & (n < 37);
+    for i in 1..38usize {
         let v = t[i];
         ok = ok
             & (((i < n) & (v < 256)) | ((i == n) & (v <= top)) | ((n < i) & (v == names::MISSING)));
@@ -159,7 +176,7 @@ fn is_whole(t: [u32; 18]) -> bool {
 
 // The words of a command, and the byte behind it: a semicolon or a line's end; 0 where the input ends.
 pub struct Said {
-    pub words: [u32; 18],
+    pub words: [u32; 38],
     pub end: u8,
 }
 
@@ -207,12 +224,12 @@ fn read(text: &mut [u8; 150]) -> Piece
 }
 
 // A command that is not understood is said to be so, and has a word that is unknown.
-fn understood(t: [u32; 18]) -> [u32; 18] {
+fn understood(t: [u32; 38]) -> [u32; 38] {
     if (t[0] == names::MISSING) | is_whole(t) {
         return t;
     }
     told::not_understood();
-    [names::UNKNOWN; 18]
+    [names::UNKNOWN; 38]
 }
 
 // The byte behind the last command is written, and the next command is read; a heading has no words.

@@ -1,4 +1,4 @@
--- The words are counted up to 18.
+-- The words are counted up to 38.
 -- Assumes nothing.
 use Prim.Native.Nat.{_≤_, _-_}
 use borrow.Author.Needs.{needs}
@@ -6,10 +6,10 @@ use Rattle.handed.proofs.hand_in.Statement.{statement}
 use Rattle.handed.proofs.hand_in.Tie as tie
 
 abbrev Inv-loop : tie.InvT-loop
-Inv-loop t slot₀ ok₀ at₀ i₀ slot ok at i = i ≤ 18
+Inv-loop t slot₀ ok₀ at₀ i₀ slot ok at i = i ≤ 38
 
 abbrev μ-loop : tie.MeasureT-loop
-μ-loop t slot₀ ok₀ at₀ i₀ slot ok at i = 18 - i
+μ-loop t slot₀ ok₀ at₀ i₀ slot ok at i = 38 - i
 
 pub hand-in-spec : {M : Type 1} → statement M
 hand-in-spec =

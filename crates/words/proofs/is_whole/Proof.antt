@@ -1,4 +1,4 @@
--- The words are counted up to 18.
+-- The words are counted up to 38.
 -- Assumes nothing.
 use Prim.Native.Nat.{_≤_, _-_}
 use borrow.Author.Needs.{needs}
@@ -6,10 +6,10 @@ use Rattle.words.proofs.is_whole.Statement.{statement}
 use Rattle.words.proofs.is_whole.Tie as tie
 
 abbrev Inv-loop : tie.InvT-loop
-Inv-loop t n top ok₀ i₀ ok i = i ≤ 18
+Inv-loop t n top ok₀ i₀ ok i = i ≤ 38
 
 abbrev μ-loop : tie.MeasureT-loop
-μ-loop t n top ok₀ i₀ ok i = 18 - i
+μ-loop t n top ok₀ i₀ ok i = 38 - i
 
 pub is-whole-spec : {M : Type 1} → statement M
 is-whole-spec =
@@ -17,7 +17,6 @@ is-whole-spec =
     (tie.spec
     Inv-loop
     μ-loop
-    (λ c. search needs)
     (λ c. search needs)
     (λ c. search needs)
     (λ c κs. search needs)

@@ -8,10 +8,10 @@ use Rattle.words.proofs.tokens.Statement.{statement}
 use Rattle.words.proofs.tokens.Tie as tie
 
 abbrev Inv-loop : tie.InvT-loop
-Inv-loop line size text all₀ at₀ i₀ all at i = (i ≤ 18) × (at ≤ length text)
+Inv-loop line size text all₀ at₀ i₀ all at i = (i ≤ 38) × (at ≤ length text)
 
 abbrev μ-loop : tie.MeasureT-loop
-μ-loop line size text all₀ at₀ i₀ all at i = 18 - i
+μ-loop line size text all₀ at₀ i₀ all at i = 38 - i
 
 pub tokens-spec : {M : Type 1} → statement M
 tokens-spec =
