@@ -10,7 +10,6 @@ ghost use Rattle.rules.specs.Refusals.{inRange};
 ghost use Rattle.capture.specs.Program.{Came, Ended, Served};
 use captures::Verdict;
 use libc::STDIN_FILENO;
-use libc::STDOUT_FILENO;
 use rules::Bus;
 
 // What goes from one piece to the next: the bus, the number of records so far, the verdict on them, and whether to go on.
@@ -88,14 +87,10 @@ fn serve(bus: Bus, mem: &mut [u8], out: &mut [u8]) -> usize
 fn main() {
     let mut mem = [0u8; 4096];
     let mut out = [0u8; 64];
-    let mut pairs = [0u8; 16];
-    let n = io::read_full(STDIN_FILENO, &mut pairs);
-    let begun = frame::begin(&pairs[..n], &mut mem, &mut out);
-    let end = begun.end;
-    io::write_all(STDOUT_FILENO, &out[..end]);
+    let begun = opening::begin(&mut mem, &mut out);
     if begun.on {
         let bus = begun.bus;
         let ended = serve(bus, &mut mem, &mut out);
-        io::write_all(STDOUT_FILENO, &out[..ended]);
+        opening::write(&out, ended);
     }
 }

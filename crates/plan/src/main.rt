@@ -10,7 +10,6 @@ ghost use Rattle.rules.specs.Refusals.{inRange};
 ghost use Rattle.plan.specs.Asked.{answerOf};
 ghost use Rattle.plan.specs.Went.{ranOf, Went, Ended, Served};
 use libc::STDIN_FILENO;
-use libc::STDOUT_FILENO;
 use rules::Bus;
 use rules::SlotNo;
 
@@ -107,14 +106,10 @@ fn serve(bus: Bus, mem: &mut [u8], out: &mut [u8]) -> usize
 fn main() {
     let mut mem = [0u8; 4096];
     let mut out = io::large_buffer();
-    let mut pairs = [0u8; 16];
-    let n = io::read_full(STDIN_FILENO, &mut pairs);
-    let begun = frame::begin(&pairs[..n], &mut mem, &mut out);
-    let end = begun.end;
-    io::write_all(STDOUT_FILENO, &out[..end]);
+    let begun = opening::begin(&mut mem, &mut out);
     if begun.on {
         let bus = begun.bus;
         let answered = serve(bus, &mut mem, &mut out);
-        io::write_all(STDOUT_FILENO, &out[..answered]);
+        opening::write(&out, answered);
     }
 }

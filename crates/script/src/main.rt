@@ -88,11 +88,7 @@ fn serve(bus: Bus, mem: &mut [u8], out: &mut [u8])
 fn main() {
     let mut mem = [0u8; 4096];
     let mut out = io::large_buffer();
-    let mut pairs = [0u8; 16];
-    let n = io::read_full(STDIN_FILENO, &mut pairs);
-    let begun = frame::begin(&pairs[..n], &mut mem, &mut out);
-    let end = begun.end;
-    io::write_all(STDOUT_FILENO, &out[..end]);
+    let begun = opening::begin(&mut mem, &mut out);
     if begun.on {
         let bus = begun.bus;
         serve(bus, &mut mem, &mut out);
