@@ -1,5 +1,5 @@
 // The plan program: a setup, a memory, a slot, an image and records on standard input; the plan for the slot and the image, after the records, on
-// standard output. It reads, hands what came to `frame`, `lines`, `planning` and `listing`, and writes what was put at the front of the output:
+// standard output. It begins by `opening`, reads, hands what came to `lines`, `planning` and `listing`, and writes what was put at the front of the output:
 // all that decides is said and proved there and in `answer`. The status that a result has, the script `run` gives it (the file status).
 ghost use mathlib.Core.Path.{_≡_};
 ghost use mathlib.Core.Bool.{true};

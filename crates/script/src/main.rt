@@ -1,5 +1,5 @@
-// The script program: a setup and records on standard input, a line for each event on standard output. It reads, hands what came to `frame` and
-// `lines`, and writes what each has put at the front of the output: all that decides is said and proved there.
+// The script program: a setup and records on standard input, a line for each event on standard output. It begins by `opening`, reads, hands what
+// came to `lines`, and writes what that has put at the front of the output: all that decides is said and proved there and in `frame`.
 ghost use mathlib.Core.Path.{_≡_};
 ghost use mathlib.Core.Bool.{true, false};
 ghost use Prim.Native.Nat.{_+_, _<_, _≤_};
