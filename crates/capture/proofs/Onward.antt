@@ -5,11 +5,11 @@ use native.Mathlib.Omega.{arith}
 use mathlib.Core.Path.{_≡_, refl, sym, _∙_, ap, ap₂}
 use mathlib.Core.Bool.{Bool, true, false, false≢true, _&&_}
 use mathlib.Core.List.{List, [], _∷_, _++_}
-use borrow.Author.Tests.{lt-ltb, le-ltb}
+use borrow.Author.Tests.{lt-ltb, le-ltb, eqb-true}
 use lib.Dec.{eqb}
 use lib.ListN.{length}
 use lib.Seq.{sets}
-use Rattle.lists.specs.Tests.{by-test, cond-true, cond-false}
+use Rattle.lists.specs.Tests.{by-test, cond-true, cond-false, and-right}
 use Rattle.rules.specs.declared.Bus.{Bus}
 use Rattle.letters.specs.Letters.{shortLine}
 use Rattle.captures.specs.declared.Verdict.{Verdict}
@@ -67,6 +67,16 @@ came-by g m bs left c v n size on k l z p q a =
       fits = omega (arith, k, l, z);
       step = λ i. (record { bus = (p i) .0 .bus; number = g .number + sym k i / 6; verdict = w i; on = o i }, (p i) .1);
     }
+
+-- it goes on behind a full piece alone, and so has that many records more
+pub came-full : (g : Going) (m : List ℕ) (r : Going) (left : List ℕ) → Came g m r left → r .on ≡ true → r .number ≡ g .number + 4096
+unfolding stepOf leftOver
+came-full g m r left c h =
+    let bs : List ℕ = c .piece in
+    let a : Bool = isAccepted (closed (length bs % 6) (pieceOf (g .bus) m (g .number) bs .0 .verdict)) in
+    let o : (a && eqb (length bs) pieceBytes) ≡ true = ap (λ (z : Going × List ℕ). z .0 .on) (c .step) ∙ h in
+    let f : length bs ≡ pieceBytes = eqb-true (length bs) pieceBytes (and-right a (eqb (length bs) pieceBytes) o) in
+    sym (ap (λ (z : Going × List ℕ). z .0 .number) (c .step)) ∙ ap (λ n. g .number + n / 6) f
 
 -- a memory that is cut, and the verdict where it is whole
 module _ (b : Bus) (m : List ℕ) (came : ℕ) (out : List ℕ) (end : ℕ) (o : List ℕ) (z : length m ≡ 4096) where

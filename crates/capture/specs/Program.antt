@@ -50,11 +50,16 @@ pub record Reached (g : Going) (m : List ℕ) (r : Going) (left : List ℕ) : Ty
   pub pieces : List (List ℕ)
   pub steps : stepsOf g m pieces ≡ (r, left)
 
--- the verdict where the pieces end
+-- more records than any input has: as many as 2^50 full pieces
+abbrev pub mostRecords : ℕ
+mostRecords = 4611686018427387904
+
+-- the verdict where the pieces end: the last of them does not agree or is not full, unless that many records have been checked
 pub record Ended (b : Bus) (m : List ℕ) (v : Verdict) : Type 0 where
   pub going : Going
   pub left : List ℕ
   pub reached : Reached (begun b) m going left
+  pub over : going .on ≡ true → going .number ≡ mostRecords
   pub verdict : v ≡ going .verdict
 
 -- what is put at the front of the output behind a good setup: memory as it was read, so many bytes of it

@@ -23,4 +23,4 @@ read-on-spec =
     (λ c.
     let f = c .before .before .before .before .before .before .before .before .before .before .before .read-full in
     let p = c .before .before .before .before .before .piece in
-    (piece-onward _ _ _ _ _ _ (p .ensures) (c .before .before .before .before .before .before .before .before .before .before .before .before .before .before .before .pre .0), omega arith, came-by _ _ _ _ _ _ _ _ _ (f .ensures .1) (f .ensures .0) (omega arith) (p .ensures) (c .before .before .closed .ensures) (c .accepted .ensures))))
+    (piece-onward _ _ _ _ _ _ (p .ensures) (c .before .before .before .before .before .before .before .before .before .before .before .before .before .before .before .pre .0), came-by _ _ _ _ _ _ _ _ _ (f .ensures .1) (f .ensures .0) (omega arith) (p .ensures) (c .before .before .closed .ensures) (c .accepted .ensures))))
