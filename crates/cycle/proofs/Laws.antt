@@ -26,6 +26,11 @@ pub put-step : (latch : List ℕ) (marks : List Bool) (at k : ℕ) (m : List ℕ
 unfolding putUpTo
 put-step latch marks at k m = rw add-one
 
+-- the page begins where the code says
+pub stored-at : (s : Slot) (m q : List ℕ) (a : Address) → a ≡ addressOf s → q ≡ putUpTo (s .latch) (s .marks) (a .0 / 16 * 16) 16 m → q ≡ stored s m
+unfolding stored pageOf
+stored-at s m q a e f = f ∙ ap (λ (x : Address). putUpTo (s .latch) (s .marks) (x .0 / 16 * 16) 16 m) e
+
 -- a tick: the slot after it, and its bytes
 abbrev pub AfterTick : Slot → List ℕ → Slot → List ℕ → Type 0
 AfterTick s m r q = (r ≡ slotNext 0 Tick s) × (q ≡ tickedPart s m)
@@ -37,13 +42,9 @@ module _ (s r : Slot) (m q : List ℕ) where
   tick-absent k e f = (rw (eq-eqb _ _ k) e, rw (eq-eqb _ _ k) f)
 
   -- the cycle ends
-  pub tick-ends : (a : Address) (at : ℕ) → (s .kind ≡ 0 → ⊥) → s .left ≡ 1 → a ≡ addressOf s → at ≡ a .0 / 16 * 16
-      → r ≡ ended s → q ≡ putUpTo (s .latch) (s .marks) at 16 m → AfterTick s m r q
-  unfolding slotNext presentNext ticked tickedPart stored pageOf absent
-  tick-ends a at k l e f g h = (
-    rw (ne-eqb _ _ k, eq-eqb _ _ l) g,
-    rw (ne-eqb _ _ k, eq-eqb _ _ l) (h ∙ ap (λ (n : ℕ). putUpTo (s .latch) (s .marks) n 16 m) (f ∙ ap (λ (x : Address). x .0 / 16 * 16) e)),
-  )
+  pub tick-ends : (s .kind ≡ 0 → ⊥) → s .left ≡ 1 → r ≡ ended s → q ≡ stored s m → AfterTick s m r q
+  unfolding slotNext presentNext ticked tickedPart absent
+  tick-ends k l e f = (rw (ne-eqb _ _ k, eq-eqb _ _ l) e, rw (ne-eqb _ _ k, eq-eqb _ _ l) f)
 
   -- it goes on
   pub tick-waits : (s .kind ≡ 0 → ⊥) → (s .left ≡ 1 → ⊥) → r ≡ withLeft (s .left - 1) s → q ≡ m → AfterTick s m r q

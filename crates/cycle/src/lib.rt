@@ -4,7 +4,7 @@ ghost use mathlib.Core.Bool.{true};
 ghost use Prim.Native.Nat.{_+_, _≤_};
 ghost use lib.ListN.{length};
 ghost use Rattle.rules.specs.Modelled.{slotBytes};
-ghost use Rattle.rules.specs.Memory.{anyMark, begun, dataStop, putUpTo, tickedPart};
+ghost use Rattle.rules.specs.Memory.{anyMark, begun, dataStop, ended, putUpTo, stored, tickedPart};
 ghost use Rattle.rules.specs.Slot.{slotNext};
 ghost use Rattle.rules.specs.Refusals.{slotInRange};
 use rules::Act;
@@ -54,6 +54,25 @@ fn put(part: &mut [u8], at: usize, latch: [u8; 16], marks: [bool; 16])
     }
 }
 
+// The write cycle ends: what is latched goes to part, the slot's own 512 bytes, and the protection to come stands.
+pub fn ended(s: Slot, part: &mut [u8]) -> Slot
+    requires { ⌜ (slotInRange s ≡ true) × (length (now part) ≡ slotBytes) ⌝ }
+    ensures { λ r. ⌜ (r ≡ ended s) × (now (part .exit) ≡ stored s (now (part .entry))) ⌝ }
+{
+    let a = blocks::address_of(s);
+    let at = (a.0 / 16 * 16) as usize;
+    let latch = s.latch;
+    let marks = s.marks;
+    put(part, at, latch, marks);
+    let protection = s.coming;
+    let mut next = s;
+    next.left = 0;
+    next.protection = protection;
+    next.latch = [0u8; 16];
+    next.marks = [false; 16];
+    next
+}
+
 // A tick; part is the slot's own 512 bytes, which change where a write cycle ends. An absent slot is left alone.
 pub fn tick(s: Slot, part: &mut [u8]) -> Slot
     requires { ⌜ (slotInRange s ≡ true) × (length (now part) ≡ slotBytes) ⌝ }
@@ -64,18 +83,7 @@ pub fn tick(s: Slot, part: &mut [u8]) -> Slot
     }
     let left = s.left;
     if left == 1 {
-        let a = blocks::address_of(s);
-        let at = (a.0 / 16 * 16) as usize;
-        let latch = s.latch;
-        let marks = s.marks;
-        put(part, at, latch, marks);
-        let protection = s.coming;
-        let mut next = s;
-        next.left = 0;
-        next.protection = protection;
-        next.latch = [0u8; 16];
-        next.marks = [false; 16];
-        return next;
+        return ended(s, part);
     }
     if left == 0 {
         return s;

@@ -139,7 +139,7 @@ module _ (n : ℕ) (s : Slot) where
   rests Timeout e u = absurd (false≢true e)
   rests Tick e u = absurd (false≢true e)
   rests (Voltage k on) e u = absurd (false≢true e)
-  rests Power e u = absurd (false≢true e)
+  rests (Power k) e u = absurd (false≢true e)
   rests (Temperature k t) e u = absurd (false≢true e)
 
   -- a tick without a write cycle

@@ -27,7 +27,7 @@ heardIn Stop = heard.Nothing
 heardIn Timeout = heard.Nothing
 heardIn Tick = heard.Nothing
 heardIn (Voltage k on) = heard.Nothing
-heardIn Power = heard.Nothing
+heardIn (Power k) = heard.Nothing
 heardIn (Temperature k t) = heard.Nothing
 
 -- a byte or a read
@@ -39,7 +39,7 @@ carried Stop = false
 carried Timeout = false
 carried Tick = false
 carried (Voltage k on) = false
-carried Power = false
+carried (Power k) = false
 carried (Temperature k t) = false
 
 -- idle or deaf
@@ -55,7 +55,7 @@ acksAt Stop n s = false
 acksAt Timeout n s = false
 acksAt Tick n s = false
 acksAt (Voltage k on) n s = false
-acksAt Power n s = false
+acksAt (Power k) n s = false
 acksAt (Temperature k t) n s = false
 
 abbrev pub drivesAt : Act → Slot → Bool
@@ -66,7 +66,7 @@ drivesAt Stop s = false
 drivesAt Timeout s = false
 drivesAt Tick s = false
 drivesAt (Voltage k on) s = false
-drivesAt Power s = false
+drivesAt (Power k) s = false
 drivesAt (Temperature k t) s = false
 
 -- nothing is shown, and no byte changes

@@ -31,7 +31,7 @@ pub fn heard_in(a: Act) -> Heard
         Act::Timeout => Heard::Nothing,
         Act::Tick => Heard::Nothing,
         Act::Voltage(_, _) => Heard::Nothing,
-        Act::Power => Heard::Nothing,
+        Act::Power(_) => Heard::Nothing,
         Act::Temperature(_, _) => Heard::Nothing,
     }
 }
@@ -48,7 +48,7 @@ pub fn carried(a: Act) -> bool
         Act::Timeout => false,
         Act::Tick => false,
         Act::Voltage(_, _) => false,
-        Act::Power => false,
+        Act::Power(_) => false,
         Act::Temperature(_, _) => false,
     }
 }
@@ -134,7 +134,7 @@ pub fn glance(a: Act, carries: bool, h: Heard, n: SlotNo, s: Slot) -> Change
         Act::Timeout => at_signal(Phase::Idle, s),
         Act::Tick => at_tick(n, s),
         Act::Voltage(k, _) => at_one(k, n),
-        Act::Power => Change::More,
+        Act::Power(_) => Change::More,
         Act::Temperature(k, _) => at_one(k, n),
     }
 }

@@ -141,7 +141,7 @@ module _ (k : ℕ) where
   one-heard Timeout x h e = refl
   one-heard Tick x h e = refl
   one-heard (Voltage j on) x h e = refl
-  one-heard Power x h e = refl
+  one-heard (Power k) x h e = refl
   one-heard (Temperature j t) x h e = refl
 
   pub all-heard : (r : List Act) (x : Bench) → k < length (slotsOf x)

@@ -9,7 +9,7 @@ use lib.ListN.{replicate}
 use borrow.Author.Tests.{ne-eqb}
 use Rattle.lists.specs.Tests.{by-test}
 use Rattle.rules.specs.declared.Act.{Act}
-use Rattle.rules.specs.declared.Act.the-variants.{Start, Byte, Read, Stop, Timeout, Tick, Voltage, Power, Temperature}
+use Rattle.rules.specs.declared.Act.the-variants.{Tick}
 use Rattle.rules.specs.declared.Phase.the-variants.{Idle, Control}
 use Rattle.rules.specs.declared.Slot.{Slot}
 use Rattle.rules.specs.Modelled.{absent}
@@ -21,6 +21,7 @@ use Rattle.rules.specs.Slot.{standing, letGo, presentNext, slotNext, partNext}
 use Rattle.rules.specs.Runs.{slotAfter, partAfter}
 use Rattle.runs.specs.Exchanges.{Inside, byte, insideAct, upToStop, controls}
 use Rattle.rules.proofs.Run.Cases.{next-cases, absent-next, present-next}
+use Rattle.rules.proofs.Memory.Stored.{part-stored}
 use Rattle.runs.proofs.FromSetup.Reached.{no-cycle}
 use Rattle.runs.proofs.TwoClerks.Foreign.{Unheard, NoneHeard, started-waits, absent-after, as-it-was, same-part}
 use Rattle.planner.specs.Effect.{leaving}
@@ -45,16 +46,7 @@ passed-joined {n} {r} {v} {s} {t} {u} {m} a b = record {
 
 -- an absent slot is as it was after any run, and so are its bytes
 absent-still : (a : Act) (s : Slot) (m : List ℕ) → absent s ≡ true → partNext a s m ≡ m
-unfolding partNext tickedPart
-absent-still Start s m e = refl
-absent-still (Byte v) s m e = refl
-absent-still (Read b) s m e = refl
-absent-still Stop s m e = refl
-absent-still Timeout s m e = refl
-absent-still Tick s m e = rw e
-absent-still (Voltage k on) s m e = refl
-absent-still Power s m e = refl
-absent-still (Temperature k t) s m e = refl
+absent-still a s m e = part-stored a s m ∙ rw e
 
 absent-part : (n : ℕ) (r : List Act) (s : Slot) (m : List ℕ) → absent s ≡ true → partAfter n r s m ≡ m
 unfolding partAfter

@@ -33,7 +33,7 @@ dueTo Stop = Nothing
 dueTo Timeout = Nothing
 dueTo Tick = Nothing
 dueTo (Voltage k on) = Nothing
-dueTo Power = Nothing
+dueTo (Power k) = Nothing
 dueTo (Temperature k t) = Nothing
 
 -- from s with the bytes m to t with the bytes q; the slot itself acknowledges every byte, and begins a cycle for each of the pages

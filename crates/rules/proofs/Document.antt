@@ -6,6 +6,7 @@ pub mod Sensing
 pub mod Deaf
 pub mod Exchange
 pub mod Cycle
+pub mod Cut
 pub mod Joined
 pub mod Flags
 pub mod Reader

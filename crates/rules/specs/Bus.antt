@@ -12,13 +12,14 @@ use Rattle.rules.specs.declared.Answer.the-variants.{Nothing, Ack, Nack,
 use Rattle.rules.specs.declared.Bus.{Bus}
 use Rattle.rules.specs.Modelled.{slotBytes}
 use Rattle.rules.specs.Memory.{tickedPart}
+use Rattle.rules.specs.Power.{cutPart}
 use Rattle.rules.specs.Slot.{slotNext, acks, drives, driven}
 
 -- each slot does its step, by its number
 unfoldable pub busNext : Act → Bus → Bus
 busNext a b = record { slots = mapFrom (λ n s. slotNext n a s) 0 (b .slots) }
 
--- only a tick reaches the memory: each slot its own part
+-- only a tick and a power cycle reach the memory: each slot its own part
 unfoldable pub memoryNext : Act → Bus → List ℕ → List ℕ
 memoryNext Start b m = m
 memoryNext (Byte v) b m = m
@@ -27,7 +28,7 @@ memoryNext Stop b m = m
 memoryNext Timeout b m = m
 memoryNext Tick b m = eachPart slotBytes tickedPart (b .slots) m
 memoryNext (Voltage k on) b m = m
-memoryNext Power b m = m
+memoryNext (Power k) b m = eachPart slotBytes (cutPart k) (b .slots) m
 memoryNext (Temperature k t) b m = m
 
 -- "ACK if at least one slot acknowledges"
@@ -47,5 +48,5 @@ shown Stop b m = Nothing
 shown Timeout b m = Nothing
 shown Tick b m = Nothing
 shown (Voltage k on) b m = Nothing
-shown Power b m = Nothing
+shown (Power k) b m = Nothing
 shown (Temperature k t) b m = Nothing

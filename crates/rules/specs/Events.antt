@@ -17,7 +17,8 @@ use Rattle.rules.specs.declared.Answer.the-variants as answer
 unfoldable pub isOne : ℤ → Bool
 isOne v = ltZ (pos 0) v
 
--- the table of kinds, row by row; "Empty cells are ignored." (Asked of kinds 1 to 9 with a value in range.)
+-- the table of kinds, row by row; "Empty cells are ignored." P3: the value of kind 8 says how many bytes are still stored. (Asked of kinds 1 to 9
+-- with a value in range.)
 unfoldable pub actOf : Event → Act
 actOf e =
     cond (eqb (e .kind) 1) Start
@@ -27,7 +28,7 @@ actOf e =
     (cond (eqb (e .kind) 5) Timeout
     (cond (eqb (e .kind) 6) Tick
     (cond (eqb (e .kind) 7) (Voltage (e .slot) (isOne (e .value)))
-    (cond (eqb (e .kind) 8) Power
+    (cond (eqb (e .kind) 8) (Power (record { 0 = natAbs (e .value) }))
     (Temperature (e .slot) (e .value)))))))))
 
 -- the refusals' numbers, of document 01 and of the change requests

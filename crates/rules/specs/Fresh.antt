@@ -52,7 +52,7 @@ setupSlot p = freshSlot (p .kind) (cond (eqb (p .kind) 0) 0 (p .length))
 unfoldable pub absentSlot : Slot
 absentSlot = freshSlot 0 0
 
--- "A power cycle does the same, but keeps memory, protection and the high-voltage levels. A write cycle that is running is dropped and the old bytes stay (bench)."
+-- "A power cycle does the same, but keeps memory, protection and the high-voltage levels." What it leaves of a running write cycle: specs/Power.
 unfoldable pub powered : Slot → Slot
 powered s = withVoltage (s .voltage) (expecting (s .protection) (protecting (s .protection) (freshSlot (s .kind) (s .length))))
 

@@ -5,6 +5,7 @@ pub mod Fresh
 pub mod Sensor
 pub mod Control
 pub mod Memory
+pub mod Power
 pub mod Slot
 pub mod Bus
 pub mod Refusals

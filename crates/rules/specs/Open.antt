@@ -9,6 +9,7 @@ use Rattle.rules.specs.Fresh
 use Rattle.rules.specs.Sensor
 use Rattle.rules.specs.Control
 use Rattle.rules.specs.Memory
+use Rattle.rules.specs.Power
 use Rattle.rules.specs.Slot
 use Rattle.rules.specs.Bus
 use Rattle.rules.specs.Refusals
@@ -23,6 +24,11 @@ open-fields = tt
 unfoldable pub open-memory : Unit {0}
 unfolding Memory.emptied Memory.abandoned Memory.cancelled Memory.loaded Memory.upInPage Memory.latching Memory.dataByte Memory.fetched Memory.begun Memory.dataStop Memory.ended Memory.ticked
 open-memory = tt
+
+-- the power cycle
+unfoldable pub open-power : Unit {0}
+unfolding Power.running Power.latchedBelow Power.firstOf Power.broughtBy Power.cut Power.powerCut Power.cutPart
+open-power = tt
 
 -- the sensor
 unfoldable pub open-sensor : Unit {0}
@@ -46,5 +52,5 @@ open-refusals = tt
 
 -- everything: a run on known values computes
 unfoldable pub open-all : Unit {0}
-unfolding open-fields open-memory open-sensor open-control open-slot open-refusals Each.mapFrom Each.anyFrom Each.allOf Each.firstFrom Parts.part Parts.eachPart Modelled.absent Modelled.sensing Modelled.addressOf Modelled.blockOf Modelled.pageOf Events.isOne Events.actOf Fresh.freshSensor Fresh.freshSlot Fresh.setupSlot Fresh.absentSlot Fresh.powered Memory.guarded Memory.anyMark Memory.putUpTo Memory.stored Memory.tickedPart Bus.busNext Bus.memoryNext Bus.anyAck Bus.readByte Bus.shown Runs.taken Runs.given Runs.rulingOn Runs.ruledNext Runs.ruledAnswer Runs.next Runs.answered Runs.after Runs.answers
+unfolding open-fields open-memory open-power open-sensor open-control open-slot open-refusals Each.mapFrom Each.anyFrom Each.allOf Each.firstFrom Parts.part Parts.eachPart Modelled.absent Modelled.sensing Modelled.addressOf Modelled.blockOf Modelled.pageOf Events.isOne Events.actOf Fresh.freshSensor Fresh.freshSlot Fresh.setupSlot Fresh.absentSlot Fresh.powered Memory.guarded Memory.anyMark Memory.putUpTo Memory.stored Memory.tickedPart Bus.busNext Bus.memoryNext Bus.anyAck Bus.readByte Bus.shown Runs.taken Runs.given Runs.rulingOn Runs.ruledNext Runs.ruledAnswer Runs.next Runs.answered Runs.after Runs.answers
 open-all = tt

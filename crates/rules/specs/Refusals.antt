@@ -45,7 +45,8 @@ unfoldable pub wrongSlot : ℕ → Event → Bool
 wrongSlot kind e =
     (eqb (e .kind) 7 || eqb (e .kind) 9) && (ltb 7 (e .slot .0) || eqb kind 0) || eqb (e .kind) 9 && not (eqb kind 2)
 
--- "4 | the value is outside its range": kind 2 0..255, kinds 3 and 7 0 or 1, kind 9 -640..2000
+-- "4 | the value is outside its range": kind 2 0..255, kinds 3 and 7 0 or 1, kind 9 -640..2000; P3: "The power cycle's value is from now on 0 to
+-- 16, and outside that refusal 4"
 unfoldable pub outside : ℤ → ℤ → ℤ → Bool
 outside least most v = ltZ v least || ltZ most v
 
@@ -53,8 +54,9 @@ unfoldable pub wrongValue : Event → Bool
 wrongValue e =
     cond (eqb (e .kind) 2) (outside (pos 0) (pos 255) (e .value))
     (cond (eqb (e .kind) 3 || eqb (e .kind) 7) (outside (pos 0) (pos 1) (e .value))
+    (cond (eqb (e .kind) 8) (outside (pos 0) (pos 16) (e .value))
     (cond (eqb (e .kind) 9) (outside (negsuc 639) (pos 2000) (e .value))
-    false))
+    false)))
 
 -- "5 | setup: a slot kind not 0..2, or a present slot's length not 1..5"
 unfoldable pub goodLength : ℕ → Bool

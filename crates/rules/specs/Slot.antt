@@ -13,10 +13,10 @@ use Rattle.rules.specs.declared.Slot.{Slot}
 use Rattle.rules.specs.declared.Traits.{Traits}
 use Rattle.rules.specs.Modelled.{absent, sensing, addressOf}
 use Rattle.rules.specs.Fields.{inPhase, withVoltage, withSensor, pointing, holding}
-use Rattle.rules.specs.Fresh.{powered}
 use Rattle.rules.specs.Sensor.{written, converted}
 use Rattle.rules.specs.Control.{acksControl, controlled}
 use Rattle.rules.specs.Memory.{abandoned, cancelled, loaded, guarded, dataByte, fetched, begun, dataStop, ticked, tickedPart}
+use Rattle.rules.specs.Power.{powerCut, cutPart}
 
 -- what each phase is: of an exchange with the sensor; of a protect or clear that its stop has not yet begun; one in which data bytes are
 -- taken; one in which a read is served
@@ -188,14 +188,14 @@ presentNext n Stop s = inPhase Idle (stopIn (standing s) s)
 presentNext n Timeout s = inPhase Idle (letGo (standing s) s)
 presentNext n Tick s = ticked s
 presentNext n (Voltage k on) s = cond (eqb (k .0) n) (switched on s) s
-presentNext n Power s = powered s
+presentNext n (Power k) s = powerCut k s
 presentNext n (Temperature k t) s = cond (eqb (k .0) n) (withSensor (converted (s .sensor) t) s) s
 
 -- slot n after an event: "absent slots [..] count as deaf", and no event touches one
 unfoldable pub slotNext : ℕ → Act → Slot → Slot
 slotNext n a s = cond (absent s) s (presentNext n a s)
 
--- its 512 bytes m after an event: only a tick reaches them
+-- its 512 bytes m after an event: only a tick and a power cycle reach them
 unfoldable pub partNext : Act → Slot → List ℕ → List ℕ
 partNext Start s m = m
 partNext (Byte v) s m = m
@@ -204,7 +204,7 @@ partNext Stop s m = m
 partNext Timeout s m = m
 partNext Tick s m = tickedPart s m
 partNext (Voltage k on) s m = m
-partNext Power s m = m
+partNext (Power k) s m = cutPart k s m
 partNext (Temperature k t) s m = m
 
 -- slot n acknowledges the byte b

@@ -11,6 +11,9 @@ pub struct BlockNo(pub u8);
 // A byte's place in its slot, 0 to 511.
 pub struct Address(pub u16);
 
+// How many of the latched bytes a power cycle still stores of a running write cycle, 0 to 16.
+pub struct Cut(pub u8);
+
 // An event as the script's record has it: rubbish is welcome in every field.
 pub struct Event {
     pub kind: u8,
@@ -29,7 +32,7 @@ pub enum Act {
     Tick,
     // On or off.
     Voltage(SlotNo, bool),
-    Power,
+    Power(Cut),
     // Sixteenths of a degree.
     Temperature(SlotNo, i16),
 }

@@ -5,6 +5,7 @@ ghost use Rattle.rules.specs.Events.{actOf};
 ghost use Rattle.rules.specs.Refusals.{kindAt, wrongSlot, outside, wrongValue, ruledFor};
 ghost use Rattle.ruling.specs.Kinds.{kindsIn};
 use rules::Act;
+use rules::Cut;
 use rules::Event;
 use rules::Refusal;
 use rules::Ruling;
@@ -55,6 +56,7 @@ fn wrong_value(e: Event) -> bool
     match kind {
         2 => outside(0, 255, v),
         3 | 7 => outside(0, 1, v),
+        8 => outside(0, 16, v),
         9 => outside(-640, 2000, v),
         _ => false,
     }
@@ -76,7 +78,7 @@ fn act_of(e: Event) -> Act
         5 => Act::Timeout,
         6 => Act::Tick,
         7 => Act::Voltage(n, 0 < v),
-        8 => Act::Power,
+        8 => Act::Power(Cut(v as u8)),
         _ => Act::Temperature(n, v),
     }
 }

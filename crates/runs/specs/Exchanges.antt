@@ -8,6 +8,7 @@ use lib.Dec.{eqb}
 use lib.IntN.{ℤ}
 use Rattle.lists.specs.Each.{allOf}
 use Rattle.rules.specs.declared.Act.{Act}
+use Rattle.rules.specs.declared.Cut.{Cut}
 use Rattle.rules.specs.declared.Act.the-variants.{Start, Byte, Read, Stop, Timeout, Tick, Voltage, Power, Temperature}
 use Rattle.rules.specs.declared.Answer.{Answer}
 use Rattle.rules.specs.declared.Answer.the-variants.{Nothing, Ack, Nack, Data}
@@ -48,7 +49,7 @@ shownAlone n Stop s m = Nothing
 shownAlone n Timeout s m = Nothing
 shownAlone n Tick s m = Nothing
 shownAlone n (Voltage k on) s m = Nothing
-shownAlone n Power s m = Nothing
+shownAlone n (Power k) s m = Nothing
 shownAlone n (Temperature k t) s m = Nothing
 
 unfoldable pub toldAlone : ℕ → List Act → Slot → List ℕ → List Answer
@@ -69,7 +70,7 @@ pub data Gap : Type 0 where
   timeout : Gap
   tick : Gap
   voltage : SlotNo → Bool → Gap
-  power : Gap
+  power : Cut → Gap
   temperature : SlotNo → ℤ → Gap
 
 pub data Item : Type 0 where
@@ -88,7 +89,7 @@ gapAct strayStop = Stop
 gapAct timeout = Timeout
 gapAct tick = Tick
 gapAct (voltage k on) = Voltage k on
-gapAct power = Power
+gapAct (power k) = Power k
 gapAct (temperature k t) = Temperature k t
 
 -- a list of items written out again as a run; `upToStop xs r` is the rest of an exchange, its stop, and then `r`
@@ -133,7 +134,7 @@ unfoldable mutual
   itemsOf (Timeout ∷ r) = onto (between timeout ∷_) (itemsOf r)
   itemsOf (Tick ∷ r) = onto (between tick ∷_) (itemsOf r)
   itemsOf (Voltage k on ∷ r) = onto (between (voltage k on) ∷_) (itemsOf r)
-  itemsOf (Power ∷ r) = onto (between power ∷_) (itemsOf r)
+  itemsOf (Power k ∷ r) = onto (between (power k) ∷_) (itemsOf r)
   itemsOf (Temperature k t ∷ r) = onto (between (temperature k t) ∷_) (itemsOf r)
 
   -- inside one
@@ -146,7 +147,7 @@ unfoldable mutual
   within (Timeout ∷ r) = none
   within (Tick ∷ r) = none
   within (Voltage k on ∷ r) = none
-  within (Power ∷ r) = none
+  within (Power k ∷ r) = none
   within (Temperature k t ∷ r) = none
 
 -- the control bytes of an exchange: the first byte after the start and after each start inside; `fresh` says that it is still to come.
@@ -196,7 +197,7 @@ struckGap s strayStop = false
 struckGap s timeout = false
 struckGap s tick = false
 struckGap s (voltage k on) = not (eqb (k .0) s)
-struckGap s power = false
+struckGap s (power k) = false
 struckGap s (temperature k t) = not (eqb (k .0) s)
 
 unfoldable pub struck : ℕ → Item → Bool

@@ -16,5 +16,5 @@ answerFor Stop ack byte = Nothing
 answerFor Timeout ack byte = Nothing
 answerFor Tick ack byte = Nothing
 answerFor (Voltage k on) ack byte = Nothing
-answerFor Power ack byte = Nothing
+answerFor (Power k) ack byte = Nothing
 answerFor (Temperature k t) ack byte = Nothing

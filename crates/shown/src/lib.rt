@@ -49,7 +49,7 @@ pub fn answer_of(a: Act, t: Shown) -> Answer
         Act::Timeout => Answer::Nothing,
         Act::Tick => Answer::Nothing,
         Act::Voltage(_, _) => Answer::Nothing,
-        Act::Power => Answer::Nothing,
+        Act::Power(_) => Answer::Nothing,
         Act::Temperature(_, _) => Answer::Nothing,
     }
 }

@@ -11,7 +11,6 @@ unfoldable pub actFor : Signal → Act
 actFor signal.Start = act.Start
 actFor signal.Stop = act.Stop
 actFor signal.Timeout = act.Timeout
-actFor signal.Power = act.Power
 
 unfoldable pub signalled : Signal → Slot → Slot
 signalled x s = slotNext 0 (actFor x) s

@@ -1,6 +1,5 @@
-// What reaches every slot and carries nothing, at one slot: start, stop, timeout, power.
+// What reaches every slot and carries nothing, at one slot: start, stop, timeout.
 ghost use mathlib.Core.Path.{_≡_};
-ghost use Rattle.rules.specs.Fresh.{powered};
 ghost use Rattle.rules.specs.Slot.{stopIn};
 ghost use Rattle.signal.specs.Signals.{signalled};
 use rules::Phase;
@@ -33,22 +32,9 @@ pub enum Signal {
     Start,
     Stop,
     Timeout,
-    Power,
 }
 
-// A power cycle keeps protection and voltage.
-fn powered(s: Slot) -> Slot
-    ensures { λ r. ⌜ r ≡ powered s ⌝ }
-{
-    let protection = s.protection;
-    let mut next = Slot::fresh(s.kind, s.length);
-    next.protection = protection;
-    next.coming = protection;
-    next.voltage = s.voltage;
-    next
-}
-
-// A start, stop, timeout or power cycle; an absent slot is left alone, as by every event.
+// A start, stop or timeout; an absent slot is left alone, as by every event.
 pub fn signalled(x: Signal, s: Slot) -> Slot
     ensures { λ r. ⌜ r ≡ signalled x s ⌝ }
 {
@@ -60,6 +46,5 @@ pub fn signalled(x: Signal, s: Slot) -> Slot
         Signal::Start => phase::in_phase(Phase::Control, leaving::let_go(p, s)),
         Signal::Stop => phase::in_phase(Phase::Idle, stop_in(p, s)),
         Signal::Timeout => phase::in_phase(Phase::Idle, leaving::let_go(p, s)),
-        Signal::Power => powered(s),
     }
 }

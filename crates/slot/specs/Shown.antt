@@ -18,7 +18,7 @@ drivenAt Stop m s = 0xFF
 drivenAt Timeout m s = 0xFF
 drivenAt Tick m s = 0xFF
 drivenAt (Voltage k on) m s = 0xFF
-drivenAt Power m s = 0xFF
+drivenAt (Power k) m s = 0xFF
 drivenAt (Temperature k t) m s = 0xFF
 
 unfoldable pub stepped : ℕ → Act → List ℕ → Slot → Step

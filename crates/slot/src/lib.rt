@@ -84,7 +84,7 @@ fn temperature(k: SlotNo, t: i16, n: SlotNo, s: Slot) -> Step
     quiet(s)
 }
 
-// Slot n's step at an act; part is its own 512 bytes, which a tick may change.
+// Slot n's step at an act; part is its own 512 bytes, which a tick and a power cycle may change.
 pub fn next(a: Act, n: SlotNo, h: Heard, s: Slot, part: &mut [u8]) -> Step
     requires { ⌜ (h ≡ heardIn a) × (slotInRange s ≡ true) × (length (now part) ≡ slotBytes) ⌝ }
     ensures { λ r. ⌜ (r ≡ stepped (n .0) a (now (part .entry)) s) × (now (part .exit) ≡ partNext a s (now (part .entry))) ⌝ }
@@ -97,7 +97,7 @@ pub fn next(a: Act, n: SlotNo, h: Heard, s: Slot, part: &mut [u8]) -> Step
         Act::Timeout => quiet(signal::signalled(Signal::Timeout, s)),
         Act::Tick => quiet(cycle::tick(s, part)),
         Act::Voltage(k, on) => voltage(k, on, n, s),
-        Act::Power => quiet(signal::signalled(Signal::Power, s)),
+        Act::Power(k) => quiet(power::cut(k, s, part)),
         Act::Temperature(k, t) => temperature(k, t, n, s),
     }
 }

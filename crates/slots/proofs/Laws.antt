@@ -7,7 +7,7 @@ use Prim.Native.Nat.{ℕ, _+_, _-_, _*_, _≤_, _<_}
 use native.Mathlib.Omega.{arith}
 use lib.ListN.{length, getD, set, take, drop}
 use Rattle.lists.specs.Each.{mapFrom, mapTo, mapTo-none, mapTo-next, mapTo-step, mapTo-same, mapTo-full, anyFrom, anyFrom-step, anyFrom-none, firstFrom, firstFrom-step, firstFrom-none}
-use Rattle.lists.specs.Parts.{part, part-flat, eachPart, eachPart-same, partsTo, partsTo-none, partsTo-next, partsTo-step, partsTo-same, partsTo-all}
+use Rattle.lists.specs.Parts.{part, part-flat, partsTo, partsTo-none, partsTo-next, partsTo-step, partsTo-same, partsTo-all}
 use Rattle.rules.specs.declared.Act.{Act}
 use Rattle.rules.specs.declared.Act.the-variants.{Start, Byte, Read, Stop, Timeout, Tick, Voltage, Power, Temperature}
 use Rattle.rules.specs.declared.Answer.{Answer}
@@ -17,7 +17,7 @@ use Rattle.rules.specs.declared.Slot.{Slot}
 use Rattle.rules.specs.Fields.{inPhase}
 use Rattle.rules.specs.Bus.{busNext, memoryNext, anyAck, readByte, shown}
 use Rattle.rules.specs.Slot.{slotNext, drives, driven, partNext}
-use Rattle.rules.proofs.Memory.Stored.{length-tickedPart}
+use Rattle.rules.proofs.Memory.Stored.{length-partNext, memory-parts}
 use Rattle.foreseen.specs.declared.Change.{Change}
 use Rattle.foreseen.specs.declared.Change.the-variants as change
 use Rattle.slot.specs.declared.Step.{Step}
@@ -39,18 +39,6 @@ drove a n s = drivesAt a s
 
 abbrev pub byteOf : Act → List ℕ → ℕ → Slot → ℕ
 byteOf a m n s = drivenAt a (take 512 (drop (512 * n) m)) s
-
-pub length-partNext : (a : Act) (s : Slot) (p : List ℕ) → length (partNext a s p) ≡ length p
-unfolding partNext
-length-partNext Start s p = refl
-length-partNext (Byte v) s p = refl
-length-partNext (Read more) s p = refl
-length-partNext Stop s p = refl
-length-partNext Timeout s p = refl
-length-partNext Tick s p = length-tickedPart s p
-length-partNext (Voltage k on) s p = refl
-length-partNext Power s p = refl
-length-partNext (Temperature k t) s p = refl
 
 -- what i turns leave: the slots, the memory, whether one acknowledged, and the byte of the first that drove one
 pub record Turned (a : Act) (ss : List Slot) (m : List ℕ) (i : ℕ) (all : List Slot) (mem : List ℕ) (ack driven : Bool) (byte : ℕ) : Type 0 where
@@ -129,20 +117,8 @@ told Stop ss m = refl
 told Timeout ss m = refl
 told Tick ss m = refl
 told (Voltage k on) ss m = refl
-told Power ss m = refl
+told (Power k) ss m = refl
 told (Temperature k t) ss m = refl
-
-kept : (a : Act) (ss : List Slot) (m : List ℕ) → eachPart 512 (partNext a) ss m ≡ memoryNext a (record { slots = ss }) m
-unfolding memoryNext partNext
-kept Start ss m = eachPart-same 512 (partNext Start) (λ s p. refl) ss m
-kept (Byte v) ss m = eachPart-same 512 (partNext (Byte v)) (λ s p. refl) ss m
-kept (Read more) ss m = eachPart-same 512 (partNext (Read more)) (λ s p. refl) ss m
-kept Stop ss m = eachPart-same 512 (partNext Stop) (λ s p. refl) ss m
-kept Timeout ss m = eachPart-same 512 (partNext Timeout) (λ s p. refl) ss m
-kept Tick ss m = refl
-kept (Voltage k on) ss m = eachPart-same 512 (partNext (Voltage k on)) (λ s p. refl) ss m
-kept Power ss m = eachPart-same 512 (partNext Power) (λ s p. refl) ss m
-kept (Temperature k u) ss m = eachPart-same 512 (partNext (Temperature k u)) (λ s p. refl) ss m
 
 pub turned-all : (a : Act) (ss : List Slot) (m : List ℕ) (i : ℕ) (all : List Slot) (mem : List ℕ) (ack driven : Bool) (byte last : ℕ) (r : Answer) → i ≡ length ss
     → Turned a ss m i all mem ack driven byte → last ≡ cond driven byte 255 → r ≡ answerFor a ack last
@@ -150,7 +126,7 @@ pub turned-all : (a : Act) (ss : List Slot) (m : List ℕ) (i : ℕ) (all : List
 unfolding takenThen busNext
 turned-all a ss m i all mem ack driven byte last r e t f g =
     let s : all ≡ mapFrom (doing a) 0 ss = t .slots ∙ mapTo-full (doing a) 0 i ss (omega arith) in
-    let o : mem ≡ memoryNext a (record { slots = ss }) m = t .memory ∙ ap (λ (n : ℕ). partsTo 512 (partNext a) n ss m) e ∙ partsTo-all 512 (partNext a) ss m ∙ kept a ss m in
+    let o : mem ≡ memoryNext a (record { slots = ss }) m = t .memory ∙ ap (λ (n : ℕ). partsTo 512 (partNext a) n ss m) e ∙ partsTo-all 512 (partNext a) ss m ∙ sym (memory-parts a (record { slots = ss }) m) in
     let k : ack ≡ anyFrom (acked a) 0 ss = sym (anyFrom-none (acked a) i ss ack (omega arith)) ∙ t .acks in
     let b : last ≡ firstFrom (drove a) (byteOf a m) 255 0 ss = f ∙ sym (firstFrom-none (drove a) (byteOf a m) 255 i ss driven byte (omega arith)) ∙ t .bytes in
     let w : r ≡ shown a (record { slots = ss }) m = g ∙ ap (λ (x : Bool). answerFor a x last) k ∙ ap (λ (x : ℕ). answerFor a (anyFrom (acked a) 0 ss) x) b ∙ told a ss m in

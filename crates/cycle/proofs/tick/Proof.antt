@@ -13,24 +13,14 @@ use Rattle.cycle.proofs.tick.Statement.{statement}
 use Rattle.cycle.proofs.tick.Tie as tie
 
 pub tick-spec : {M : Type 1} → statement M
-unfolding ended emptied addressOf withLeft latched protecting
+unfolding withLeft
 tick-spec =
     tie.close
     (tie.spec
     (λ c. tick-absent _ _ _ _ (c .if1 .taken) refl refl)
     (λ c κs. search needs)
     (λ c. search needs)
-    (λ c. search needs)
-    (λ c κs.
-    let n = c .before .before .before .before in
-    let g = n .before .before .before .before .before in
-    let v = facts (g .args .s) (g .pre .0) in
-    omega (arith, v .halves, v .counters, ap (λ (a : Address). a .0) (n .address-of .ensures), g .pre .1))
-    (λ c. search needs)
-    (λ c.
-    let n = c .before .before .before .before .before .before .before .before .before .before in
-    let s = n .before .before .before .before .before .args .s in
-    tick-ends s _ _ _ (n .address-of .result) _ (n .before .before .if1 .left) (n .before .if2 .taken) (n .address-of .ensures) refl refl (c .before .before .before .before .before .put .ensures))
+    (λ c. tick-ends _ _ _ _ (c .before .before .before .before .before .if1 .left) (c .before .before .before .before .if2 .taken) (c .before .before .ended .ensures .0) (c .before .before .ended .ensures .1))
     (λ c. tick-rests _ _ _ _ (c .before .before .if1 .left) (c .if3 .taken) refl refl)
     (λ c. search needs)
     (λ c. tick-waits _ _ _ _ (c .before .before .if1 .left) (c .before .if2 .left) refl refl))

@@ -1,5 +1,5 @@
 -- Document 01, "Memory exchanges": a write cycle over its N ticks, of every present slot: until the last nothing moves but the ticks left; at the
--- last the latched bytes are in memory, and what was to come stands. No other event than a tick changes a byte.
+-- last the latched bytes are in memory, and what was to come stands. No other event than a tick and a power cycle (`Document/Cut`) changes a byte.
 -- Assumes nothing.
 use Prim.Native.Nat.{ℕ, zero, suc, _+_, _-_}
 use native.Mathlib.Omega.{arith}
@@ -23,7 +23,7 @@ use Rattle.rules.specs.Bus.{memoryNext}
 use Rattle.rules.specs.Runs.{slotAfter, partAfter}
 use Rattle.rules.proofs.Document.Exchange.{last-tick, other-tick}
 
-abbrev ticks : ℕ → List Act
+abbrev pub ticks : ℕ → List Act
 ticks n = replicate n Tick
 
 -- j ticks of a cycle with j + l + 1 left
@@ -60,9 +60,10 @@ ends-part n (suc j) s m a e =
     ∙ ap (partAfter n (ticks (suc j)) (withLeft (s .left - 1) s)) still
     ∙ ends-part n j (withLeft (s .left - 1) s) m a (omega arith)
 
--- "Changing memory at the stop while the cycle still runs" is an error: whatever the slots hold, at a stop and at all else but a tick every byte stays
+-- "Changing memory at the stop while the cycle still runs" is an error: whatever the slots hold, at a stop and at all else but a tick and a power cycle
+-- every byte stays
 pub not-before : (b : Bus) (m : List ℕ) (v : ℕ) (more on : Bool) (k : SlotNo) (t : ℤ)
-    → map (λ (a : Act). memoryNext a b m) (Stop ∷ Start ∷ Byte v ∷ Read more ∷ Timeout ∷ Voltage k on ∷ Power ∷ Temperature k t ∷ [])
-    ≡ m ∷ m ∷ m ∷ m ∷ m ∷ m ∷ m ∷ m ∷ []
+    → map (λ (a : Act). memoryNext a b m) (Stop ∷ Start ∷ Byte v ∷ Read more ∷ Timeout ∷ Voltage k on ∷ Temperature k t ∷ [])
+    ≡ m ∷ m ∷ m ∷ m ∷ m ∷ m ∷ m ∷ []
 unfolding memoryNext
 not-before b m v more on k t = refl

@@ -12,6 +12,7 @@ use lib.ListN.{getD, set, replicate}
 use borrow.Author.Tests.{eq-eqb, ne-eqb, le-leb, lt-leb}
 use Rattle.lists.specs.Tests.{cond-cases, by-test, both, or-left-false, or-right-false}
 use Rattle.rules.specs.declared.Act.{Act}
+use Rattle.rules.specs.declared.Cut.{Cut}
 use Rattle.rules.specs.declared.Act.the-variants.{Start, Byte, Read, Stop, Timeout, Tick, Voltage, Power, Temperature}
 use Rattle.rules.specs.declared.Phase.{Phase}
 use Rattle.rules.specs.declared.Phase.the-variants.{Idle, Control, Deaf, MemoryCounter, MemoryData, MemoryRead, HalfSelected, CommandAddress, CommandData, CommandStop, SensorPointer, SensorHigh, SensorLow, SensorReadHigh, SensorReadLow}
@@ -24,9 +25,10 @@ use Rattle.rules.specs.Fresh.{noBytes, noMarks, freshSlot, freshSensor, 
 use Rattle.rules.specs.Sensor.{written, converted}
 use Rattle.rules.specs.Control.{protects}
 use Rattle.rules.specs.Memory.{upInPage, guarded, anyMark}
+use Rattle.rules.specs.Power.{running, broughtBy, cut, powerCut}
 use Rattle.rules.specs.Slot.{withSensorIn, commanding, taking, standing, letGo, lost, byteIn, acksIn, readIn, drivesIn, drivenIn, stopIn, switched, presentNext, slotNext, acks, drives, driven}
 use Rattle.rules.proofs.Run.Cases.{next-cases, present-next, byte-next, read-next}
-use Rattle.rules.proofs.Memory.Protection.{Cycle, asWas, pageBegins, commandBegins, goesOn, powerDrops, cycle-next}
+use Rattle.rules.proofs.Memory.Protection.{Cycle, asWas, pageBegins, commandBegins, goesOn, powerEnds, cycle-next}
 
 -- a slot that stands in another phase than deaf is there
 there : (s : Slot) (p : Phase) → standing s ≡ p → (p ≡ Deaf → ⊥) → absent s ≡ false
@@ -65,10 +67,6 @@ module _ (n : ℕ) (s : Slot) (p : Phase) (stood : standing s ≡ p) where
     at-stop : slotNext n Stop s ≡ inPhase Idle (stopIn p s)
     unfolding presentNext
     at-stop = present-next n Stop s (there s p stood here) ∙ ap (λ (q : Phase). inPhase Idle (stopIn q s)) stood
-
-    at-power : slotNext n Power s ≡ powered s
-    unfolding presentNext
-    at-power = present-next n Power s (there s p stood here)
 
 -- phases are told apart
 abbrev number : Phase → ℕ
@@ -152,11 +150,13 @@ pub read-abandons : (n : ℕ) (more : Bool) (s : Slot) → standing s ≡ Memory
 unfolding open-memory open-slot open-fields
 read-abandons n more s e = (drive-at n s MemoryData e, at-read n s MemoryData e more)
 
--- "A power cycle does the same, but keeps memory, protection and the high-voltage levels. A write cycle that is running is dropped": in every phase
-pub power-cycle : (n : ℕ) (s : Slot) → absent s ≡ false
-    → slotNext n Power s ≡ withVoltage (s .voltage) (expecting (s .protection) (protecting (s .protection) (freshSlot (s .kind) (s .length))))
-unfolding presentNext powered
-power-cycle n s a = present-next n Power s a
+-- "A power cycle does the same, but keeps memory, protection and the high-voltage levels.": in every phase; P3: the protection that a running cycle
+-- was to bring may come with it
+pub power-cycle : (n : ℕ) (k : Cut) (s : Slot) → absent s ≡ false
+    → let p : List Bool = cond (running s) (broughtBy k s) (s .protection) in
+    slotNext n (Power k) s ≡ withVoltage (s .voltage) (expecting p (protecting p (freshSlot (s .kind) (s .length))))
+unfolding presentNext powerCut powered cut open-memory open-fields
+power-cycle n k s a = present-next n (Power k) s a ∙ by-test (running s) (λ e. rw e) (λ e. rw e)
 
 pub fresh : (kind length : ℕ)
     → freshSlot kind length
@@ -164,7 +164,7 @@ pub fresh : (kind length : ℕ)
 unfolding freshSlot freshSensor
 fresh kind length = refl
 
--- "the tick that ends it (the slot's Nth after the stop) puts the latched bytes in memory and touches no other" (Stored.tick-byte), and what
+-- "the tick that ends it (the slot's Nth after the stop) puts the latched bytes in memory and touches no other" (Stored.act-byte), and what
 -- is to come stands; every other tick goes on with the cycle, and none moves a phase
 pub last-tick : (n : ℕ) (s : Slot) → absent s ≡ false → s .left ≡ 1 → slotNext n Tick s ≡ withLeft 0 (latched noBytes noMarks (protecting (s .coming) s))
 unfolding presentNext open-memory
@@ -363,14 +363,14 @@ pub stop-idle : (n : ℕ) (s : Slot) → absent s ≡ false → ((slotNext n Sto
 unfolding presentNext inPhase
 stop-idle n s a = (ap (λ (r : Slot). r .phase) (present-next n Stop s a), ap (λ (r : Slot). r .phase) (present-next n Timeout s a))
 
-not-shorter : (a : Act) (s : Slot) (left : ℕ) → s .left ≤ s .length → (a ≡ Tick → ⊥) → (a ≡ Power → ⊥) → Cycle a s left → s .left ≤ left
+not-shorter : (a : Act) (s : Slot) (left : ℕ) → s .left ≤ s .length → (a ≡ Tick → ⊥) → ((k : Cut) → a ≡ Power k → ⊥) → Cycle a s left → s .left ≤ left
 not-shorter a s left l t p (asWas e) = omega arith
 not-shorter a s left l t p (pageBegins e q m f) = omega arith
 not-shorter a s left l t p (commandBegins e q f) = omega arith
 not-shorter a s left l t p (goesOn e f) = absurd (t e)
-not-shorter a s left l t p (powerDrops e f) = absurd (p e)
+not-shorter a s left l t p (powerEnds k e f) = absurd (p k e)
 
-pub never-shortened : (n : ℕ) (a : Act) (s : Slot) → s .left ≤ s .length → (a ≡ Tick → ⊥) → (a ≡ Power → ⊥) → s .left ≤ (slotNext n a s) .left
+pub never-shortened : (n : ℕ) (a : Act) (s : Slot) → s .left ≤ s .length → (a ≡ Tick → ⊥) → ((k : Cut) → a ≡ Power k → ⊥) → s .left ≤ (slotNext n a s) .left
 never-shortened n a s l t p = not-shorter a s _ l t p (cycle-next n a s)
 
 -- "The cycle is judged at the control byte: a slot whose cycle ends after that byte stays deaf until the next start.": no tick moves a phase

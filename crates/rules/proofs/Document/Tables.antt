@@ -18,6 +18,7 @@ use Rattle.rules.specs.declared.Refusal.the-variants.{MemoryLength, Unkn
 use Rattle.rules.specs.declared.Sensor.{Sensor}
 use Rattle.rules.specs.declared.Slot.{Slot}
 use Rattle.rules.specs.declared.SlotNo.{SlotNo}
+use Rattle.rules.specs.declared.Cut.{Cut}
 use Rattle.rules.specs.Modelled.{slotCount, memoryBytes, slotBytes, absent, sensing, addressOf, blockOf, pageOf}
 use Rattle.rules.specs.Open.{open-all}
 use Rattle.rules.specs.Fields.{atCounter, inHalf, withLeft, placed, withSensor, pointing, withConfiguration, withHigh, withLow, withCritical, withTemperature, withResolution, withTimeout, withWord}
@@ -31,6 +32,9 @@ event kind slot value = record { kind = kind; slot = record { 0 = slot }; value 
 
 abbrev slot : ℕ → SlotNo
 slot n = record { 0 = n }
+
+abbrev cut : ℕ → Cut
+cut n = record { 0 = n }
 
 -- "What is modelled": eight slots of 512 bytes are the memory; kinds; address, block and page
 pub sizes : slotCount * slotBytes ≡ memoryBytes
@@ -55,9 +59,9 @@ addresses = refl
 -- "Events": each kind, with its slot and value where it has them, and with rubbish in its empty cells
 pub events : map actOf
     (event 1 9 (negsuc 4) ∷ event 2 9 (pos 0) ∷ event 2 9 (pos 255) ∷ event 3 9 (pos 0) ∷ event 3 9 (pos 1) ∷ event 4 9 (negsuc 4) ∷ event 5 9 (negsuc 4) ∷ event 6 9 (negsuc 4)
-    ∷ event 7 3 (pos 0) ∷ event 7 4 (pos 1) ∷ event 8 9 (negsuc 4) ∷ event 9 5 (negsuc 639) ∷ event 9 6 (pos 2000) ∷ [])
+    ∷ event 7 3 (pos 0) ∷ event 7 4 (pos 1) ∷ event 8 9 (pos 0) ∷ event 8 9 (pos 16) ∷ event 9 5 (negsuc 639) ∷ event 9 6 (pos 2000) ∷ [])
     ≡ Start ∷ Byte 0 ∷ Byte 255 ∷ Read false ∷ Read true ∷ Stop ∷ Timeout ∷ Tick
-    ∷ Voltage (slot 3) false ∷ Voltage (slot 4) true ∷ Power ∷ Temperature (slot 5) (negsuc 639) ∷ Temperature (slot 6) (pos 2000) ∷ []
+    ∷ Voltage (slot 3) false ∷ Voltage (slot 4) true ∷ Power (cut 0) ∷ Power (cut 16) ∷ Temperature (slot 5) (negsuc 639) ∷ Temperature (slot 6) (pos 2000) ∷ []
 unfolding open-all
 events = refl
 
@@ -105,13 +109,13 @@ fourthRow p = wrongValue (event (p .0) 0 (p .1))
 
 pub row-4 : map fourthRow
     ((2, negsuc 0) ∷ (2, pos 0) ∷ (2, pos 255) ∷ (2, pos 256) ∷ (3, negsuc 0) ∷ (3, pos 0) ∷ (3, pos 1) ∷ (3, pos 2) ∷ (7, negsuc 0) ∷ (7, pos 0) ∷ (7, pos 1) ∷ (7, pos 2)
-    ∷ (9, negsuc 640) ∷ (9, negsuc 639) ∷ (9, pos 2000) ∷ (9, pos 2001) ∷ [])
+    ∷ (8, negsuc 0) ∷ (8, pos 0) ∷ (8, pos 16) ∷ (8, pos 17) ∷ (9, negsuc 640) ∷ (9, negsuc 639) ∷ (9, pos 2000) ∷ (9, pos 2001) ∷ [])
     ≡ true ∷ false ∷ false ∷ true ∷ true ∷ false ∷ false ∷ true ∷ true ∷ false ∷ false ∷ true
-    ∷ true ∷ false ∷ false ∷ true ∷ []
+    ∷ true ∷ false ∷ false ∷ true ∷ true ∷ false ∷ false ∷ true ∷ []
 unfolding open-all
 row-4 = refl
 
-pub row-4-others : map (λ k. wrongValue (event k 0 (negsuc 32767))) (1 ∷ 4 ∷ 5 ∷ 6 ∷ 8 ∷ []) ≡ replicate 5 false
+pub row-4-others : map (λ k. wrongValue (event k 0 (negsuc 32767))) (1 ∷ 4 ∷ 5 ∷ 6 ∷ []) ≡ replicate 4 false
 unfolding open-all
 row-4-others = refl
 

@@ -1,10 +1,10 @@
--- When a slot's protection changes, and who decides to what: each step is calm, or is a tick, or is a control byte that the slot acknowledges.
+-- When a slot's protection changes, and who decides to what: each step is calm, or is a tick, a power cycle, or a control byte that the slot acknowledges.
 -- Assumes nothing.
 use Prim.Native.Nat.{ℕ, _+_, _-_, _*_, _/_}
 use native.Mathlib.Omega.{arith}
-use mathlib.Core.Path.{_≡_, refl, ap, _∙_}
+use mathlib.Core.Path.{_≡_, refl, sym, ap, _∙_}
 use mathlib.Core.Logic.{_⊎_, inl, inr, ⊎-elim}
-use mathlib.Core.Bool.{Bool, true, false, not, cond, _&&_}
+use mathlib.Core.Bool.{Bool, true, false, not, cond, _&&_, and-false}
 use mathlib.Core.List.{List, map}
 use lib.Dec.{eqb, leb}
 use lib.ListN.{length, set}
@@ -15,6 +15,7 @@ use Rattle.rules.specs.declared.Act.{Act}
 use Rattle.rules.specs.declared.Act.the-variants.{Start, Byte, Read, Stop, Timeout, Tick, Voltage, Power, Temperature}
 use Rattle.rules.specs.declared.BlockNo.{BlockNo}
 use Rattle.rules.specs.declared.Bus.{Bus}
+use Rattle.rules.specs.declared.Cut.{Cut}
 use Rattle.rules.specs.declared.Event.{Event}
 use Rattle.rules.specs.declared.Heard.{Heard}
 use Rattle.rules.specs.declared.Heard.the-variants.{Memory, Sensor, Protect, ClearAll, ReadProtection, SelectHalf, ReadHalf, Nothing}
@@ -31,10 +32,11 @@ use Rattle.rules.specs.Slot.{standing, commanding, letGo, byteIn, readIn
 use Rattle.rules.specs.Bus.{busNext}
 use Rattle.rules.specs.Refusals.{kindsOf}
 use Rattle.rules.specs.Runs.{Bench, taken, next, after}
+use Rattle.rules.specs.Power.{running, broughtBy, cut, powerCut}
 use Rattle.rules.specs.Open.{open-fields, open-memory, open-slot}
 use Rattle.rules.proofs.Run.Cases.{next-cases, let-go-cases}
 use Rattle.rules.proofs.Run.Unchanged.{same-next, same-after}
-use Rattle.rules.proofs.Memory.Stored.{isTick}
+use Rattle.rules.proofs.Memory.Stored.{ends, storing, finishes}
 
 -- What decides the protection to come, when slot n is s and the act is a; after it `stands` is protected, and `comes` is to come.
 pub data Decided (n : ℕ) (a : Act) (s : Slot) (stands comes : List Bool) : Type 0 where
@@ -45,19 +47,19 @@ pub data Decided (n : ℕ) (a : Act) (s : Slot) (stands comes : List Bool) : Typ
   byClear : (b : ℕ) → a ≡ Byte b → standing s ≡ Control → acks n b s ≡ true → heardOf b ≡ ClearAll → comes ≡ noBlocks → Decided n a s stands comes
 
 -- What becomes of the write cycle when the slot is s and the act is a, and `left` ticks are left after it: only a stop begins one, of a page
--- write or of a protect or clear with both its bytes; only a tick goes on with it, and only power drops it.
+-- write or of a protect or clear with both its bytes; only a tick goes on with it, and only power cuts it short.
 pub data Cycle (a : Act) (s : Slot) (left : ℕ) : Type 0 where
   asWas : left ≡ s .left → Cycle a s left
   pageBegins : a ≡ Stop → standing s ≡ MemoryData → anyMark (s .marks) ≡ true → left ≡ s .length → Cycle a s left
   commandBegins : a ≡ Stop → standing s ≡ CommandStop → left ≡ s .length → Cycle a s left
   goesOn : a ≡ Tick → left ≡ s .left - 1 → Cycle a s left
-  powerDrops : a ≡ Power → left ≡ 0 → Cycle a s left
+  powerEnds : (k : Cut) → a ≡ Power k → left ≡ 0 → Cycle a s left
 
 -- what an act does to those fields of a slot that outlast an exchange
 record Step (n : ℕ) (a : Act) (s r : Slot) : Type 0 where
   kind : r .kind ≡ s .kind
   length : r .length ≡ s .length
-  protection : r .protection ≡ cond (isTick a && not (absent s) && eqb (s .left) 1) (s .coming) (s .protection)
+  protection : r .protection ≡ cond (finishes a s && not (absent s)) (s .coming) (s .protection)
   coming : Decided n a s (r .protection) (r .coming)
   cycle : Cycle a s (r .left)
 
@@ -96,18 +98,18 @@ read-calm SensorLow more s = gone SensorLow s
 read-calm SensorReadHigh more s = cond-cases (Calm s) more (λ e. kept s) (λ e. gone SensorReadHigh s)
 read-calm SensorReadLow more s = gone SensorReadLow s
 
--- a calm step is as it should be, unless it is a tick's
-calm : {n : ℕ} (a : Act) {s r : Slot} → isTick a ≡ false → Calm s r → Step n a s r
+-- a calm step is as it should be, unless the act finishes a cycle
+calm : {n : ℕ} (a : Act) {s r : Slot} → finishes a s ≡ false → Calm s r → Step n a s r
 calm a t c = record { kind = c .0; length = c .1; protection = rw t (c .2); coming = ⊎-elim asBefore asStands (c .3); cycle = asWas (c .4) }
 
 module _ (n b : ℕ) (s : Slot) where
   quiet : {r : Slot} → Calm s r → Step n (Byte b) s r
-  unfolding isTick
+  unfolding finishes ends
   quiet = calm (Byte b) refl
 
   -- the control byte that the slot acknowledges
   heard-step : (h : Heard) → standing s ≡ Control → acks n b s ≡ true → heardOf b ≡ h → Step n (Byte b) s (obeyed h s)
-  unfolding open-fields obeyed isTick
+  unfolding open-fields obeyed finishes ends
   heard-step (Memory k false) p a e = quiet (kept s)
   heard-step (Memory k true) p a e = quiet (kept s)
   heard-step (Sensor k false) p a e = quiet (kept s)
@@ -140,7 +142,7 @@ module _ (n b : ℕ) (s : Slot) where
   byte-step SensorReadLow p = quiet (gone SensorReadLow s)
 
 tick-step : (n : ℕ) (s : Slot) → absent s ≡ false → Step n Tick s (ticked s)
-unfolding open-fields open-memory isTick
+unfolding open-fields open-memory finishes ends storing
 tick-step n s a = cond-cases (Step n Tick s) (eqb (s .left) 1)
     (λ e. record { kind = refl; length = refl; protection = rw (a, e); coming = asBefore refl; cycle = goesOn refl (ends (eqb-true (s .left) 1 e)) })
     (λ e. record { kind = refl; length = refl; protection = rw (a, e); coming = asBefore refl; cycle = goesOn refl refl })
@@ -148,13 +150,20 @@ tick-step n s a = cond-cases (Step n Tick s) (eqb (s .left) 1)
     ends : s .left ≡ 1 → 0 ≡ s .left - 1
     ends e = omega arith
 
+-- a power cycle: a running cycle ends, and brings what was to come unless its number is 0
+power-step : (n : ℕ) (k : Cut) (s : Slot) → absent s ≡ false → Step n (Power k) s (powerCut k s)
+unfolding open-fields open-memory powerCut powered freshSlot cut broughtBy finishes ends storing
+power-step n k s a = cond-cases (λ (r : Slot). Step n (Power k) s (powered r)) (running s)
+    (λ e. record { kind = refl; length = refl; protection = rw (a, e) (by-test (eqb (k .0) 0) (λ z. rw z) (λ z. rw z)); coming = asStands refl; cycle = powerEnds k refl refl })
+    (λ e. record { kind = refl; length = refl; protection = rw (a, e); coming = asStands refl; cycle = powerEnds k refl refl })
+
 -- a stop in each phase
 begins : {n : ℕ} {s r : Slot} → r .kind ≡ s .kind → r .length ≡ s .length → r .protection ≡ s .protection → r .coming ≡ s .coming → Cycle Stop s (r .left) → Step n Stop s r
-unfolding isTick
+unfolding finishes ends
 begins k l p c y = record { kind = k; length = l; protection = p; coming = asBefore c; cycle = y }
 
 stop-step : (n : ℕ) (p : Phase) (s : Slot) → standing s ≡ p → Step n Stop s (inPhase Idle (stopIn p s))
-unfolding open-fields open-memory open-slot isTick
+unfolding open-fields open-memory open-slot finishes ends
 stop-step n Idle s e = calm Stop refl (kept s)
 stop-step n Control s e = calm Stop refl (kept s)
 stop-step n Deaf s e = calm Stop refl (kept s)
@@ -173,7 +182,7 @@ stop-step n SensorReadHigh s e = calm Stop refl (gone SensorReadHigh s)
 stop-step n SensorReadLow s e = calm Stop refl (gone SensorReadLow s)
 
 present-step : (n : ℕ) (a : Act) (s : Slot) → absent s ≡ false → Step n a s (presentNext n a s)
-unfolding open-fields open-memory open-slot powered freshSlot isTick
+unfolding open-fields open-memory open-slot powerCut powered freshSlot finishes ends
 present-step n Start s h = calm Start refl (gone (standing s) s)
 present-step n (Byte b) s h = byte-step n b s (standing s) refl
 present-step n (Read more) s h = calm (Read more) refl (read-calm (standing s) more s)
@@ -182,17 +191,17 @@ present-step n Timeout s h = calm Timeout refl (gone (standing s) s)
 present-step n Tick s h = tick-step n s h
 present-step n (Voltage k on) s h = calm (Voltage k on) refl (cond-cases (Calm s) (eqb (k .0) n)
     (λ e. cond-cases (λ (r : Slot). Calm s (withVoltage on r)) (commanding (standing s) && s .voltage && not on) (λ e. gone (standing s) s) (λ e. kept s)) (λ e. kept s))
-present-step n Power s h = record { kind = refl; length = refl; protection = refl; coming = asStands refl; cycle = powerDrops refl refl }
+present-step n (Power k) s h = power-step n k s h
 present-step n (Temperature k t) s h = calm (Temperature k t) refl (cond-cases (Calm s) (eqb (k .0) n) (λ e. kept s) (λ e. kept s))
 
 untouched : (n : ℕ) (a : Act) (s : Slot) → absent s ≡ true → Step n a s s
-untouched n a s e = record { kind = refl; length = refl; protection = rw e (by-test (isTick a) (λ t. rw t) (λ t. rw t)); coming = asBefore refl; cycle = asWas refl }
+untouched n a s e = record { kind = refl; length = refl; protection = rw (e, and-false); coming = asBefore refl; cycle = asWas refl }
 
 slot-step : (n : ℕ) (a : Act) (s : Slot) → Step n a s (slotNext n a s)
 slot-step n a s = next-cases (Step n a s) n a s (untouched n a s) (present-step n a s)
 
--- protection changes only at the tick that ends a cycle, and then to what was to come
-pub protection-next : (n : ℕ) (a : Act) (s : Slot) → (slotNext n a s) .protection ≡ cond (isTick a && not (absent s) && eqb (s .left) 1) (s .coming) (s .protection)
+-- protection changes only at the tick or the power cycle that ends a cycle, and then to what was to come
+pub protection-next : (n : ℕ) (a : Act) (s : Slot) → (slotNext n a s) .protection ≡ cond (finishes a s && not (absent s)) (s .coming) (s .protection)
 protection-next n a s = slot-step n a s .protection
 
 -- what is to come is decided by protect and clear alone

@@ -109,7 +109,7 @@ shown-letter Stop b m e = omega (arith, e)
 shown-letter Timeout b m e = omega (arith, e)
 shown-letter Tick b m e = omega (arith, e)
 shown-letter (Voltage k on) b m e = omega (arith, e)
-shown-letter Power b m e = omega (arith, e)
+shown-letter (Power k) b m e = omega (arith, e)
 shown-letter (Temperature k t) b m e = omega (arith, e)
 
 row-of : (e : Event) (x : Bench) (r : Ruling) → Judged (x .bus) (x .memory) e r → letterOf (ruledAnswer r x) ≡ 0x52 → Row (x .bus) (x .memory) e (valueOf (ruledAnswer r x))

@@ -15,6 +15,7 @@ use Rattle.rules.specs.declared.Act.the-variants.{Start, Byte, Read, Sto
 use Rattle.rules.specs.declared.Answer.{Answer}
 use Rattle.rules.specs.declared.Answer.the-variants as answer
 use Rattle.rules.specs.declared.Bus.{Bus}
+use Rattle.rules.specs.declared.Cut.{Cut}
 use Rattle.rules.specs.declared.Event.{Event}
 use Rattle.rules.specs.declared.Heard.{Heard}
 use Rattle.rules.specs.declared.Heard.the-variants.{Memory, Sensor, Protect, ClearAll, ReadProtection, SelectHalf, ReadHalf, Nothing}
@@ -33,6 +34,7 @@ use Rattle.rules.specs.Events.{actOf, refusalNumber}
 use Rattle.rules.specs.Fresh.{freshSlot, setupSlot, powered}
 use Rattle.rules.specs.Control.{commandOf, heardOf, acksControl, obeyed, controlled}
 use Rattle.rules.specs.Memory.{emptied, abandoned, cancelled, loaded, guarded, upInPage, latching, dataByte, fetched, anyMark, begun, dataStop, ended, ticked}
+use Rattle.rules.specs.Power.{running, cut, powerCut}
 use Rattle.rules.specs.Slot.{standing, commanding, letGo, lost, pointer, firstByte, secondByte, byteIn, readIn, stopIn, switched, presentNext, slotNext}
 use Rattle.rules.specs.Bus.{busNext, shown, anyAck}
 use Rattle.rules.specs.Refusals.{outside, wrongValue, goodLength, goodPair, kindInRange, lengthInRange, sensorInRange, slotInRange, inRange, setupOf}
@@ -299,6 +301,11 @@ powered-kept : (s : Slot) → InRange s → InRange (powered s)
 unfolding powered freshSlot open-fields
 powered-kept s v = record { kinds = v .kinds; lengths = v .lengths; lefts = omega arith; halves = omega arith; counters = omega arith; places = omega arith; sensors = fresh-kept }
 
+-- what is left of a cycle is not looked at
+power-kept : (k : Cut) (s : Slot) → InRange s → InRange (powerCut k s)
+unfolding powerCut cut open-fields
+power-kept k s v = powered-kept _ (cond-cases InRange (running s) (λ e. ended-kept (cut k s) v) (λ e. v))
+
 -- an act whose byte is a byte keeps a slot in range
 unfoldable pub byteFits : Act → Bool
 byteFits Start = true
@@ -308,7 +315,7 @@ byteFits Stop = true
 byteFits Timeout = true
 byteFits Tick = true
 byteFits (Voltage k on) = true
-byteFits Power = true
+byteFits (Power k) = true
 byteFits (Temperature k t) = true
 
 present-kept : (n : ℕ) (a : Act) (s : Slot) → byteFits a ≡ true → InRange s → InRange (presentNext n a s)
@@ -320,7 +327,7 @@ present-kept n Stop s f v = phase-kept Idle _ (stop-kept (standing s) s v)
 present-kept n Timeout s f v = phase-kept Idle _ (letGo-kept (standing s) s v)
 present-kept n Tick s f v = ticked-kept s v
 present-kept n (Voltage k on) s f v = cond-cases InRange (eqb (k .0) n) (λ e. switched-kept on s v) (λ e. v)
-present-kept n Power s f v = powered-kept s v
+present-kept n (Power k) s f v = power-kept k s v
 present-kept n (Temperature k t) s f v =
     cond-cases InRange (eqb (k .0) n) (λ e. sensor-kept _ s (converted-kept (s .sensor) t (v .sensors)) v) (λ e. v)
 
@@ -437,7 +444,7 @@ shown-not-six Stop b m = refl
 shown-not-six Timeout b m = refl
 shown-not-six Tick b m = refl
 shown-not-six (Voltage k on) b m = refl
-shown-not-six Power b m = refl
+shown-not-six (Power k) b m = refl
 shown-not-six (Temperature k t) b m = refl
 
 ruled-not-six : (r : Ruling) (x : Bench) → notSix r → isSix (ruledAnswer r x) ≡ false

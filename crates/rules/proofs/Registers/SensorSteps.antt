@@ -25,6 +25,7 @@ use Rattle.rules.specs.Memory.{guarded, anyMark}
 use Rattle.rules.specs.Open.{open-fields, open-memory, open-control, open-slot}
 use Rattle.rules.specs.Sensor.{limitBits, resolutionBits, timeoutBits, criticalLocked, limitsLocked, configured, written, converted}
 use Rattle.rules.specs.Runs.{slotAfter}
+use Rattle.rules.specs.Power.{powerCut}
 use Rattle.rules.specs.Slot.{standing, commanding, letGo, lost, byteIn, readIn, stopIn, presentNext, slotNext, switched}
 use Rattle.rules.proofs.Run.Cases.{next-cases, let-go-cases}
 
@@ -64,7 +65,7 @@ isPower Stop = false
 isPower Timeout = false
 isPower Tick = false
 isPower (Voltage k on) = false
-isPower Power = true
+isPower (Power k) = true
 isPower (Temperature k t) = false
 
 unfoldable pub isHeat : Act → Bool
@@ -75,7 +76,7 @@ isHeat Stop = false
 isHeat Timeout = false
 isHeat Tick = false
 isHeat (Voltage k on) = false
-isHeat Power = false
+isHeat (Power k) = false
 isHeat (Temperature k t) = true
 
 unfoldable pub withoutPower : List Act → Bool
@@ -168,7 +169,7 @@ module _ (R : Sensor → Sensor → Type 0) (every : Respected R) where
 
   present-goes : (n : ℕ) (a : Act) (s : Slot) → (isPower a ≡ true → R (s .sensor) freshSensor) → ((t : ℤ) → isHeat a ≡ true → R (s .sensor) (converted (s .sensor) t))
       → Goes s (presentNext n a s)
-  unfolding isPower isHeat presentNext switched powered freshSlot lost open-fields open-memory
+  unfolding isPower isHeat presentNext switched powerCut powered freshSlot lost open-fields open-memory
   present-goes n Start s fresh hot = gone (standing s) s
   present-goes n (Byte b) s fresh hot = byte-goes (standing s) n b s
   present-goes n (Read more) s fresh hot = read-goes (standing s) more s
@@ -179,7 +180,7 @@ module _ (R : Sensor → Sensor → Type 0) (every : Respected R) where
       cond-cases (Goes s) (eqb (k .0) n)
       (λ e. cond-cases (Goes s) (commanding (standing s) && s .voltage && not on) (λ e. gone (standing s) s) (λ e. still s))
       (λ e. still s)
-  present-goes n Power s fresh hot = fresh refl
+  present-goes n (Power k) s fresh hot = fresh refl
   present-goes n (Temperature k t) s fresh hot =
       cond-cases (Goes s) (eqb (k .0) n) (λ e. hot t refl) (λ e. still s)
 

@@ -9,6 +9,7 @@ use lib.Dec.{eqb}
 use lib.IntN.{ℤ}
 use lib.ListN.{getD, replicate}
 use Rattle.rules.specs.declared.SlotNo.{SlotNo}
+use Rattle.rules.specs.declared.Cut.{Cut}
 use Rattle.rules.specs.Fresh.{absentSlot}
 use Rattle.rules.specs.Refusals.{setupOf}
 use Rattle.rules.specs.Runs.{Bench}
@@ -59,8 +60,8 @@ second-control-byte = record { kept = refl; done = refl; undone = refl }
 
 -- "the pin and temperature events of other slots" are struck out between exchanges, and nothing else: shared events keep their place, and so do
 -- stray bytes, reads and stops, for every slot
-pub between-exchanges : (s : ℕ) (k : SlotNo) (on : Bool) (t : ℤ)
-    → map (struckGap s) (strayByte 0xA0 ∷ strayRead on ∷ strayStop ∷ timeout ∷ tick ∷ power ∷ voltage k on ∷ temperature k t ∷ [])
+pub between-exchanges : (s : ℕ) (k : SlotNo) (on : Bool) (j : Cut) (t : ℤ)
+    → map (struckGap s) (strayByte 0xA0 ∷ strayRead on ∷ strayStop ∷ timeout ∷ tick ∷ power j ∷ voltage k on ∷ temperature k t ∷ [])
     ≡ false ∷ false ∷ false ∷ false ∷ false ∷ false ∷ not (eqb (k .0) s) ∷ not (eqb (k .0) s) ∷ []
 unfolding struckGap
-between-exchanges s k on t = refl
+between-exchanges s k on j t = refl

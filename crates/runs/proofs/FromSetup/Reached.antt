@@ -27,6 +27,7 @@ use Rattle.rules.specs.Fresh.{noBytes, noMarks, freshSlot, setupSlot, absentSlo
 use Rattle.rules.specs.Sensor.{converted}
 use Rattle.rules.specs.Control.{acksHeard, acksControl, heardOf, obeyed, controlled, protects}
 use Rattle.rules.specs.Memory.{emptied, ended, cancelled, guarded, latching, fetched, anyMark, ticked}
+use Rattle.rules.specs.Power.{powerCut}
 use Rattle.rules.specs.Slot.{withSensorIn, commanding, taking, standing, letGo, lost, pointer, firstByte, secondByte, byteIn, readIn, stopIn, switched, presentNext, slotNext}
 use Rattle.rules.specs.Refusals.{goodLength, goodPair, setupOf}
 use Rattle.rules.specs.Runs.{after}
@@ -363,7 +364,7 @@ tick-held s h = by-test (eqb (s .left) 1) (λ e. rw e (rw e at h)) (λ e. rw e (
 
 -- each act, of a present slot whose cycle has a length
 present-holds : (n : ℕ) (a : Act) (s : Slot) → standing s ≡ s .phase → (s .length ≡ 0 → ⊥) → Held s → Held (presentNext n a s)
-unfolding presentNext switched powered freshSlot freshSensor open-fields
+unfolding presentNext switched powerCut powered freshSlot freshSensor open-fields
 present-holds n Start s e l h = subst (λ (p : Phase). Waiting (letGo p s)) (sym e) (let-go-waits (s .phase) s h)
 present-holds n (Byte b) s e l h = subst (λ (p : Phase). Held (byteIn p n b s)) (sym e) (byte-holds (s .phase) n b s refl h h)
 present-holds n (Read more) s e l h = subst (λ (p : Phase). Held (readIn p more s)) (sym e) (read-holds (s .phase) more s h h)
@@ -372,7 +373,7 @@ present-holds n Timeout s e l h = subst (λ (p : Phase). Waiting (letGo p s)) (s
 present-holds n Tick s e l h = tick-held s (tick-holds (s .phase) s h)
 present-holds n (Voltage k on) s e l h = cond-cases Held (eqb (k .0) n)
     (λ f. subst (λ (p : Phase). Held (withVoltage on (cond (commanding p && s .voltage && not on) (lost p s) s))) (sym e) (switched-holds (s .phase) on s refl h)) (λ f. h)
-present-holds n Power s e l h = rests (record { no-ticks = refl; no-bytes = refl; no-marks = refl; steady = refl; no-place = refl; no-word = refl })
+present-holds n (Power k) s e l h = rests (record { no-ticks = refl; no-bytes = refl; no-marks = refl; steady = refl; no-place = refl; no-word = refl })
 present-holds n (Temperature k t) s e l h = cond-cases Held (eqb (k .0) n) (λ f. worded-holds (s .phase) (converted (s .sensor) t) s (word-fixed (s .sensor) t) h) (λ f. h)
 
 -- every act keeps what is reached

@@ -1,14 +1,14 @@
 -- Over runs: protection changes only at the end of a cycle that an acknowledged protect or clear began, to what that command asked for;
--- bytes change only at the end of a page write's cycle. Of one slot alone, and a run of acts; `History` carries it to the bench.
+-- bytes change only at the end of a page write's cycle. A cycle ends at its last tick, or where power is lost. Of one slot alone, and a run of acts; `History` carries it to the bench.
 -- Assumes nothing.
-use Prim.Native.Nat.{ℕ, _-_}
+use Prim.Native.Nat.{ℕ, zero, suc, _-_}
 use native.Mathlib.Omega.{arith}
 use mathlib.Core.Path.{_≡_, refl, sym, _∙_, ap, subst}
 use mathlib.Core.Logic.{_⊎_, inl, inr, ⊎-elim}
 use mathlib.Core.Bool.{Bool, true, false, false≢true, not, cond, _&&_}
 use mathlib.Core.List.{List, [], _∷_, _++_, append-nil, append-assoc}
 use lib.Dec.{eqb}
-use lib.ListN.{set}
+use lib.ListN.{getD, set, replicate}
 use borrow.Author.Tests.{eqb-true, eqb-false, ne-eqb}
 use Rattle.lists.specs.Each.{anyFrom}
 use Rattle.lists.specs.Tests.{cond-cases, by-test, and-left, and-right, cond-true, cond-false}
@@ -20,17 +20,20 @@ use Rattle.rules.specs.declared.Heard.the-variants as heard
 use Rattle.rules.specs.declared.Phase.{Phase}
 use Rattle.rules.specs.declared.Phase.the-variants.{Idle, Control, MemoryData, CommandStop}
 use Rattle.rules.specs.declared.Slot.{Slot}
-use Rattle.rules.specs.Modelled.{absent, addressOf, pageOf}
+use Rattle.rules.specs.Modelled.{absent}
 use Rattle.rules.specs.Open.{open-fields, open-memory, open-slot}
 use Rattle.rules.specs.Fields.{inPhase, withVoltage}
 use Rattle.rules.specs.Fresh.{noBlocks, noMarks, freshSlot, powered}
 use Rattle.rules.specs.Control.{heardOf, acksHeard, acksControl, controlled}
-use Rattle.rules.specs.Memory.{anyMark, putUpTo, stored, tickedPart}
+use Rattle.rules.specs.Memory.{anyMark}
+use Rattle.rules.specs.Power.{firstOf, powerCut}
 use Rattle.rules.specs.Slot.{commanding, standing, letGo, lost, byteIn, readIn, stopIn, acksIn, acks, presentNext, slotNext, partNext}
 use Rattle.rules.specs.Runs.{slotAfter}
 use Rattle.rules.proofs.Run.Cases.{next-cases, stands}
-use Rattle.rules.proofs.Memory.Stored.{isTick}
-use Rattle.rules.proofs.Memory.Protection.{Decided, asBefore, asStands, byProtect, byClear, Cycle, asWas, pageBegins, commandBegins, goesOn, powerDrops, protection-next, coming-next, cycle-next}
+use Rattle.rules.proofs.Memory.First.{first-at}
+use Rattle.rules.proofs.Memory.Stored.{pageStart, storing, finishes, finishes-runs, part-stored, part-still, put-none}
+use Rattle.rules.proofs.Memory.Stored as stored
+use Rattle.rules.proofs.Memory.Protection.{Decided, asBefore, asStands, byProtect, byClear, Cycle, asWas, pageBegins, commandBegins, goesOn, powerEnds, protection-next, coming-next, cycle-next}
 use Rattle.runs.proofs.FromSetup.Reached.{Outside, by-outside, Reach, slot-reach}
 use Rattle.runs.proofs.FromSetup.Together.{ticks-outside, taking-steady, command-bare, cycle-marks}
 
@@ -82,7 +85,7 @@ module _ (n : ℕ) (s : Slot) (o : Outside (standing s)) (l : s .left ≡ 0 → 
   unheard b = rw (ne-eqb (s .left) 0 l) same
 
   present-runs : (a : Act) → Runs s (presentNext n a s)
-  unfolding open-fields open-memory open-slot powered freshSlot
+  unfolding open-fields open-memory open-slot powerCut powered freshSlot
   present-runs Start = inr (by-outside (λ p. SamePage s (letGo p s)) (standing s) same same same o)
   present-runs (Byte b) = inr (by-outside (λ p. SamePage s (byteIn p n b s)) (standing s) same same (unheard b) o)
   present-runs (Read more) = inr (by-outside (λ p. SamePage s (readIn p more s)) (standing s) same same same o)
@@ -91,7 +94,7 @@ module _ (n : ℕ) (s : Slot) (o : Outside (standing s)) (l : s .left ≡ 0 → 
   present-runs Tick = cond-cases (Runs s) (eqb (s .left) 1) (λ e. inl refl) (λ e. inr same)
   present-runs (Voltage k on) = inr (cond-cases (SamePage s) (eqb (k .0) n)
       (λ e. by-outside (λ p. SamePage s (withVoltage on (cond (commanding p && s .voltage && not on) (lost p s) s))) (standing s) same same same o) (λ e. same))
-  present-runs Power = inl refl
+  present-runs (Power k) = inl refl
   present-runs (Temperature k t) = inr (cond-cases (SamePage s) (eqb (k .0) n) (λ e. same) (λ e. same))
 
 running : (n : ℕ) (a : Act) (s : Slot) → Outside (s .phase) → (s .left ≡ 0 → ⊥) → Runs s (slotNext n a s)
@@ -115,23 +118,19 @@ none-marked : anyMark noMarks ≡ false
 unfolding anyMark anyFrom
 none-marked = refl
 
--- an act that changes the slot's bytes is the tick that ends a cycle, with something marked
-none-stored : (s : Slot) (m : List ℕ) → s .marks ≡ noMarks → stored s m ≡ m
-unfolding stored putUpTo
-none-stored s m e = ap (λ (marks : List Bool). putUpTo (s .latch) marks (pageOf (addressOf s) .0) 16 m) e
+-- an act that changes the slot's bytes finishes a cycle, with something marked
+none-latched : (n j : ℕ) → getD (replicate n false) j false ≡ false
+none-latched zero j = refl
+none-latched (suc n) zero = refl
+none-latched (suc n) (suc j) = none-latched n j
 
-stores : (a : Act) (s : Slot) (m : List ℕ) → (partNext a s m ≡ m → ⊥) → (isTick a ≡ true) × (s .left ≡ 1) × (s .marks ≡ noMarks → ⊥)
-unfolding partNext tickedPart isTick
-stores Start s m ne = absurd (ne refl)
-stores (Byte b) s m ne = absurd (ne refl)
-stores (Read more) s m ne = absurd (ne refl)
-stores Stop s m ne = absurd (ne refl)
-stores Timeout s m ne = absurd (ne refl)
-stores Tick s m ne = by-test (absent s) (λ e. absurd (ne (rw e))) λ e.
-    by-test (eqb (s .left) 1) (λ f. (refl, eqb-true (s .left) 1 f, λ u. ne (rw (e, f) (none-stored s m u)))) (λ f. absurd (ne (rw (e, f))))
-stores (Voltage k on) s m ne = absurd (ne refl)
-stores Power s m ne = absurd (ne refl)
-stores (Temperature k t) s m ne = absurd (ne refl)
+stores : (a : Act) (s : Slot) (m : List ℕ) → (partNext a s m ≡ m → ⊥) → (finishes a s ≡ true) × (s .marks ≡ noMarks → ⊥)
+unfolding finishes
+stores a s m ne = by-test (absent s) (λ e. absurd (ne (part-stored a s m ∙ rw e))) λ e.
+    by-test (stored.ends a s) (λ f. (
+      by-test (eqb (storing a .0) 0) (λ z. absurd (ne (part-still a s m (eqb-true (storing a .0) 0 z)))) (λ z. rw (f, z)),
+      λ u. ne (part-stored a s m ∙ rw (e, f) (put-none (s .latch) (firstOf (storing a) (s .marks)) (pageStart s) 16 m (λ j. first-at (storing a) (s .marks) j ∙ rw (u, none-latched 16 j)))),
+    )) (λ f. absurd (ne (part-stored a s m ∙ rw (e, f))))
 
 -- What a command asks for, of the protection that stands when it is acknowledged.
 pub data Asks : Heard → List Bool → List Bool → Type 0 where
@@ -194,7 +193,7 @@ module _ (n : ℕ) (s₀ : Slot) where
     waits same ne z w (commandBegins e p l) =
         inr (record { earlier = r; later = []; parts = ap (λ (b : Act). r ++ b ∷ []) e; asked = subst (Asked r) (sym same) w; ready = p })
     waits same ne z w (goesOn e l) = inl (l ∙ omega arith, asked-on a (subst (Asked r) (sym same) w))
-    waits same ne z w (powerDrops e l) = inl (l, asked-on a (subst (Asked r) (sym same) w))
+    waits same ne z w (powerEnds k e l) = inl (l, asked-on a (subst (Asked r) (sym same) w))
 
     goes : t .coming ≡ (at r) .coming → ((at r) .coming ≡ (at r) .protection → ⊥) → Cycle a (at r) (t .left) → Tells
     goes same ne y = ⊎-elim (λ w. waits same ne (w .0) (w .1) y) (λ w. inr (begun-on a (subst (CommandBegun r) (sym same) w))) (told ne)
@@ -211,9 +210,9 @@ module _ (n : ℕ) (s₀ : Slot) where
         none-left (pageBegins f q m l) = absurd (stop-no-byte b (sym f ∙ e))
         none-left (commandBegins f q l) = absurd (stop-no-byte b (sym f ∙ e))
         none-left (goesOn f l) = l ∙ omega (arith, free)
-        none-left (powerDrops f l) = l
+        none-left (powerEnds k f l) = l
 
-    decides : t .protection ≡ cond (isTick a && not (absent (at r)) && eqb ((at r) .left) 1) ((at r) .coming) ((at r) .protection)
+    decides : t .protection ≡ cond (finishes a (at r) && not (absent (at r))) ((at r) .coming) ((at r) .protection)
         → (t .coming ≡ t .protection → ⊥) → Cycle a (at r) (t .left) → Decided n a (at r) (t .protection) (t .coming) → Tells
     decides q ne y (asStands e) = absurd (ne e)
     decides q ne y (byProtect b k e p f h c) =
@@ -223,7 +222,7 @@ module _ (n : ℕ) (s₀ : Slot) where
     decides q ne y (asBefore e) = by-test ends (λ f. absurd (ne (e ∙ sym (q ∙ cond-true ends _ _ f)))) (λ f. goes e (λ c. ne (e ∙ c ∙ sym (q ∙ cond-false ends _ _ f))) y)
       where
         ends : Bool
-        ends = isTick a && not (absent (at r)) && eqb ((at r) .left) 1
+        ends = finishes a (at r) && not (absent (at r))
 
   told-snoc : Reach s₀ → (r : List Act) (a : Act) → Told r (at r) → Told (r ++ a ∷ []) (at (r ++ a ∷ []))
   told-snoc reach r a told = subst (Told (r ++ a ∷ [])) (sym (slot-snoc n r a s₀))
@@ -233,21 +232,20 @@ module _ (n : ℕ) (s₀ : Slot) where
   unfolding slotAfter
   told reach calm = snoc-induction (λ (r : List Act). Told r (at r)) (λ ne. absurd (ne calm)) (told-snoc reach)
 
-  -- Protection changes only at the tick that ends a cycle which an acknowledged protect or clear began, to what that command asked for.
+  -- Protection changes only at the tick or the cut that ends a cycle which an acknowledged protect or clear began, to what that command asked for.
   pub protection-story : Reach s₀ → s₀ .coming ≡ s₀ .protection → (r : List Act) (a : Act)
       → ((slotNext n a (at r)) .protection ≡ (at r) .protection → ⊥)
-      → (isTick a ≡ true) × ((at r) .left ≡ 1) × CommandBegun r ((slotNext n a (at r)) .protection)
+      → (finishes a (at r) ≡ true) × CommandBegun r ((slotNext n a (at r)) .protection)
   protection-story reach calm r a ne = by-test ends
-      (λ e. let one : (at r) .left ≡ 1 = eqb-true ((at r) .left) 1 (and-right (isTick a && not (absent (at r))) (eqb ((at r) .left) 1) e) in
+      (λ e. let done : finishes a (at r) ≡ true = and-left (finishes a (at r)) (not (absent (at r))) e in
       let q : (slotNext n a (at r)) .protection ≡ (at r) .coming = protection-next n a (at r) ∙ cond-true ends _ _ e in (
-        and-left (isTick a) (not (absent (at r))) (and-left (isTick a && not (absent (at r))) (eqb ((at r) .left) 1) e),
-        one,
-        ⊎-elim (λ w. absurd (let z = w .0 in omega arith)) (λ w. subst (CommandBegun r) (sym q) w) (told reach calm r (λ c. ne (q ∙ c))),
+        done,
+        ⊎-elim (λ w. absurd (finishes-runs a (at r) done (w .0))) (λ w. subst (CommandBegun r) (sym q) w) (told reach calm r (λ c. ne (q ∙ c))),
       ))
       (λ e. absurd (ne (protection-next n a (at r) ∙ cond-false ends _ _ e)))
     where
       ends : Bool
-      ends = isTick a && not (absent (at r)) && eqb ((at r) .left) 1
+      ends = finishes a (at r) && not (absent (at r))
 
   -- Latched bytes in a running cycle are those of the stop that began it.
   abbrev Pages : List Act → Slot → Type 0
@@ -275,7 +273,7 @@ module _ (n : ℕ) (s₀ : Slot) where
       starts : s .left ≡ 0 → Cycle a s (t .left) → PageBegun (r ++ a ∷ []) t
       starts z (asWas e) = absurd (l (e ∙ z))
       starts z (goesOn f e) = absurd (l (e ∙ omega (arith, z)))
-      starts z (powerDrops f e) = absurd (l e)
+      starts z (powerEnds k f e) = absurd (l e)
       starts z (commandBegins f p e) = absurd (false≢true (sym none-marked ∙ sym (ap anyMark (stop-bare n a s f p (command-bare s reach p))) ∙ m))
       starts z (pageBegins f p k e) = record { earlier = r; later = []; parts = ap (λ (b : Act). r ++ b ∷ []) f; taking = p; page = stop-page n a s f p k }
 
@@ -284,10 +282,10 @@ module _ (n : ℕ) (s₀ : Slot) where
   pages reach calm = snoc-induction (λ (r : List Act). Pages r (at r)) (λ l m. absurd (l calm))
       (λ r a h. subst (Pages (r ++ a ∷ [])) (sym (slot-snoc n r a s₀)) (pages-next r a (run-reach n r s₀ reach) h))
 
-  -- Bytes change only at the tick that ends a page write's cycle, which a stop with at least one latched byte began.
+  -- Bytes change only at the tick or the cut that ends a page write's cycle, which a stop with at least one latched byte began.
   pub bytes-story : Reach s₀ → s₀ .left ≡ 0 → (r : List Act) (a : Act) (m : List ℕ) → (partNext a (at r) m ≡ m → ⊥)
-      → (isTick a ≡ true) × ((at r) .left ≡ 1) × PageBegun r (at r)
+      → (finishes a (at r) ≡ true) × PageBegun r (at r)
   bytes-story reach calm r a m ne =
       let w = stores a (at r) m ne in
-      let runs : (at r) .left ≡ 0 → ⊥ = λ z. let one = w .1 in omega (arith, one, z) in
-      (w .0, w .1, ⊎-elim (λ e. pages reach calm r runs e) (λ e. absurd ((w .2) e)) (cycle-marks (at r) (run-reach n r s₀ reach) runs))
+      let runs : (at r) .left ≡ 0 → ⊥ = finishes-runs a (at r) (w .0) in
+      (w .0, ⊎-elim (λ e. pages reach calm r runs e) (λ e. absurd ((w .1) e)) (cycle-marks (at r) (run-reach n r s₀ reach) runs))

@@ -7,18 +7,17 @@ use mathlib.Core.Bool.{Bool, false, cond}
 use mathlib.Core.List.{List, [], _∷_}
 use lib.ListN.{length, getD}
 use Rattle.lists.specs.Each.{mapFrom-at, anyFrom-one, firstFrom-one}
-use Rattle.lists.specs.Parts.{part, part-eachPart}
+use Rattle.lists.specs.Parts.{part}
 use Rattle.rules.specs.declared.Act.{Act}
 use Rattle.rules.specs.declared.Act.the-variants.{Start, Byte, Read, Stop, Timeout, Tick, Voltage, Power, Temperature}
 use Rattle.rules.specs.declared.Answer.the-variants.{Ack, Nack, Data}
 use Rattle.rules.specs.declared.Slot.{Slot}
 use Rattle.rules.specs.Modelled.{slotBytes}
-use Rattle.rules.specs.Memory.{tickedPart}
 use Rattle.rules.specs.Slot.{slotNext, partNext, acks, drives, driven}
-use Rattle.rules.specs.Bus.{busNext, memoryNext, anyAck, readByte, shown}
+use Rattle.rules.specs.Bus.{busNext, anyAck, readByte, shown}
 use Rattle.rules.specs.Runs.{Bench, taken, given, slotAfter, partAfter}
 use Rattle.runs.specs.Exchanges.{went, told, shownAlone, toldAlone}
-use Rattle.rules.proofs.Memory.Stored.{length-tickedPart}
+use Rattle.rules.proofs.Memory.Stored.{part-next}
 use Rattle.rules.proofs.Memory.Protection.{number-taken}
 
 -- a bench's slots and slot k's part of its memory
@@ -37,7 +36,7 @@ Silent i Stop s = Unit {0}
 Silent i Timeout s = Unit {0}
 Silent i Tick s = Unit {0}
 Silent i (Voltage k on) s = Unit {0}
-Silent i Power s = Unit {0}
+Silent i (Power k) s = Unit {0}
 Silent i (Temperature k t) s = Unit {0}
 
 -- and over a run
@@ -55,16 +54,8 @@ module _ (d : Slot) (k : ℕ) where
   slot-taken a x h = rw (mapFrom-at (λ n s. slotNext n a s) 0 (slotsOf x) k d h, zero-add)
 
   pub part-taken : (a : Act) (x : Bench) → k < length (slotsOf x) → partOf k (taken a x) ≡ partNext a (slotAt x) (partOf k x)
-  unfolding taken memoryNext partNext
-  part-taken Start x h = refl
-  part-taken (Byte v) x h = refl
-  part-taken (Read b) x h = refl
-  part-taken Stop x h = refl
-  part-taken Timeout x h = refl
-  part-taken Tick x h = part-eachPart slotBytes tickedPart length-tickedPart (slotsOf x) (x .memory) k d h
-  part-taken (Voltage j on) x h = refl
-  part-taken Power x h = refl
-  part-taken (Temperature j t) x h = refl
+  unfolding taken
+  part-taken a x h = part-next a (x .bus) (x .memory) k d h
 
   below-taken : (a : Act) (x : Bench) → k < length (slotsOf x) → k < length (slotsOf (taken a x))
   below-taken a x h = rw number-taken h
@@ -94,7 +85,7 @@ module _ (d : Slot) (k : ℕ) where
   given-one Timeout x h q = refl
   given-one Tick x h q = refl
   given-one (Voltage j on) x h q = refl
-  given-one Power x h q = refl
+  given-one (Power j) x h q = refl
   given-one (Temperature j t) x h q = refl
 
 -- and over a run

@@ -122,7 +122,7 @@ absent-once n Stop s e = tt
 absent-once n Timeout s e = tt
 absent-once n Tick s e = tt
 absent-once n (Voltage k on) s e = tt
-absent-once n Power s e = tt
+absent-once n (Power k) s e = tt
 absent-once n (Temperature k t) s e = tt
 
 absent-silent : (n : ℕ) (r : List Act) (s : Slot) → absent s ≡ true → SilentOver n r s

@@ -22,7 +22,7 @@ items-gap strayStop r = refl
 items-gap timeout r = refl
 items-gap tick r = refl
 items-gap (voltage k on) r = refl
-items-gap power r = refl
+items-gap (power k) r = refl
 items-gap (temperature k t) r = refl
 
 -- a run written from items parses into them
@@ -71,7 +71,7 @@ mutual
   flatten-items (Timeout ∷ r) is e = gap-first r timeout is (flatten-items r) e
   flatten-items (Tick ∷ r) is e = gap-first r tick is (flatten-items r) e
   flatten-items (Voltage k on ∷ r) is e = gap-first r (voltage k on) is (flatten-items r) e
-  flatten-items (Power ∷ r) is e = gap-first r power is (flatten-items r) e
+  flatten-items (Power k ∷ r) is e = gap-first r (power k) is (flatten-items r) e
   flatten-items (Temperature k t ∷ r) is e = gap-first r (temperature k t) is (flatten-items r) e
 
   stop-within : (r : List Act) (t : Rest) → within r ≡ some t → written t ≡ r
@@ -83,5 +83,5 @@ mutual
   stop-within (Timeout ∷ r) t e = absurd (Option·none-ne-some _ e)
   stop-within (Tick ∷ r) t e = absurd (Option·none-ne-some _ e)
   stop-within (Voltage k on ∷ r) t e = absurd (Option·none-ne-some _ e)
-  stop-within (Power ∷ r) t e = absurd (Option·none-ne-some _ e)
+  stop-within (Power k ∷ r) t e = absurd (Option·none-ne-some _ e)
   stop-within (Temperature k u ∷ r) t e = absurd (Option·none-ne-some _ e)

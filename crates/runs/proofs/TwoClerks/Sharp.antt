@@ -49,10 +49,17 @@ pub past-a-tick : (byteAt 0 (writes 0 ∷ between tick ∷ []) ≡ 0x5A) × (byt
 unfolding open-all went flatten itemActs upToStop insideAct gapAct
 past-a-tick = (refl, refl)
 
--- a power cycle: the counter is 0, or where the exchange put it
-pub past-a-power-cycle : (counterAfter (points 5 ∷ between power ∷ []) ≡ 0) × (counterAfter (between power ∷ points 5 ∷ []) ≡ 5)
+-- a power cycle: the counter is 0, or where the exchange put it; and its number counts: the byte is stored, or lost
+abbrev lost : ℕ → Item
+lost n = between (power (record { 0 = n }))
+
+pub past-a-power-cycle : (counterAfter (points 5 ∷ lost 0 ∷ []) ≡ 0) × (counterAfter (lost 0 ∷ points 5 ∷ []) ≡ 5)
 unfolding open-all went flatten itemActs upToStop insideAct gapAct
 past-a-power-cycle = (refl, refl)
+
+pub the-number-counts : (byteAt 0 (writes 0 ∷ lost 1 ∷ []) ≡ 0x5A) × (byteAt 0 (writes 0 ∷ lost 0 ∷ []) ≡ 0xFF) × (byteAt 0 (lost 1 ∷ writes 0 ∷ []) ≡ 0xFF)
+unfolding open-all went flatten itemActs upToStop insideAct gapAct
+the-number-counts = (refl, refl, refl)
 
 -- an exchange of the same slot
 pub past-its-own : (counterAfter (points 5 ∷ points 6 ∷ []) ≡ 6) × (counterAfter (points 6 ∷ points 5 ∷ []) ≡ 5)

@@ -19,6 +19,7 @@ use Rattle.rules.specs.Fields as Fields
 use Rattle.rules.specs.Fields.{inPhase}
 use Rattle.rules.specs.Fresh.{freshSlot, powered}
 use Rattle.rules.specs.Memory.{emptied, ended, ticked}
+use Rattle.rules.specs.Power.{powerCut}
 use Rattle.rules.specs.Slot.{withSensorIn, standing, commanding, letGo, lost, byteIn, readIn, switched, presentNext, slotNext, partNext}
 use Rattle.rules.specs.Runs.{slotAfter, partAfter}
 use Rattle.runs.specs.Exchanges.{toldAlone, strayByte, strayRead, strayStop, timeout, tick, voltage, power, temperature, Item, exchange, between, gapAct, upToStop, itemActs, struckGap, struck, strike, own}
@@ -73,7 +74,7 @@ idle-next : (n : ℕ) (a : Act) (s : Slot) → Idles s → Idles (presentNext n 
 idle-next n a s e f = next-cases Idles n a s (λ h. e) (λ h. f)
 
 pub idle-item : (n : ℕ) (i : Item) (s : Slot) → Idles s → Idles (itemSlot n i s)
-unfolding itemSlot itemActs slotAfter gapAct presentNext powered freshSlot open-fields
+unfolding itemSlot itemActs slotAfter gapAct presentNext powerCut powered freshSlot open-fields
 idle-item n (exchange xs) s e = by-test (absent s)
     (λ a. ap (λ (t : Slot). t .phase) (absent-after n (Start ∷ upToStop xs []) s a) ∙ e) (λ a. ends-idle n xs _ (still-present n Start s a))
 idle-item n (between (strayByte b)) s e = idle-next n (Byte b) s e (ap (λ (t : Slot). t .phase) (idle-byte n b s e) ∙ e)
@@ -82,7 +83,7 @@ idle-item n (between strayStop) s e = idle-next n Stop s e refl
 idle-item n (between timeout) s e = idle-next n Timeout s e refl
 idle-item n (between tick) s e = idle-next n Tick s e (idle-ticked s e)
 idle-item n (between (voltage k on)) s e = idle-next n (Voltage k on) s e (cond-cases Idles (eqb (k .0) n) (λ f. idle-switched on s e) (λ f. e))
-idle-item n (between power) s e = idle-next n Power s e refl
+idle-item n (between (power k)) s e = idle-next n (Power k) s e refl
 idle-item n (between (temperature k t)) s e = idle-next n (Temperature k t) s e (cond-cases Idles (eqb (k .0) n) (λ f. e) (λ f. e))
 
 -- what is struck out leaves an idle slot and its bytes as they are
@@ -102,7 +103,7 @@ struck-slot n (between timeout) s e p = absurd (false≢true p)
 struck-slot n (between tick) s e p = absurd (false≢true p)
 struck-slot n (between (voltage k on)) s e p =
     next-cases (λ (r : Slot). r ≡ s) n (Voltage k on) s (λ a. refl) (λ a. rw (not-true (eqb (k .0) n) p))
-struck-slot n (between power) s e p = absurd (false≢true p)
+struck-slot n (between (power k)) s e p = absurd (false≢true p)
 struck-slot n (between (temperature k t)) s e p =
     next-cases (λ (r : Slot). r ≡ s) n (Temperature k t) s (λ a. refl) (λ a. rw (not-true (eqb (k .0) n) p))
 
@@ -115,7 +116,7 @@ struck-part n (between strayStop) s m p = refl
 struck-part n (between timeout) s m p = refl
 struck-part n (between tick) s m p = absurd (false≢true p)
 struck-part n (between (voltage k on)) s m p = refl
-struck-part n (between power) s m p = refl
+struck-part n (between (power k)) s m p = absurd (false≢true p)
 struck-part n (between (temperature k t)) s m p = refl
 
 -- the slot alone, item by item: its state, its bytes, the answers to its own exchanges

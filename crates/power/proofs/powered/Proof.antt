@@ -3,8 +3,8 @@
 use borrow.Author.Needs.{needs}
 use Rattle.rules.specs.Fresh.{powered}
 use Rattle.rules.specs.Open.{open-fields}
-use Rattle.signal.proofs.powered.Statement.{statement}
-use Rattle.signal.proofs.powered.Tie as tie
+use Rattle.power.proofs.powered.Statement.{statement}
+use Rattle.power.proofs.powered.Tie as tie
 
 pub powered-spec : {M : Type 1} → statement M
 unfolding powered open-fields
