@@ -92,7 +92,11 @@ function event(part,   w, n, i, k, s, v, bytes, digits, words) {
   if (w[1] == "start") { wants(n, 1, 1, "start"); add(1, 0, 0, "") }
   else if (w[1] == "stop") { wants(n, 1, 1, "stop"); add(4, 0, 0, "") }
   else if (w[1] == "timeout") { wants(n, 1, 1, "timeout"); add(5, 0, 0, "") }
-  else if (w[1] == "power") { wants(n, 1, 1, "power"); add(8, 0, 0, "") }
+  else if (w[1] == "power") {
+    wants(n, 1, 2, "power, or power NUMBER")
+    v = n == 2 ? decimal(w[2], -32768, 32767, "value that a record can hold") : 0
+    add(8, 0, v, "")
+  }
   else if (w[1] == "tick") {
     wants(n, 1, 2, "tick, or tick COUNT")
     k = n == 2 ? decimal(w[2], 1, 10000, "count") : 1
@@ -244,11 +248,12 @@ function match_list(   i, open, next_want) {
 # ---- records and answers in words
 function record_words(kind, slot, val,   plain) {
   if (val >= 32768) val -= 65536
-  split("start - - stop timeout tick - power", plain, " ")
+  split("start - - stop timeout tick", plain, " ")
   if (plain[kind] ~ /[a-z]/) return plain[kind]
   if (kind == 2 && val >= 0 && val <= 255) return "byte " show(val)
   if (kind == 3 && (val == 0 || val == 1)) return "read " (val ? "ack" : "nack")
   if (kind == 7 && (val == 0 || val == 1)) return "voltage " slot " " (val ? "on" : "off")
+  if (kind == 8) return val ? "power " val : "power"
   if (kind == 9) return "temperature " slot " " val
   return "event " kind " " slot " " val
 }
