@@ -32,8 +32,9 @@ fn shortened(k: Cut, s: Slot) -> Slot
 {
     let marks = s.marks;
     let protection = s.protection;
+    let first = first_of(k, marks);
     let mut next = s;
-    next.marks = first_of(k, marks);
+    next.marks = first;
     if k.0 == 0 {
         next.coming = protection;
     }

@@ -20,15 +20,19 @@ use Rattle.rules.specs.Refusals.{kindAt, outside, wrongValue}
 use Rattle.rules.proofs.Past.{noSlot}
 use Rattle.ruling.specs.Kinds.{kindsIn}
 
--- a value in range is a byte
-as-byte : (v : ℤ) → outside (pos 0) (pos 255) v ≡ false → T (nonNeg v) × Fits w8 (natAbs v)
+-- a value in a range of bytes is a byte
+as-byte : (most : ℕ) → most ≤ 255 → (v : ℤ) → outside (pos 0) (pos most) v ≡ false → T (nonNeg v) × Fits w8 (natAbs v)
 unfolding outside
-as-byte (pos n) e = (tt, record { fits = let h : n ≤ 255 = ltb-false 255 n (or-right-false (ltb n 0) (ltb 255 n) e) in omega arith })
-as-byte (negsuc n) e = absurd (false≢true (sym e))
+as-byte most l (pos n) e = (tt, record { fits = let h : n ≤ most = ltb-false most n (or-right-false (ltb n 0) (ltb most n) e) in omega arith })
+as-byte most l (negsuc n) e = absurd (false≢true (sym e))
 
 pub value-as-byte : (e : Event) → e .kind ≡ 2 → wrongValue e ≡ false → T (nonNeg (e .value)) × Fits w8 (natAbs (e .value))
 unfolding wrongValue
-value-as-byte e k w = as-byte (e .value) (rw (eq-eqb (e .kind) 2 k) at w)
+value-as-byte e k w = as-byte 255 (omega arith) (e .value) (rw (eq-eqb (e .kind) 2 k) at w)
+
+pub value-as-number : (e : Event) → e .kind ≡ 8 → wrongValue e ≡ false → T (nonNeg (e .value)) × Fits w8 (natAbs (e .value))
+unfolding wrongValue
+value-as-number e k w = as-byte 16 (omega arith) (e .value) (rw k at w)
 
 -- the kind of slot n, looked for among the first i
 module _ (ss : List Slot) (n : SlotNo) where

@@ -4,7 +4,7 @@ use native.Mathlib.Omega.{arith}
 use borrow.Author.Tests.{ne-eqb}
 use Rattle.rules.specs.Events.{isOne, actOf}
 use Rattle.sensor.proofs.Signed.{back}
-use Rattle.ruling.proofs.Laws.{value-as-byte}
+use Rattle.ruling.proofs.Laws.{value-as-byte, value-as-number}
 use Rattle.ruling.proofs.act_of.Statement.{statement}
 use Rattle.ruling.proofs.act_of.Tie as tie
 
@@ -14,6 +14,7 @@ act-of-spec =
     tie.close
     (tie.spec
     (λ c. rw (back (c .before .before .before .args .e .value) (omega arith)) (value-as-byte (c .before .before .before .args .e) (c .match .keys2) (c .before .before .before .pre)))
+    (λ c. rw (back (c .before .before .before .args .e .value) (omega arith)) (value-as-number (c .before .before .before .args .e) (c .match .keys8) (c .before .before .before .pre)))
     (λ c. rw (c .match .keys1))
     (λ c. rw (back (c .before .before .before .args .e .value) (omega arith), c .match .keys2))
     (λ c. rw (back (c .before .before .before .args .e .value) (omega arith), c .match .keys3))
@@ -21,5 +22,5 @@ act-of-spec =
     (λ c. rw (c .match .keys5))
     (λ c. rw (c .match .keys6))
     (λ c. rw (back (c .before .before .before .args .e .value) (omega arith), c .match .keys7))
-    (λ c. rw (c .match .keys8))
+    (λ c. rw (back (c .before .before .before .args .e .value) (omega arith), c .match .keys8))
     (λ c. let r = c .match .rest in rw (back (c .before .before .before .args .e .value) (omega arith), ne-eqb _ _ (r .0 .0 .0 .0 .0 .0 .0 .1), ne-eqb _ _ (r .0 .0 .0 .0 .0 .0 .1), ne-eqb _ _ (r .0 .0 .0 .0 .0 .1), ne-eqb _ _ (r .0 .0 .0 .0 .1), ne-eqb _ _ (r .0 .0 .0 .1), ne-eqb _ _ (r .0 .0 .1), ne-eqb _ _ (r .0 .1), ne-eqb _ _ (r .1))))

@@ -24,7 +24,6 @@ signalled-spec =
     (λ c. search needs)
     (λ c κs. search needs)
     (λ c κs. search needs)
-    (λ c. search needs)
     (λ c. rw (c .before .before .enum-told .given .1, ne-eqb _ _ (c .before .before .before .before .before .if1 .left), c .in-phase .ensures, c .before .let-go .ensures, c .before .before .before .before .standing .ensures))
     (λ c. rw (c .before .before .enum-told2 .given .1, ne-eqb _ _ (c .before .before .before .before .before .if1 .left), c .in-phase2 .ensures, c .before .stop-in .ensures, c .before .before .before .before .standing .ensures))
     (λ c. rw (c .before .before .enum-told3 .given .1, ne-eqb _ _ (c .before .before .before .before .before .if1 .left), c .in-phase3 .ensures, c .before .let-go2 .ensures, c .before .before .before .before .standing .ensures)))

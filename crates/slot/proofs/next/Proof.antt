@@ -65,17 +65,17 @@ enum-known-a-3 c = search needs
 voltage-requires : tie.Need-voltage-requires
 voltage-requires c κs = search needs
 
-enum-told-5 : tie.Need-enum-told-5
-enum-told-5 c = search needs
+enum-known-a-4 : tie.Need-enum-known-a-4
+enum-known-a-4 c = search needs
 
-signalled-requires-4 : tie.Need-signalled-requires-4
-signalled-requires-4 c κs = search needs
+cut-requires : tie.Need-cut-requires
+cut-requires c κs = search needs
 
 quiet-requires-5 : tie.Need-quiet-requires-5
 quiet-requires-5 c κs = search needs
 
-enum-known-a-4 : tie.Need-enum-known-a-4
-enum-known-a-4 c = search needs
+enum-known-a-5 : tie.Need-enum-known-a-5
+enum-known-a-5 c = search needs
 
 temperature-requires : tie.Need-temperature-requires
 temperature-requires c κs = search needs
@@ -114,13 +114,16 @@ returns-7 : tie.Need-returns-7
 unfolding stepped partNext signalled actFor slotNext presentNext
 returns-7 c = stepped-by _ _ _ _ _ _ _ (c .before .before .a3 .given .1) (rw (c .voltage .ensures)) refl
 
+same-length-3 : tie.Need-same-length-3
+same-length-3 c = search needs
+
 returns-8 : tie.Need-returns-8
 unfolding stepped partNext signalled actFor slotNext presentNext
-returns-8 c = stepped-by _ _ _ _ _ _ _ (c .before .before .enum-told5 .given .1) (rw (c .quiet5 .ensures, c .before .signalled4 .ensures)) refl
+returns-8 c = stepped-by _ _ _ _ _ _ _ (c .before .before .before .before .before .before .a4 .given .1) (rw (c .quiet5 .ensures, c .before .before .before .cut .ensures .0)) (c .before .before .before .cut .ensures .1)
 
 returns-9 : tie.Need-returns-9
 unfolding stepped partNext signalled actFor slotNext presentNext
-returns-9 c = stepped-by _ _ _ _ _ _ _ (c .before .before .a4 .given .1) (rw (c .temperature .ensures, back (c .before .before .a4 .given .0 .1 .0) (omega arith))) refl
+returns-9 c = stepped-by _ _ _ _ _ _ _ (c .before .before .a5 .given .1) (rw (c .temperature .ensures, back (c .before .before .a5 .given .0 .1 .0) (omega arith))) refl
 
 pub next-spec : {M : Type 1} → statement M
 next-spec =
@@ -144,10 +147,10 @@ next-spec =
     quiet-requires-4
     enum-known-a-3
     voltage-requires
-    enum-told-5
-    signalled-requires-4
-    quiet-requires-5
     enum-known-a-4
+    cut-requires
+    quiet-requires-5
+    enum-known-a-5
     temperature-requires
     returns
     returns-2
@@ -158,5 +161,6 @@ next-spec =
     same-length-2
     returns-6
     returns-7
+    same-length-3
     returns-8
     returns-9)
