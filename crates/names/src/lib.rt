@@ -41,6 +41,8 @@ pub const BYTE: u32 = 65546;
 
 pub const READ: u32 = 65547;
 
+pub const POWER: u32 = 65552;
+
 pub const TEMPERATURE: u32 = 65553;
 
 // What is told, by its place in `ALL`.

@@ -9,7 +9,7 @@ use lib.ListN.{replicate}
 use borrow.Author.Tests.{ne-eqb}
 use Rattle.lists.specs.Tests.{by-test}
 use Rattle.rules.specs.declared.Act.{Act}
-use Rattle.rules.specs.declared.Act.the-variants.{Tick}
+use Rattle.rules.specs.declared.Act.the-variants.{Start, Byte, Stop, Tick}
 use Rattle.rules.specs.declared.Phase.the-variants.{Idle, Control}
 use Rattle.rules.specs.declared.Slot.{Slot}
 use Rattle.rules.specs.Modelled.{absent}

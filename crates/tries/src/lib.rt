@@ -43,7 +43,7 @@ pub fn event(t: [u32; 38]) -> Event {
     let verb = t[0];
     match verb {
         names::EVENT => made_of(t[1], t[2], t[3]),
-        names::BYTE | names::READ => made_of(verb % names::EVENT, 0, t[1]),
+        names::BYTE | names::READ | names::POWER => made_of(verb % names::EVENT, 0, t[1]),
         _ => made_of(verb % names::EVENT, t[1], t[2]),
     }
 }

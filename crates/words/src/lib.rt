@@ -137,7 +137,7 @@ pub fn bytes(t: [u32; 38]) -> usize
 }
 
 // How many numbers each command takes, in the order of `names::ALL`; 99 for what is none, and for those that take more or fewer.
-const COUNTS: [usize; 18] = [0, 16, 1, 99, 1, 2, 2, 99, 3, 0, 1, 1, 0, 0, 0, 2, 0, 2];
+const COUNTS: [usize; 18] = [0, 16, 1, 99, 1, 2, 2, 99, 3, 0, 1, 1, 0, 0, 0, 2, 1, 2];
 
 fn count(t: [u32; 38]) -> usize {
     if t[0] == names::CHECK {
