@@ -20,10 +20,9 @@ use Rattle.rules.specs.Memory.{tickedPart}
 use Rattle.rules.specs.Slot.{standing, letGo, presentNext, slotNext, partNext}
 use Rattle.rules.specs.Runs.{slotAfter, partAfter}
 use Rattle.runs.specs.Exchanges.{Inside, byte, insideAct, upToStop, controls}
-use Rattle.rules.proofs.Run.Cases.{next-cases, absent-next, present-next}
-use Rattle.rules.proofs.Memory.Stored.{part-stored}
+use Rattle.rules.proofs.Run.Cases.{next-cases, present-next}
 use Rattle.runs.proofs.FromSetup.Reached.{no-cycle}
-use Rattle.runs.proofs.TwoClerks.Foreign.{Unheard, NoneHeard, started-waits, absent-after, as-it-was, same-part}
+use Rattle.runs.proofs.TwoClerks.Foreign.{Unheard, NoneHeard, started-waits, absent-after, absent-parts, as-it-was, same-part}
 use Rattle.planner.specs.Effect.{leaving}
 use Rattle.planner.proofs.Ran.{slots-joined, parts-joined}
 use Rattle.planner.proofs.Page.{pageActs, bytesActs, own-heard}
@@ -45,16 +44,8 @@ passed-joined {n} {r} {v} {s} {t} {u} {m} a b = record {
 }
 
 -- an absent slot is as it was after any run, and so are its bytes
-absent-still : (a : Act) (s : Slot) (m : List ℕ) → absent s ≡ true → partNext a s m ≡ m
-absent-still a s m e = part-stored a s m ∙ rw e
-
-absent-part : (n : ℕ) (r : List Act) (s : Slot) (m : List ℕ) → absent s ≡ true → partAfter n r s m ≡ m
-unfolding partAfter
-absent-part n [] s m e = refl
-absent-part n (a ∷ r) s m e = ap₂ (partAfter n r) (absent-next n a s e) (absent-still a s m e) ∙ absent-part n r s m e
-
 pub absent-passed : (n : ℕ) (r : List Act) (s : Slot) (m : List ℕ) → absent s ≡ true → Passed n r s m s
-absent-passed n r s m e = record { slot = absent-after n r s e; part = absent-part n r s m e }
+absent-passed n r s m e = record { slot = absent-after n r s e; part = absent-parts n r s m e }
 
 -- in no cycle a tick does nothing
 still-tick : (n : ℕ) (s : Slot) → s .left ≡ 0 → slotNext n Tick s ≡ s

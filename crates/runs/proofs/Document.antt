@@ -1,2 +1,3 @@
--- Document 01 held against the definitions of demand 3.
+-- Document 01 and request P3 held against the definitions of runs.
 pub mod Addressed
+pub mod Cuts

@@ -1,13 +1,9 @@
 -- The slot is absent, its cycle ends, none runs, or it goes on.
 -- Assumes nothing.
-use mathlib.Core.Path.{refl, ap}
-use native.Mathlib.Omega.{arith}
+use mathlib.Core.Path.{refl}
 use borrow.Author.Needs.{needs}
-use Rattle.rules.specs.Memory.{emptied, ended}
-use Rattle.rules.specs.Modelled.{addressOf}
-use Rattle.rules.specs.Fields.{withLeft, latched, protecting}
-use Rattle.rules.proofs.Range.Kept.{facts}
-use Rattle.rules.specs.declared.Address.{Address}
+use Rattle.rules.specs.Memory.{ended}
+use Rattle.rules.specs.Fields.{withLeft}
 use Rattle.cycle.proofs.Laws.{tick-absent, tick-ends, tick-waits, tick-rests}
 use Rattle.cycle.proofs.tick.Statement.{statement}
 use Rattle.cycle.proofs.tick.Tie as tie

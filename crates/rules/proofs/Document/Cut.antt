@@ -1,6 +1,7 @@
 -- Request P3, "Power lost in a write cycle", sentence by sentence, of every slot that can be handed in, and of the bus.
 -- Assumes nothing.
 use Prim.Native.Nat.{ℕ, zero, suc, _+_, _-_, _*_, _<_, _≤_}
+use native.Mathlib.Nat.{zero-add, suc-add}
 use native.Mathlib.Omega.{arith}
 use mathlib.Core.Path.{_≡_, refl, sym, ap, ap₂, _∙_}
 use mathlib.Core.Logic.{_⊎_, inl, inr, ⊎-elim}
@@ -11,7 +12,7 @@ use lib.ListN.{length, getD}
 use borrow.Author.Tests.{eq-eqb, ne-eqb}
 use Rattle.lists.specs.Tests.{cond-true, cond-false, by-test, and-left, and-right, both}
 use Rattle.lists.specs.Parts.{part, length-part, getD-part}
-use Rattle.rules.specs.declared.Act.the-variants.{Power}
+use Rattle.rules.specs.declared.Act.the-variants.{Tick, Power}
 use Rattle.rules.specs.declared.Cut.{Cut}
 use Rattle.rules.specs.declared.Event.{Event}
 use Rattle.rules.specs.declared.Ruling.{Ruling}
@@ -20,7 +21,7 @@ use Rattle.rules.specs.declared.Slot.{Slot}
 use Rattle.rules.specs.Modelled.{absent, slotBytes, addressOf}
 use Rattle.rules.specs.Fields.{withLeft}
 use Rattle.rules.specs.Fresh.{powered}
-use Rattle.rules.specs.Memory.{stored}
+use Rattle.rules.specs.Memory.{stored, tickedPart}
 use Rattle.rules.specs.Power.{running, latchedBelow, firstOf, broughtBy, cut, powerCut, cutPart}
 use Rattle.rules.specs.Slot.{presentNext, slotNext, partNext}
 use Rattle.rules.specs.Bus.{memoryNext}
@@ -29,6 +30,7 @@ use Rattle.rules.specs.Open.{open-fields, open-memory}
 use Rattle.rules.proofs.Run.Cases.{present-next}
 use Rattle.rules.proofs.Memory.First.{below-at-most, were-latched, among, first-enough}
 use Rattle.rules.proofs.Memory.Stored.{pageStart, ends, storing, put-alike, put-at, part-still, part-next, within, landsAt, byteAfter, part-byte}
+use Rattle.rules.proofs.Document.Exchange.{other-tick}
 use Rattle.rules.proofs.Document.Cycle.{ticks, waiting, waiting-part}
 use Rattle.rules.proofs.Document.Cycle as cycle
 
@@ -90,9 +92,9 @@ cut-bench e x k q i d z r h l n =
     let s : Slot = getD (x .bus .slots) q z in
     let own : List ℕ = part slotBytes q (x .memory) in
     let same : getD ((next e x) .memory) (slotBytes * q + i) d ≡ getD (partNext (Power k) s own) i d =
-        ap (λ (y : Ruling). getD ((ruledNext y x) .memory) (slotBytes * q + i) d) r
-        ∙ sym (getD-part slotBytes q (memoryNext (Power k) (x .bus) (x .memory)) i d l)
-        ∙ ap (λ (p : List ℕ). getD p i d) (part-next (Power k) (x .bus) (x .memory) q z h) in
+    ap (λ (y : Ruling). getD ((ruledNext y x) .memory) (slotBytes * q + i) d) r
+    ∙ sym (getD-part slotBytes q (memoryNext (Power k) (x .bus) (x .memory)) i d l)
+    ∙ ap (λ (p : List ℕ). getD p i d) (part-next (Power k) (x .bus) (x .memory) q z h) in
     ⊎-elim (λ f. inl (same ∙ f ∙ getD-part slotBytes q (x .memory) i d l)) (λ f. inr (f .0, same ∙ f .1)) (old-or-new k s own i d (rw length-part (omega arith)))
 
 -- with 0 it is document 01's power cycle: the running cycle is dropped, the old protection and the old bytes stay
@@ -102,6 +104,34 @@ with-none n k s m a z = (
   present-next n (Power k) s a ∙ by-test (running s) (λ e. rw (e, eq-eqb (k .0) 0 z)) (λ e. rw e),
   part-still (Power k) s m z,
 )
+
+-- ticks without a cycle, and ticks after ticks
+module _ (n : ℕ) where
+  idle-tick : (s : Slot) → absent s ≡ false → s .left ≡ 0 → slotNext n Tick s ≡ s
+  unfolding withLeft
+  idle-tick s a z = let same : s .left - 1 ≡ s .left = omega arith in other-tick n s a (λ e. omega (arith, z, e)) ∙ ap (λ (l : ℕ). withLeft l s) same
+
+  idle-slot : (d : ℕ) (s : Slot) → absent s ≡ false → s .left ≡ 0 → slotAfter n (ticks d) s ≡ s
+  unfolding slotAfter
+  idle-slot zero s a z = refl
+  idle-slot (suc d) s a z = ap (slotAfter n (ticks d)) (idle-tick s a z) ∙ idle-slot d s a z
+
+  idle-part : (d : ℕ) (s : Slot) (m : List ℕ) → absent s ≡ false → s .left ≡ 0 → partAfter n (ticks d) s m ≡ m
+  unfolding partAfter partNext tickedPart
+  idle-part zero s m a z = refl
+  idle-part (suc d) s m a z =
+      let still : partNext Tick s m ≡ m = rw (a, ne-eqb (s .left) 1 (λ e. omega (arith, z, e))) in
+      ap₂ (partAfter n (ticks d)) (idle-tick s a z) still ∙ idle-part d s m a z
+
+  slots-joined : (l d : ℕ) (s : Slot) → slotAfter n (ticks (l + d)) s ≡ slotAfter n (ticks d) (slotAfter n (ticks l) s)
+  unfolding slotAfter
+  slots-joined zero d s = rw zero-add
+  slots-joined (suc l) d s = rw suc-add (slots-joined l d (slotNext n Tick s))
+
+  parts-joined : (l d : ℕ) (s : Slot) (m : List ℕ) → partAfter n (ticks (l + d)) s m ≡ partAfter n (ticks d) (slotAfter n (ticks l) s) (partAfter n (ticks l) s m)
+  unfolding slotAfter partAfter
+  parts-joined zero d s m = rw zero-add
+  parts-joined (suc l) d s m = rw suc-add (parts-joined l d (slotNext n Tick s) (partNext Tick s m))
 
 -- with 16 it is the end of the cycle, at the last of the ticks that are left, and then document 01's power cycle; so with every number from 16 on
 module _ (n : ℕ) (k none : Cut) (enough16 : 16 ≤ k .0) (nothing : none .0 ≡ 0) where
@@ -126,6 +156,20 @@ module _ (n : ℕ) (k none : Cut) (enough16 : 16 ≤ k .0) (nothing : none .0 �
   pub with-all : (s : Slot) (m : List ℕ) → absent s ≡ false
       → (slotNext n (Power k) s ≡ slotNext n (Power none) (slotAfter n (ticks (s .left)) s)) × (partNext (Power k) s m ≡ partAfter n (ticks (s .left)) s m)
   with-all s m a = (all-slot (s .left) s refl a, all-part (s .left) s m refl a)
+
+  -- and further ticks, which find no cycle, make no difference
+  over : (l : ℕ) (s : Slot) → s .left ≡ l → absent s ≡ false → ((slotAfter n (ticks l) s) .left ≡ 0) × (absent (slotAfter n (ticks l) s) ≡ false)
+  unfolding slotAfter absent open-fields
+  over zero s e a = (e, a)
+  over (suc j) s e a = let o = cycle.ends n j s a e in (ap (λ (r : Slot). r .left) o, ap (λ (r : Slot). absent r) o ∙ a)
+
+  pub with-all-later : (d : ℕ) (s : Slot) (m : List ℕ) → absent s ≡ false
+      → (slotNext n (Power k) s ≡ slotNext n (Power none) (slotAfter n (ticks (s .left + d)) s)) × (partNext (Power k) s m ≡ partAfter n (ticks (s .left + d)) s m)
+  with-all-later d s m a =
+      let o = over (s .left) s refl a in (
+        all-slot (s .left) s refl a ∙ ap (slotNext n (Power none)) (sym (idle-slot n d _ (o .1) (o .0)) ∙ sym (slots-joined n (s .left) d s)),
+        all-part (s .left) s m refl a ∙ sym (idle-part n d _ _ (o .1) (o .0)) ∙ sym (parts-joined n (s .left) d s m),
+      )
 
 -- "at any moment": ticks that do not end the cycle make no difference to what a cut leaves
 pub at-any-moment : (n : ℕ) (k : Cut) (j : ℕ) (s : Slot) (m : List ℕ) → absent s ≡ false → j < s .left

@@ -4,7 +4,6 @@
 use Prim.Native.Nat.{ℕ, zero, suc, _+_, _-_, _*_, _<_, _≤_}
 use native.Mathlib.Omega.{arith}
 use mathlib.Core.Path.{_≡_, refl, sym, ap, ap₂, _∙_}
-use mathlib.Core.Logic.{_⊎_, inl, inr, ⊎-elim}
 use mathlib.Core.Bool.{Bool, true, false, false≢true, not, cond, _&&_}
 use mathlib.Core.List.{List}
 use lib.Dec.{eqb, leb, ltb}
@@ -107,6 +106,10 @@ part-stored Tick s m =
 part-stored (Voltage k on) s m = sym (cond-same (absent s) m)
 part-stored (Power k) s m = refl
 part-stored (Temperature k t) s m = sym (cond-same (absent s) m)
+
+-- an absent slot's bytes are not touched
+pub absent-part : (a : Act) (s : Slot) (m : List ℕ) → absent s ≡ true → partNext a s m ≡ m
+absent-part a s m e = part-stored a s m ∙ rw e
 
 -- an act that stores none leaves every byte: every act but a tick and a power cycle with a number above 0
 pub part-still : (a : Act) (s : Slot) (m : List ℕ) → storing a .0 ≡ 0 → partNext a s m ≡ m

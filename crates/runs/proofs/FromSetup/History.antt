@@ -3,7 +3,7 @@
 -- Assumes nothing.
 use Prim.Native.Nat.{ℕ, _<_}
 use mathlib.Core.Path.{_≡_, refl, sym, _∙_, ap, subst}
-use mathlib.Core.Bool.{true, false, false≢true, not}
+use mathlib.Core.Bool.{true, false≢true, not}
 use mathlib.Core.List.{List, []}
 use lib.ListN.{length}
 use Rattle.lists.specs.Each.{every-at}

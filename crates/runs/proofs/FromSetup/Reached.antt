@@ -1,7 +1,7 @@
 -- What a run from setup reaches of a slot: what the phase, the ticks left, the latch, the protection to come, the place and the word can be
 -- together. Every act keeps it (`slot-reach`), so it holds of every slot after any run from setup (`reached`).
 -- Assumes nothing.
-use Prim.Native.Nat.{ℕ, _+_, _-_, _%_}
+use Prim.Native.Nat.{ℕ, _+_, _%_}
 use native.Mathlib.Omega.{arith}
 use mathlib.Core.Path.{_≡_, refl, sym, _∙_, ap, subst}
 use mathlib.Core.Logic.{_⊎_, inl, inr, ⊎-elim}

@@ -1,7 +1,7 @@
 -- Over runs: protection changes only at the end of a cycle that an acknowledged protect or clear began, to what that command asked for;
 -- bytes change only at the end of a page write's cycle. A cycle ends at its last tick, or where power is lost. Of one slot alone, and a run of acts; `History` carries it to the bench.
 -- Assumes nothing.
-use Prim.Native.Nat.{ℕ, zero, suc, _-_}
+use Prim.Native.Nat.{ℕ, zero, suc}
 use native.Mathlib.Omega.{arith}
 use mathlib.Core.Path.{_≡_, refl, sym, _∙_, ap, subst}
 use mathlib.Core.Logic.{_⊎_, inl, inr, ⊎-elim}
@@ -11,7 +11,7 @@ use lib.Dec.{eqb}
 use lib.ListN.{getD, set, replicate}
 use borrow.Author.Tests.{eqb-true, eqb-false, ne-eqb}
 use Rattle.lists.specs.Each.{anyFrom}
-use Rattle.lists.specs.Tests.{cond-cases, by-test, and-left, and-right, cond-true, cond-false}
+use Rattle.lists.specs.Tests.{cond-cases, by-test, and-left, cond-true, cond-false}
 use Rattle.rules.specs.declared.Act.{Act}
 use Rattle.rules.specs.declared.Act.the-variants.{Start, Byte, Read, Stop, Timeout, Tick, Voltage, Power, Temperature}
 use Rattle.rules.specs.declared.BlockNo.{BlockNo}
@@ -49,7 +49,7 @@ snoc-induction P base step r = go [] r base
     go q [] h = subst P (sym (append-nil q)) h
     go q (a ∷ r) h = subst P (append-assoc q (a ∷ []) r) (go (q ++ a ∷ []) r (step q a h))
 
-slot-snoc : (n : ℕ) (r : List Act) (a : Act) (s : Slot) → slotAfter n (r ++ a ∷ []) s ≡ slotNext n a (slotAfter n r s)
+pub slot-snoc : (n : ℕ) (r : List Act) (a : Act) (s : Slot) → slotAfter n (r ++ a ∷ []) s ≡ slotNext n a (slotAfter n r s)
 unfolding slotAfter
 slot-snoc n [] a s = refl
 slot-snoc n (b ∷ r) a s = slot-snoc n r a (slotNext n b s)

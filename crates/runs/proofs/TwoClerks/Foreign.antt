@@ -2,7 +2,7 @@
 -- Assumes nothing.
 use Prim.Native.Nat.{ℕ, _/_}
 use native.Mathlib.Omega.{arith}
-use mathlib.Core.Path.{_≡_, refl, sym, _∙_, ap, subst}
+use mathlib.Core.Path.{_≡_, refl, sym, _∙_, ap, ap₂, subst}
 use mathlib.Core.Bool.{Bool, true, false, not, _&&_, _||_}
 use mathlib.Core.List.{List, [], _∷_}
 use lib.Dec.{eqb}
@@ -23,6 +23,7 @@ use Rattle.rules.specs.Slot.{standing, letGo, byteIn, acksIn, readIn, drivesIn,
 use Rattle.rules.specs.Runs.{slotAfter, partAfter}
 use Rattle.runs.specs.Exchanges.{Inside, again, byte, read, exchange, insideAct, upToStop, controls, names, mute, someOf, addressed, toNone, toOther, struck}
 use Rattle.rules.proofs.Run.Cases.{let-go-cases, absent-next, present-next}
+use Rattle.rules.proofs.Memory.Stored.{absent-part}
 use Rattle.rules.proofs.Memory.Protection.{still-present}
 use Rattle.runs.proofs.TwoClerks.Alone.{Silent, SilentOver}
 
@@ -112,6 +113,11 @@ pub absent-after : (n : ℕ) (r : List Act) (s : Slot) → absent s ≡ true →
 unfolding slotAfter
 absent-after n [] s e = refl
 absent-after n (a ∷ r) s e = ap (slotAfter n r) (absent-next n a s e) ∙ absent-after n r s e
+
+pub absent-parts : (n : ℕ) (r : List Act) (s : Slot) (m : List ℕ) → absent s ≡ true → partAfter n r s m ≡ m
+unfolding partAfter
+absent-parts n [] s m e = refl
+absent-parts n (a ∷ r) s m e = ap₂ (partAfter n r) (absent-next n a s e) (absent-part a s m e) ∙ absent-parts n r s m e
 
 absent-once : (n : ℕ) (a : Act) (s : Slot) → standing s ≡ Deaf → Silent n a s
 unfolding Silent acks acksIn drives
