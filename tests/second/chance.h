@@ -24,3 +24,21 @@ static inline int between(int low, int high) { return low + below(high - low + 1
 static inline int one_in(int n) { return below(n) == 0; }
 
 #define ONE_OF(array) ((array)[below((int)(sizeof (array) / sizeof (array)[0]))])
+
+/* The number of a power cycle (request P3), 0 to 16: mostly none, few or all;
+ * one in twelve is outside that. */
+static inline int a_wrong_number(void)
+{
+    static const int outside[] = { -1, -1, 17, 17, 255, 256, -32768, 32767 };
+
+    return ONE_OF(outside);
+}
+
+static inline int a_number(void)
+{
+    static const int often[] = { 0, 0, 1, 1, 2, 3, 4, 5, 15, 16, 16 };
+
+    if (one_in(12))
+        return a_wrong_number();
+    return one_in(3) ? below(17) : ONE_OF(often);
+}
