@@ -324,13 +324,19 @@ static void sensor_read(int n, int which)
     play();
 }
 
-/* One temperature, or several: here and there, or a walk across a limit. */
+/* One temperature, or several: here and there, a walk across a limit, or from
+ * where its flag is clear to just over it. */
 static void measure(int n)
 {
     int many = one_in(2) ? 1 : between(2, 8);
     int step = one_in(2) ? 0 : between(-4, 4);
     int t = a_temperature(n);
 
+    if (one_in(4)) {
+        many = 2;
+        step = hysteresis[n] + between(4, 12);
+        t = limit[n][one_in(2) ? 2 : below(3)] + below(4) - step;
+    }
     for (int i = 0; i < many; i++) {
         record(TEMPERATURE, n, t);
         sensor_read(n, i == 0 ? 5 : -1);
@@ -390,6 +396,10 @@ static void page_write(void)
     add(BYTE, place);
     while (many-- > 0)
         add(BYTE, below(256));
+    if (one_in(20))
+        add(READ, below(2));             /* abandons them */
+    if (one_in(30))
+        insert(count, VOLTAGE, n, 0);    /* does not */
     add(STOP, 0);
     play();
     if (one_in(12))
@@ -527,7 +537,8 @@ static void protect_some(void)
 }
 
 /* Whether a block is protected: by its command, which all slots hear, and by
- * what this slot says to a data byte, which a timeout abandons. */
+ * what this slot says to a data byte, which a timeout abandons; and where the
+ * counter then stands. */
 static void look_at_block(int n, int block)
 {
     add(START, 0);
@@ -537,10 +548,12 @@ static void look_at_block(int n, int block)
     choose_half(block / 2);
     add(START, 0);
     add(BYTE, 0xA0 | n << 1);
-    add(BYTE, 128 * (block % 2) + below(128));
+    add(BYTE, 128 * (block % 2) + ONE_OF(places) % 128);
     add(BYTE, below(256));
     add(TIMEOUT, 0);
     play_as_is();
+    if (one_in(3))
+        current_read(n);
 }
 
 /* The cut itself.  After a refused one the cycles go on, and a look may come
@@ -563,7 +576,7 @@ static int a_number_for(int sent)
     int most = sent < 16 ? sent : 16;
 
     switch (below(3)) {
-    case 0: return one_in(2) ? most : most - 1;
+    case 0: return below(3) ? most : most - 1;
     case 1: return between(1, most);
     default: return a_number();
     }
@@ -577,20 +590,23 @@ static void cut_pages(void)
     int slots[4], place[4];
     int many = one_in(3) ? 1 : between(2, 4);
     int upper = one_in(3);
-    int sent;
 
     for (int i = 0; i < many; i++) {
-        slots[i] = a_slot();
+        slots[i] = i < 2 ? favourite[i] : any_of_eight();
         place[i] = an_address();
     }
     for (int rounds = between(1, 2); rounds > 0; rounds--) {
+        int most = 0;                    /* sent to one slot */
+
         settle();
         choose_half(upper);
         for (int i = 0; i < many; i++) {
-            sent = send_page(slots[i], place[i]);
+            int sent = send_page(slots[i], place[i]);
+            if (sent > most)
+                most = sent;
             end_sending(i == many - 1 && one_in(4));
         }
-        lose_power(a_number_for(sent));
+        lose_power(a_number_for(most));
         if (upper && below(8))           /* power selects half 0 */
             choose_half(1);
         for (int i = 0; i < many; i++)
@@ -604,7 +620,7 @@ static void cut_order(void)
 {
     int n = favourite[below(2)];
     int clear = one_in(2);
-    int beside = one_in(3) ? a_slot() : n;
+    int beside = one_in(2) ? any_of_eight() : n;
     int place = an_address();
 
     record(VOLTAGE, n, 1);
@@ -670,8 +686,8 @@ static void exchange(int leaning)
 {
     static const int shares[4][13] = {
         /* write read current sensor-w sensor-r measure half protect ask unknown between cut-pages cut-order */
-        [MIXED] = { 22, 8, 6, 18, 4, 10, 6, 9, 3, 2, 4, 3, 2 },
-        [MEMORY] = { 43, 14, 10, 2, 1, 2, 9, 3, 2, 2, 3, 5, 1 },
+        [MIXED] = { 21, 8, 6, 18, 4, 10, 6, 9, 3, 2, 4, 4, 2 },
+        [MEMORY] = { 41, 14, 10, 2, 1, 2, 9, 3, 2, 2, 3, 7, 1 },
         [SENSOR] = { 1, 1, 1, 60, 4, 20, 1, 2, 1, 1, 4, 1, 0 },
         [PROTECTION] = { 24, 5, 4, 2, 1, 2, 8, 29, 9, 2, 4, 2, 5 },
     };
