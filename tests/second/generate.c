@@ -4,9 +4,10 @@
  *
  * The scripts are random but meant: whole exchanges of every sort, a good
  * share of them then disturbed (cut, interrupted, mixed up), with ticks, pin
- * and temperature events around them.  The generator knows nothing of the
- * device's answers; it only remembers what it wrote where, so that it comes
- * back to the same places.  The same arguments always give the same script.
+ * and temperature events around them, and power lost in write cycles.  The
+ * generator knows nothing of the device's answers; it only remembers what it
+ * wrote where, so that it comes back to the same places.  The same arguments
+ * always give the same script.
  *
  * With `odd` the setup is bad or cut short, or the last record is cut.
  */
@@ -42,7 +43,7 @@ static void record(int kind, int slot, int value)
     if (left <= 0)
         return;
     left--;
-    if (kind == POWER)
+    if (kind == POWER && value >= 0 && value <= 16)
         forget();
     putchar(kind);
     putchar(slot);
@@ -133,9 +134,9 @@ static int a_temperature(int n)
 static void rubbish_at(int at)
 {
     static const int kinds[] = { 0, 10, 255, 128, BYTE, BYTE, READ, READ, VOLTAGE,
-                                 VOLTAGE, TEMPERATURE, TEMPERATURE, TEMPERATURE };
+                                 VOLTAGE, TEMPERATURE, TEMPERATURE, TEMPERATURE, POWER };
     static const int ends[10][4] = {
-        [BYTE] = { -1, 0, 255, 256 }, [READ] = { -1, 0, 1, 2 },
+        [BYTE] = { -1, 0, 255, 256 }, [READ] = { -1, 0, 1, 2 }, [POWER] = { -1, 0, 16, 17 },
         [VOLTAGE] = { -1, 0, 1, 2 }, [TEMPERATURE] = { -641, -640, 2000, 2001 } };
     int kind = ONE_OF(kinds);
     int slot = one_in(3) ? with_sensor : any_slot();
@@ -160,7 +161,7 @@ static void intrude(int at)
     case 10: insert(at, TEMPERATURE, n, a_temperature(n)); break;
     case 11: insert(at, TEMPERATURE, with_sensor, a_temperature(with_sensor)); break;
     case 12: rubbish_at(at); break;
-    default: if (one_in(4)) insert(at, POWER, 0, 0); break;
+    default: insert(at, POWER, 0, one_in(4) ? a_number() : a_wrong_number()); break;
     }
 }
 
@@ -190,7 +191,7 @@ static void play_as_is(void)
         struct event e = gathered[i];
         if (e.kind >= START && e.kind <= POWER && e.kind != VOLTAGE && one_in(8)) {
             e.slot = below(256);
-            if (e.kind != BYTE && e.kind != READ)
+            if (e.kind != BYTE && e.kind != READ && e.kind != POWER)
                 e.value = any_value();
         }
         record(e.kind, e.slot, e.value);
@@ -323,13 +324,19 @@ static void sensor_read(int n, int which)
     play();
 }
 
-/* One temperature, or several: here and there, or a walk across a limit. */
+/* One temperature, or several: here and there, a walk across a limit, or from
+ * where its flag is clear to just over it. */
 static void measure(int n)
 {
     int many = one_in(2) ? 1 : between(2, 8);
     int step = one_in(2) ? 0 : between(-4, 4);
     int t = a_temperature(n);
 
+    if (one_in(4)) {
+        many = 2;
+        step = hysteresis[n] + between(4, 12);
+        t = limit[n][one_in(2) ? 2 : below(3)] + below(4) - step;
+    }
     for (int i = 0; i < many; i++) {
         record(TEMPERATURE, n, t);
         sensor_read(n, i == 0 ? 5 : -1);
@@ -389,10 +396,14 @@ static void page_write(void)
     add(BYTE, place);
     while (many-- > 0)
         add(BYTE, below(256));
+    if (one_in(20))
+        add(READ, below(2));             /* abandons them */
+    if (one_in(30))
+        insert(count, VOLTAGE, n, 0);    /* does not */
     add(STOP, 0);
     play();
     if (one_in(12))
-        record(POWER, 0, 0);
+        record(POWER, 0, a_number());
     if (warm)
         record(TEMPERATURE, n, a_temperature(n));
     ticks(n);
@@ -456,11 +467,189 @@ static void protect(void)
     add(STOP, 0);
     play();
     if (one_in(12))
-        record(POWER, 0, 0);
+        record(POWER, 0, a_number());
     ticks(n);
     if (one_in(2))
         ask();
 }
+
+/* ---- Power lost in a write cycle ---------------------------------------- */
+
+/* As a rule all slots listen when the cycles are begun. */
+static void settle(void)
+{
+    for (int k = one_in(6) ? below(5) : 5; k > 0; k--)
+        add(TICK, 0);
+    play_as_is();
+}
+
+static void choose_half(int half)
+{
+    add(START, 0);
+    add(BYTE, half ? 0x6E : 0x6C);
+    add(STOP, 0);
+    play_as_is();
+}
+
+/* Some bytes of a page, often round its end, or more than it holds.  Gives how
+ * many. */
+static int send_page(int n, int place)
+{
+    int many = one_in(3) ? between(14, 20) : between(1, 9);
+
+    add(START, 0);
+    add(BYTE, 0xA0 | n << 1);
+    add(BYTE, place);
+    for (int i = 0; i < many; i++)
+        add(BYTE, below(256));
+    return many;
+}
+
+static void send_order(int code)
+{
+    add(START, 0);
+    add(BYTE, code);
+    add(BYTE, below(256));
+    add(BYTE, below(256));
+}
+
+/* Mostly the stop that begins the cycle; else the bytes stay open, or are
+ * abandoned by a timeout. */
+static void end_sending(int open)
+{
+    if (!open)
+        add(STOP, 0);
+    else if (one_in(3))
+        add(TIMEOUT, 0);
+    play_as_is();
+}
+
+/* Some blocks are protected in full cycles, so that there is much to clear. */
+static void protect_some(void)
+{
+    for (int block = 0; block < 4; block++) {
+        if (one_in(2))
+            continue;
+        send_order(protect_codes[block]);
+        end_sending(0);
+        settle();
+    }
+}
+
+/* Whether a block is protected: by its command, which all slots hear, and by
+ * what this slot says to a data byte, which a timeout abandons; and where the
+ * counter then stands. */
+static void look_at_block(int n, int block)
+{
+    add(START, 0);
+    add(BYTE, ask_codes[block]);
+    add(STOP, 0);
+    play_as_is();
+    choose_half(block / 2);
+    add(START, 0);
+    add(BYTE, 0xA0 | n << 1);
+    add(BYTE, 128 * (block % 2) + ONE_OF(places) % 128);
+    add(BYTE, below(256));
+    add(TIMEOUT, 0);
+    play_as_is();
+    if (one_in(3))
+        current_read(n);
+}
+
+/* The cut itself.  After a refused one the cycles go on, and a look may come
+ * before their ends or after. */
+static void lose_power(int number)
+{
+    for (int k = one_in(2) ? 0 : below(4); k > 0; k--)
+        add(TICK, 0);
+    add(POWER, number);
+    if (number < 0 || number > 16)
+        for (int k = below(6); k > 0; k--)
+            add(TICK, 0);
+    play_as_is();
+}
+
+/* A number for a page of which so many bytes were sent: often just that, or
+ * below it. */
+static int a_number_for(int sent)
+{
+    int most = sent < 16 ? sent : 16;
+
+    switch (below(3)) {
+    case 0: return below(3) ? most : most - 1;
+    case 1: return between(1, most);
+    default: return a_number();
+    }
+}
+
+/* Page writes to some slots, so that several cycles run at once, or one that
+ * is open still; then power, and a look at each page.  Done twice, the second
+ * finds old bytes that are not FFh. */
+static void cut_pages(void)
+{
+    int slots[4], place[4];
+    int many = one_in(3) ? 1 : between(2, 4);
+    int upper = one_in(3);
+
+    for (int i = 0; i < many; i++) {
+        slots[i] = i < 2 ? favourite[i] : any_of_eight();
+        place[i] = an_address();
+    }
+    for (int rounds = between(1, 2); rounds > 0; rounds--) {
+        int most = 0;                    /* sent to one slot */
+
+        settle();
+        choose_half(upper);
+        for (int i = 0; i < many; i++) {
+            int sent = send_page(slots[i], place[i]);
+            if (sent > most)
+                most = sent;
+            end_sending(i == many - 1 && one_in(4));
+        }
+        lose_power(a_number_for(most));
+        if (upper && below(8))           /* power selects half 0 */
+            choose_half(1);
+        for (int i = 0; i < many; i++)
+            random_read(slots[i], place[i] & 0xF0, 16);
+    }
+}
+
+/* A protect or clear, and perhaps a page beside it; then power, and a look at
+ * each block. */
+static void cut_order(void)
+{
+    int n = favourite[below(2)];
+    int clear = one_in(2);
+    int beside = one_in(2) ? any_of_eight() : n;
+    int place = an_address();
+
+    record(VOLTAGE, n, 1);
+    settle();
+    if (clear)
+        protect_some();
+    if (beside != n) {
+        choose_half(0);
+        send_page(beside, place);
+        end_sending(0);
+    }
+    send_order(clear ? 0x66 : protect_codes[below(4)]);
+    end_sending(one_in(4));
+    if (one_in(3))
+        record(VOLTAGE, n, 0);           /* too late to cancel */
+    lose_power(one_in(3) ? 0 : one_in(3) ? between(1, 3) : a_number());
+    if (beside != n)
+        random_read(beside, place & 0xF0, 16);
+    for (int block = 0; block < 4; block++)
+        look_at_block(n, block);
+    if (one_in(2)) {                     /* so that not all stays protected */
+        record(VOLTAGE, n, 1);
+        send_order(0x66);
+        end_sending(0);
+        settle();
+    }
+}
+
+/* ---- Other bytes, and what stands between ------------------------------- */
 
 static void unknown(void)
 {
@@ -495,18 +684,18 @@ enum { MIXED, MEMORY, SENSOR, PROTECTION };
 
 static void exchange(int leaning)
 {
-    static const int shares[4][11] = {
-        /* write read current sensor-w sensor-r measure half protect ask unknown between */
-        [MIXED] = { 25, 8, 6, 18, 4, 10, 6, 10, 4, 2, 4 },
-        [MEMORY] = { 48, 14, 10, 2, 1, 2, 10, 3, 2, 2, 3 },
-        [SENSOR] = { 2, 1, 1, 60, 4, 20, 1, 2, 1, 1, 4 },
-        [PROTECTION] = { 26, 5, 4, 2, 1, 2, 8, 34, 9, 2, 4 },
+    static const int shares[4][13] = {
+        /* write read current sensor-w sensor-r measure half protect ask unknown between cut-pages cut-order */
+        [MIXED] = { 21, 8, 6, 18, 4, 10, 6, 9, 3, 2, 4, 4, 2 },
+        [MEMORY] = { 41, 14, 10, 2, 1, 2, 9, 3, 2, 2, 3, 7, 1 },
+        [SENSOR] = { 1, 1, 1, 60, 4, 20, 1, 2, 1, 1, 4, 1, 0 },
+        [PROTECTION] = { 24, 5, 4, 2, 1, 2, 8, 29, 9, 2, 4, 2, 5 },
     };
     int chosen = below(100);             /* beyond the shares: rubbish */
     int which = 0;
     int n, place;
 
-    while (which < 11 && chosen >= shares[leaning][which])
+    while (which < 13 && chosen >= shares[leaning][which])
         chosen -= shares[leaning][which++];
     switch (which) {
     case 0: page_write(); break;
@@ -524,10 +713,16 @@ static void exchange(int leaning)
     case 8: ask(); break;
     case 9: unknown(); break;
     case 10: between_exchanges(); break;
+    case 11:
+        cut_pages();
+        if (leaning == SENSOR)
+            prime(with_sensor);
+        break;
+    case 12: cut_order(); break;
     default: rubbish(); break;
     }
     if (one_in(120)) {
-        record(POWER, 0, 0);
+        record(POWER, 0, a_number());
         if (leaning == SENSOR)
             prime(with_sensor);
     }

@@ -295,10 +295,11 @@ static const char *const ways[WAYS] = { "another sort", "another sort with the s
 
 static int any_sort(void) { return below(DATA_BYTE); }
 
-/* Another byte: the least, the greatest, the next, or any. */
+/* Another byte: the least, the greatest, the next, the one that differs in the
+ * highest bit alone, or any. */
 static unsigned char other_than(unsigned char byte)
 {
-    int bytes[] = { 0x00, 0xFF, byte + 1, below(256) };
+    int bytes[] = { 0x00, 0xFF, byte + 1, byte ^ 0x80, below(256) };
     unsigned char other = (unsigned char)ONE_OF(bytes);
 
     return other != byte ? other : byte ^ 1;
@@ -413,6 +414,8 @@ static void try_all(void)
             try_change(below(total), way);
         try_change(0, any_sort());
         try_change(total - 1, any_sort());
+        if (refused < total)
+            try_change(refused, any_sort());
         try_two_changes();
         whole_records = (size_t)below(total);
         try_cut(HEAD + RECORD * whole_records + (size_t)between(1, RECORD - 1));

@@ -83,7 +83,7 @@ static size_t asked;              /* bytes in it */
 /* A record at the end of the request, which the bench feels. */
 static void add(int kind, int slot, int value)
 {
-    unsigned char record[4] = { (unsigned char)kind, (unsigned char)slot, 0, (unsigned char)value };
+    unsigned char record[4] = { (unsigned char)kind, (unsigned char)slot, (unsigned char)(value >> 8), (unsigned char)value };
 
     memcpy(ask + asked, record, 4);
     asked += 4;
@@ -133,8 +133,21 @@ static void open_half(void)
         add(BYTE, 0, below(256));
 }
 
+/* A cycle that power cuts, mostly while it runs. */
+static void cut_cycle_of(int n)
+{
+    if (one_in(3))
+        open_order(n);
+    else
+        open_write(n);
+    add(STOP, 0, 0);
+    add_ticks(one_in(2) ? 0 : below(3));
+    add(POWER, 0, a_number());
+}
+
 /* The last that happens on the bench before the plan is asked for: cycles
- * that still run, exchanges that stand open, the half the other way. */
+ * that still run or were cut, exchanges that stand open, the half the other
+ * way. */
 static void last_move(int n)
 {
     int other = below(SLOTS);
@@ -142,13 +155,14 @@ static void last_move(int n)
 
     if (one_in(2))
         add_ticks(5);             /* so that all slots listen */
-    switch (below(9)) {
+    switch (below(11)) {
     case 0: case 1: open_write(mine); break;
     case 2: case 3: case 4: open_order(mine % SLOTS); break;
     case 5: open_half(); break;
     case 6: open_read(mine); break;
     case 7: add(START, 0, 0); break;
-    case 8: add(one_in(3) ? POWER : TIMEOUT, 0, 0); break;
+    case 8: one_in(3) ? add(POWER, 0, a_number()) : add(TIMEOUT, 0, 0); break;
+    case 9: case 10: cut_cycle_of(mine % SLOTS); break;
     }
     if (below(3)) {
         add(STOP, 0, 0);

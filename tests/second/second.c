@@ -1,7 +1,8 @@
 /*
  * The second opinion: the script program of document 01, written from that
  * document and sharing no line with the proved model.  At the few places where
- * the document is silent it takes the choices of docs/DECISIONS.md.
+ * the document is silent it takes the choices of docs/DECISIONS.md.  A power
+ * cycle has a number, as request P3 ("Power lost in a write cycle") has it.
  *
  * It follows the document's sections and uses its words.  It is meant to be
  * read beside the document, so it is plain rather than clever.  The file
@@ -68,7 +69,7 @@ static void make_fresh(struct slot *s)
     s->doing = IDLE;
     s->half = 0;
     s->counter = 0;
-    s->ticks_left = 0;            /* a running write cycle is dropped */
+    s->ticks_left = 0;            /* no write cycle */
     s->pointer = 0;
     memset(s->latched, 0, sizeof s->latched);
     memset(s->reg, 0, sizeof s->reg);
@@ -114,24 +115,40 @@ static int address(const struct slot *s)
     return 256 * s->half + s->counter;
 }
 
-/* "The tick that ends it puts the latched bytes in memory and touches no
- * other"; "protection changes when it ends".  While the cycle runs the slot
- * acknowledges nothing, so half and counter still stand as at the stop. */
-static void end_cycle(int n)
+/* Stores the latched bytes, in ascending page offset, the first so many of
+ * them, and touches no other.  While the cycle runs the slot acknowledges
+ * nothing, so half and counter still stand as at the stop. */
+static void store_first(int n, int many)
 {
     struct slot *s = &bus[n];
+    int page = SLOT_BYTES * n + address(s) / PAGE * PAGE;
 
-    if (s->work == STORE_PAGE) {
-        int page = SLOT_BYTES * n + address(s) / PAGE * PAGE;
-        for (int i = 0; i < PAGE; i++)
-            if (s->latched[i])
-                memory[page + i] = s->latch[i];
-    } else if (s->work == CLEAR_ALL) {
+    for (int i = 0; i < PAGE && many > 0; i++)
+        if (s->latched[i]) {
+            memory[page + i] = s->latch[i];
+            many--;               /* bytes are counted, not places */
+        }
+}
+
+/* The new protection of a protect or clear. */
+static void change_protection(struct slot *s)
+{
+    if (s->work == CLEAR_ALL) {
         for (int b = 0; b < BLOCKS; b++)
             s->is_protected[b] = 0;
     } else {
         s->is_protected[s->work] = 1;
     }
+}
+
+/* "The tick that ends it puts the latched bytes in memory and touches no
+ * other"; "protection changes when it ends". */
+static void end_cycle(int n)
+{
+    if (bus[n].work == STORE_PAGE)
+        store_first(n, PAGE);     /* however many there are */
+    else
+        change_protection(&bus[n]);
 }
 
 static void tick(int n)
@@ -143,6 +160,31 @@ static void tick(int n)
     s->ticks_left--;
     if (s->ticks_left == 0)
         end_cycle(n);
+}
+
+/* ---- Power lost in a write cycle (request P3) --------------------------- */
+
+/* "Of the bytes latched in a running cycle, in ascending page offset, the
+ * first so many are stored and the rest are lost.  For protect and clear, 0
+ * keeps the old protection and any other number brings the new." */
+static void cut_cycle(int n, int number)
+{
+    if (bus[n].work == STORE_PAGE)
+        store_first(n, number);
+    else if (number > 0)
+        change_protection(&bus[n]);
+}
+
+/* Every slot in a cycle counts for itself.  A write whose stop has not come is
+ * in no cycle, so its bytes are abandoned whatever the number. */
+static void power_cycle(int n, int number)
+{
+    struct slot *s = &bus[n];
+    int running = s->ticks_left > 0;
+
+    if (running)                  /* else "the number has no effect" */
+        cut_cycle(n, number);
+    make_fresh(s);
 }
 
 /* ---- Control byte ------------------------------------------------------- */
@@ -471,6 +513,8 @@ static int refusal(int kind, int slot, int value)
         return 4;
     if (kind == 7 && (value < 0 || value > 1))
         return 4;
+    if (kind == 8 && (value < 0 || value > 16))
+        return 4;                 /* whether or not a cycle runs */
     if (kind == 9 && (value < -640 || value > 2000))
         return 4;
     return 0;
@@ -527,7 +571,7 @@ static void event(int kind, int slot, int value)
         case 5: timeout(s); break;
         case 6: tick(n); break;
         case 7: if (n == slot) high_voltage(s, value); break;
-        case 8: make_fresh(s); break;
+        case 8: power_cycle(n, value); break;
         case 9: if (n == slot) temperature(s, value); break;
         }
     }

@@ -268,6 +268,8 @@ static void words(char text[80], const unsigned char r[4])
         sprintf(text, "byte %02Xh", value);
     else if (kind == 3 && slot == 0 && on_off)
         sprintf(text, "read, %s", value ? "ACK" : "NACK");
+    else if (kind == 8 && slot == 0)
+        sprintf(text, "power cycle %d", value);
     else if (slot == 0 && value == 0)
         sprintf(text, "%s", plain[kind]);
     else
