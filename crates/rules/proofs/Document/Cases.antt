@@ -1,4 +1,5 @@
--- Document 01's whole case and its marked bench cases: one table, run on the definitions of the whole bus from setup, under one theorem.
+-- Document 01's whole case and its marked bench cases: one table, run on the definitions of the whole bus from setup, under one theorem. Cases of
+-- request P3 in the same form: a second table, under another.
 -- Assumes nothing.
 use Prim.Native.Nat.{ℕ, zero, suc, _%_}
 use mathlib.Core.Path.{_≡_, refl, sym, _∙_, ap₂}
@@ -9,7 +10,7 @@ use Rattle.rules.specs.declared.Answer.{Answer}
 use Rattle.rules.specs.declared.Event.{Event}
 use Rattle.rules.specs.declared.Pair.{Pair}
 use Rattle.rules.specs.declared.Ruling.{Ruling}
-use Rattle.rules.specs.Events.{letterOf, valueOf}
+use Rattle.rules.specs.Events.{letterOf, valueOf, refusalNumber}
 use Rattle.rules.specs.Fresh.{absentSlot}
 use Rattle.rules.specs.Refusals.{setupOf}
 use Rattle.rules.specs.Runs.{Bench, rulingOn, ruledNext, ruledAnswer, next, answered, after, answers}
@@ -50,6 +51,9 @@ tick = event 6 0 (pos 0)
 
 abbrev highVoltage : Event
 highVoltage = event 7 0 (pos 1)
+
+abbrev power : ℕ → Event
+power n = event 8 0 (pos n)
 
 abbrev temperature : ℤ → Event
 temperature t = event 9 0 t
@@ -183,6 +187,37 @@ table =
     }
     ∷ []
 
+-- request P3
+abbrev cuts : List Case
+cuts =
+    -- "Chips on our bench came back with half a page new."
+    inMemory 5 (sent (0xA0 ∷ 0x20 ∷ upTo17) ++ tick ∷ tick ∷ power 8 ∷ []) (acked (0 ∷ 0 ∷ upTo17) ++ silent 3) ((0x20, 17) ∷ pairedFrom 0x21 7 2)
+    -- "in ascending page offset": of four bytes sent from 2Eh on, the two that were sent last
+    ∷ inMemory 1 (sent (0xA0 ∷ 0x2E ∷ 1 ∷ 2 ∷ 3 ∷ 4 ∷ []) ++ power 2 ∷ tick ∷ []) (acked (0 ∷ 0 ∷ 0 ∷ 0 ∷ 0 ∷ 0 ∷ []) ++ silent 2) ((0x20, 3) ∷ (0x21, 4) ∷ [])
+    -- two slots in their cycles: each its own first two
+    ∷ record {
+      setup = record { kind = 1; length = 2 } ∷ record { kind = 2; length = 3 } ∷ replicate 6 (record { kind = 0; length = 0 });
+      memory = blank;
+      run = sent (0xA0 ∷ 0x00 ∷ 1 ∷ 2 ∷ 3 ∷ []) ++ sent (0xA2 ∷ 0x1F ∷ 4 ∷ 5 ∷ 6 ∷ []) ++ power 2 ∷ [];
+      shows = acked (0 ∷ 0 ∷ 0 ∷ 0 ∷ 0 ∷ []) ++ acked (0 ∷ 0 ∷ 0 ∷ 0 ∷ 0 ∷ []) ++ silent 1;
+      bytes = (0, 1) ∷ (1, 2) ∷ (0x210, 5) ∷ (0x211, 6) ∷ [];
+      bits = [];
+    }
+    -- "For protect and clear, 0 keeps the old protection": the byte is acknowledged; "any other number brings the new": it is not
+    ∷ inMemory 1
+    (highVoltage ∷ sent (0x62 ∷ 0 ∷ 0 ∷ []) ++ power 0 ∷ start ∷ byte 0xA0 ∷ byte 0x00 ∷ byte 0x5A ∷ [])
+    (Nothing ∷ acked (0 ∷ 0 ∷ 0 ∷ []) ++ silent 2 ++ Ack ∷ Ack ∷ Ack ∷ [])
+    []
+    ∷ inMemory 1
+    (highVoltage ∷ sent (0x62 ∷ 0 ∷ 0 ∷ []) ++ power 1 ∷ start ∷ byte 0xA0 ∷ byte 0x00 ∷ byte 0x5A ∷ [])
+    (Nothing ∷ acked (0 ∷ 0 ∷ 0 ∷ []) ++ silent 2 ++ Ack ∷ Ack ∷ Nack ∷ [])
+    []
+    -- "Without a running cycle the number has no effect.": an open write is abandoned
+    ∷ inMemory 1 (start ∷ byte 0xA0 ∷ byte 0x00 ∷ byte 0x5A ∷ power 16 ∷ stop ∷ tick ∷ []) (Nothing ∷ Ack ∷ Ack ∷ Ack ∷ silent 3) []
+    -- "outside that refusal 4": and the cycle goes on
+    ∷ inMemory 1 (sent (0xA0 ∷ 0x00 ∷ 0x5A ∷ []) ++ power 17 ∷ tick ∷ []) (acked (0 ∷ 0 ∷ 0 ∷ []) ++ (0x52, 4) ∷ silent 1) ((0, 0x5A) ∷ [])
+    ∷ []
+
 -- what the definitions give for a case
 abbrev begun : Case → Bench
 begun c = record { bus = setupOf (c .setup) .bus; memory = c .memory }
@@ -229,9 +264,12 @@ unfolding computed
 got-computed [] = refl
 got-computed (c ∷ cs) = ap₂ _∷_ (sym (done-is (c .run) (begun c) (told (c .bits)))) (got-computed cs)
 
-all-computed : map computed table ≡ map wanted table
-unfolding open-all letterOf valueOf changed pairedFrom done doneAs computed
-all-computed = refl
+all-computed : (map computed table ≡ map wanted table) × (map computed cuts ≡ map wanted cuts)
+unfolding open-all letterOf valueOf refusalNumber changed pairedFrom done doneAs computed
+all-computed = (refl, refl)
 
 pub marked-cases : map got table ≡ map wanted table
-marked-cases = got-computed table ∙ all-computed
+marked-cases = got-computed table ∙ all-computed .0
+
+pub cut-cases : map got cuts ≡ map wanted cuts
+cut-cases = got-computed cuts ∙ all-computed .1

@@ -6,9 +6,9 @@ use native.Mathlib.Omega.{arith}
 use mathlib.Core.Path.{_≡_, refl, sym, ap, ap₂, _∙_}
 use mathlib.Core.Logic.{_⊎_, inl, inr, ⊎-elim}
 use mathlib.Core.Bool.{Bool, true, false, not, cond, _&&_}
-use mathlib.Core.List.{List, []}
+use mathlib.Core.List.{List, [], _∷_, map}
 use lib.Dec.{eqb}
-use lib.ListN.{length, getD}
+use lib.ListN.{length, getD, take, drop, replicate}
 use borrow.Author.Tests.{eq-eqb, ne-eqb}
 use Rattle.lists.specs.Tests.{cond-true, cond-false, by-test, and-left, and-right, both}
 use Rattle.lists.specs.Parts.{part, length-part, getD-part}
@@ -19,20 +19,53 @@ use Rattle.rules.specs.declared.Ruling.{Ruling}
 use Rattle.rules.specs.declared.Ruling.the-variants.{Taken}
 use Rattle.rules.specs.declared.Slot.{Slot}
 use Rattle.rules.specs.Modelled.{absent, slotBytes, addressOf}
-use Rattle.rules.specs.Fields.{withLeft}
-use Rattle.rules.specs.Fresh.{powered}
+use Rattle.rules.specs.Fields.{atCounter, withLeft, expecting, latched}
+use Rattle.rules.specs.Fresh.{freshSlot, powered}
 use Rattle.rules.specs.Memory.{stored, tickedPart}
 use Rattle.rules.specs.Power.{running, latchedBelow, firstOf, broughtBy, cut, powerCut, cutPart}
 use Rattle.rules.specs.Slot.{presentNext, slotNext, partNext}
 use Rattle.rules.specs.Bus.{memoryNext}
 use Rattle.rules.specs.Runs.{Bench, taken, rulingOn, ruledNext, next, slotAfter, partAfter}
-use Rattle.rules.specs.Open.{open-fields, open-memory}
+use Rattle.rules.specs.Open.{open-fields, open-memory, open-all}
 use Rattle.rules.proofs.Run.Cases.{present-next}
 use Rattle.rules.proofs.Memory.First.{below-at-most, were-latched, among, first-enough}
 use Rattle.rules.proofs.Memory.Stored.{pageStart, ends, storing, put-alike, put-at, part-still, part-next, within, landsAt, byteAfter, part-byte}
 use Rattle.rules.proofs.Document.Exchange.{other-tick}
 use Rattle.rules.proofs.Document.Cycle.{ticks, waiting, waiting-part}
 use Rattle.rules.proofs.Document.Cycle as cycle
+
+-- P3 with its numbers, on one slot that is handed in: bytes latched at 1h, 3h, Eh and Fh of the page at 20h, where 11h stood, and block 2 to be
+-- protected beside them. The page after a cut with 0, 1, 2, 3, 4, 5 and 16, and with 4 where no cycle runs
+abbrev cutting : ℕ → Slot
+cutting left =
+    withLeft left (expecting (false ∷ false ∷ true ∷ false ∷ []) (atCounter 0x24
+    (latched (0x00 ∷ 0xA1 ∷ 0x00 ∷ 0xA3 ∷ 0x00 ∷ 0x00 ∷ 0x00 ∷ 0x00 ∷ 0x00 ∷ 0x00 ∷ 0x00 ∷ 0x00 ∷ 0x00 ∷ 0x00 ∷ 0xAE ∷ 0xAF ∷ [])
+    (false ∷ true ∷ false ∷ true ∷ false ∷ false ∷ false ∷ false ∷ false ∷ false ∷ false ∷ false ∷ false ∷ false ∷ true ∷ true ∷ []) (freshSlot 1 3))))
+
+abbrev pageLeft : ℕ × ℕ → List ℕ
+pageLeft p = take 16 (drop 0x20 (partNext (Power (record { 0 = p .0 })) (cutting (p .1)) (replicate 0x40 0x11)))
+
+pub pages : map pageLeft ((0, 3) ∷ (1, 3) ∷ (2, 3) ∷ (3, 2) ∷ (4, 1) ∷ (5, 1) ∷ (16, 1) ∷ (4, 0) ∷ [])
+    ≡ (0x11 ∷ 0x11 ∷ 0x11 ∷ 0x11 ∷ 0x11 ∷ 0x11 ∷ 0x11 ∷ 0x11 ∷ 0x11 ∷ 0x11 ∷ 0x11 ∷ 0x11 ∷ 0x11 ∷ 0x11 ∷ 0x11 ∷ 0x11 ∷ [])
+    ∷ (0x11 ∷ 0xA1 ∷ 0x11 ∷ 0x11 ∷ 0x11 ∷ 0x11 ∷ 0x11 ∷ 0x11 ∷ 0x11 ∷ 0x11 ∷ 0x11 ∷ 0x11 ∷ 0x11 ∷ 0x11 ∷ 0x11 ∷ 0x11 ∷ [])
+    ∷ (0x11 ∷ 0xA1 ∷ 0x11 ∷ 0xA3 ∷ 0x11 ∷ 0x11 ∷ 0x11 ∷ 0x11 ∷ 0x11 ∷ 0x11 ∷ 0x11 ∷ 0x11 ∷ 0x11 ∷ 0x11 ∷ 0x11 ∷ 0x11 ∷ [])
+    ∷ (0x11 ∷ 0xA1 ∷ 0x11 ∷ 0xA3 ∷ 0x11 ∷ 0x11 ∷ 0x11 ∷ 0x11 ∷ 0x11 ∷ 0x11 ∷ 0x11 ∷ 0x11 ∷ 0x11 ∷ 0x11 ∷ 0xAE ∷ 0x11 ∷ [])
+    ∷ (0x11 ∷ 0xA1 ∷ 0x11 ∷ 0xA3 ∷ 0x11 ∷ 0x11 ∷ 0x11 ∷ 0x11 ∷ 0x11 ∷ 0x11 ∷ 0x11 ∷ 0x11 ∷ 0x11 ∷ 0x11 ∷ 0xAE ∷ 0xAF ∷ [])
+    ∷ (0x11 ∷ 0xA1 ∷ 0x11 ∷ 0xA3 ∷ 0x11 ∷ 0x11 ∷ 0x11 ∷ 0x11 ∷ 0x11 ∷ 0x11 ∷ 0x11 ∷ 0x11 ∷ 0x11 ∷ 0x11 ∷ 0xAE ∷ 0xAF ∷ [])
+    ∷ (0x11 ∷ 0xA1 ∷ 0x11 ∷ 0xA3 ∷ 0x11 ∷ 0x11 ∷ 0x11 ∷ 0x11 ∷ 0x11 ∷ 0x11 ∷ 0x11 ∷ 0x11 ∷ 0x11 ∷ 0x11 ∷ 0xAE ∷ 0xAF ∷ [])
+    ∷ (0x11 ∷ 0x11 ∷ 0x11 ∷ 0x11 ∷ 0x11 ∷ 0x11 ∷ 0x11 ∷ 0x11 ∷ 0x11 ∷ 0x11 ∷ 0x11 ∷ 0x11 ∷ 0x11 ∷ 0x11 ∷ 0x11 ∷ 0x11 ∷ [])
+    ∷ []
+unfolding open-all partNext
+pages = refl
+
+-- and the protection after it
+abbrev protectionLeft : ℕ × ℕ → List Bool
+protectionLeft p = slotNext 0 (Power (record { 0 = p .0 })) (cutting (p .1)) .protection
+
+pub protections : map protectionLeft ((0, 3) ∷ (1, 3) ∷ (16, 1) ∷ (1, 0) ∷ [])
+    ≡ (false ∷ false ∷ false ∷ false ∷ []) ∷ (false ∷ false ∷ true ∷ false ∷ []) ∷ (false ∷ false ∷ true ∷ false ∷ []) ∷ (false ∷ false ∷ false ∷ false ∷ []) ∷ []
+unfolding open-all
+protections = refl
 
 -- "Without a running cycle the number has no effect.": the slot is as document 01's power cycle leaves it, and its bytes stay
 pub no-cycle : (n : ℕ) (k : Cut) (s : Slot) (m : List ℕ) → absent s ≡ false → running s ≡ false → (slotNext n (Power k) s ≡ powered s) × (partNext (Power k) s m ≡ m)
