@@ -25,7 +25,8 @@ use Rattle.rules.specs.Slot.{traits, standing, letGo, stopIn, byteIn, acksIn, r
 use Rattle.rules.proofs.Run.Cases.{absent-next, present-next, byte-next, read-next}
 use Rattle.foreseen.specs.declared.Change.{Change}
 use Rattle.foreseen.specs.declared.Change.the-variants as change
-use Rattle.foreseen.specs.Foreseen.{heardIn, carried, Unheard, Silent, Foreseen}
+use Rattle.rules.specs.Events.{carried}
+use Rattle.foreseen.specs.Foreseen.{heardIn, carrying, Unheard, Silent, Foreseen}
 
 -- an exchange that is left in the phase lets something go
 abbrev pub holdsIn : Phase → Bool
@@ -131,7 +132,7 @@ module _ (n : ℕ) (s : Slot) where
   read-deaf more q e f = read-same more Deaf (sym e ∙ f) refl refl
 
   -- a byte or a read at a slot that is idle or deaf
-  pub rests : (a : Act) → carried a ≡ true → Unheard (standing s) → Foreseen change.Nothing n a s
+  pub rests : (a : Act) → carrying (carried a) ≡ true → Unheard (standing s) → Foreseen change.Nothing n a s
   rests Start e u = absurd (false≢true e)
   rests (Byte b) e u = ⊎-elim (byte-idle b (standing s) refl) (byte-deaf b (standing s) refl) u
   rests (Read more) e u = ⊎-elim (read-idle more (standing s) refl) (read-deaf more (standing s) refl) u
@@ -172,8 +173,8 @@ passes r s next q t b k e f g h =
     ∙ ap (λ (x : Bool). cond x change.More (change.To next)) (sym g ∙ ap (λ (x : Traits). x .sensor || x .command || x .takes) (f ∙ ap traits e))
     ∙ sym (ap (λ (x : Bool). cond x change.Nothing (cond (holdsIn (standing s)) change.More (change.To next))) (ne-eqb (s .kind) 0 k))
 
-pub heard-byte : (d : Heard) (a : Act) (b : ℕ) → d ≡ heardIn a → a ≡ Byte b → d ≡ heardOf b
-heard-byte d a b e f = e ∙ ap heardIn f
+pub heard-byte : (d : Heard) (a : Act) (b : ℕ) → d ≡ heardIn (carried a) → a ≡ Byte b → d ≡ heardOf b
+heard-byte d a b e f = e ∙ ap (λ (x : Act). heardIn (carried x)) f
 
 -- whether a slot is idle or deaf, by the arms of the test
 pub is-idle : (r : Bool) (q : Phase) (s : Slot) → q ≡ standing s → q ≡ Idle → (r ≡ true → Unheard (standing s))
@@ -185,6 +186,6 @@ is-deaf r q s e f g = inr (sym e ∙ f)
 pub is-neither : (s : Slot) → (false ≡ true → Unheard (standing s))
 is-neither s e = absurd (false≢true e)
 
-pub both-rest : (n : ℕ) (a : Act) (s : Slot) (c u : Bool) → c ≡ carried a → (u ≡ true → Unheard (standing s)) → (c && u) ≡ true → Foreseen change.Nothing n a s
+pub both-rest : (n : ℕ) (a : Act) (s : Slot) (c u : Bool) → c ≡ carrying (carried a) → (u ≡ true → Unheard (standing s)) → (c && u) ≡ true → Foreseen change.Nothing n a s
 both-rest n a s true u e f g = rests n s a (sym e) (f g)
 both-rest n a s false u e f g = absurd (false≢true g)

@@ -5,8 +5,10 @@ ghost use lib.Dec.{eqb};
 ghost use Rattle.rules.specs.Control.{heardOf};
 ghost use Rattle.rules.specs.Slot.{traits, standing};
 ghost use Rattle.rules.specs.Modelled.{absent};
-ghost use Rattle.foreseen.specs.Foreseen.{heardIn, carried, Unheard, Foreseen};
+ghost use Rattle.foreseen.specs.Foreseen.{heardIn, carrying, Unheard, Foreseen};
+ghost use Rattle.rules.specs.Events.{carried};
 use rules::Act;
+use rules::Carried;
 use rules::Heard;
 use rules::Phase;
 use rules::Slot;
@@ -19,37 +21,42 @@ pub enum Change {
     More,
 }
 
-// What a control byte asks for, if the act is a byte.
-pub fn heard_in(a: Act) -> Heard
-    ensures { λ r. ⌜ r ≡ heardIn a ⌝ }
-{
-    match a {
-        Act::Start => Heard::Nothing,
-        Act::Byte(b) => control::hear(b),
-        Act::Read(_) => Heard::Nothing,
-        Act::Stop => Heard::Nothing,
-        Act::Timeout => Heard::Nothing,
-        Act::Tick => Heard::Nothing,
-        Act::Voltage(_, _) => Heard::Nothing,
-        Act::Power(_) => Heard::Nothing,
-        Act::Temperature(_, _) => Heard::Nothing,
-    }
-}
-
-// Whether the act is a byte or a read, which concern no slot but those that listen.
-pub fn carried(a: Act) -> bool
+// What an act carries over the wires.
+pub fn carried(a: Act) -> Carried
     ensures { λ r. ⌜ r ≡ carried a ⌝ }
 {
     match a {
-        Act::Start => false,
-        Act::Byte(_) => true,
-        Act::Read(_) => true,
-        Act::Stop => false,
-        Act::Timeout => false,
-        Act::Tick => false,
-        Act::Voltage(_, _) => false,
-        Act::Power(_) => false,
-        Act::Temperature(_, _) => false,
+        Act::Start => Carried::Nothing,
+        Act::Byte(b) => Carried::Byte(b),
+        Act::Read(more) => Carried::Read(more),
+        Act::Stop => Carried::Nothing,
+        Act::Timeout => Carried::Nothing,
+        Act::Tick => Carried::Nothing,
+        Act::Voltage(_, _) => Carried::Nothing,
+        Act::Power(_) => Carried::Nothing,
+        Act::Temperature(_, _) => Carried::Nothing,
+    }
+}
+
+// What a control byte asks for, if a byte is carried.
+pub fn heard_in(c: Carried) -> Heard
+    ensures { λ r. ⌜ r ≡ heardIn c ⌝ }
+{
+    match c {
+        Carried::Byte(b) => control::hear(b),
+        Carried::Read(_) => Heard::Nothing,
+        Carried::Nothing => Heard::Nothing,
+    }
+}
+
+// Whether it is a byte or a read, which concern no slot but those that listen.
+pub fn carrying(c: Carried) -> bool
+    ensures { λ r. ⌜ r ≡ carrying c ⌝ }
+{
+    match c {
+        Carried::Byte(_) => true,
+        Carried::Read(_) => true,
+        Carried::Nothing => false,
     }
 }
 
@@ -117,10 +124,10 @@ fn at_one(k: SlotNo, n: SlotNo) -> Change
     Change::Nothing
 }
 
-// What can be told of slot n's step at an act; whether the act is a byte or a read, and what it asks for, are the same for every slot, and
+// What can be told of slot n's step at an act; whether it carries a byte or a read, and what that asks for, are the same for every slot, and
 // are given.
 pub fn glance(a: Act, carries: bool, h: Heard, n: SlotNo, s: Slot) -> Change
-    requires { ⌜ (carries ≡ carried a) × (h ≡ heardIn a) ⌝ }
+    requires { ⌜ (carries ≡ carrying (carried a)) × (h ≡ heardIn (carried a)) ⌝ }
     ensures { λ r. ⌜ Foreseen r (n .0) a s ⌝ }
 {
     if carries & unheard(s) {

@@ -12,25 +12,27 @@ use Rattle.lists.specs.Each.{Every, anyFrom-some}
 use Rattle.lists.specs.Parts.{part}
 use Rattle.lists.specs.Tests.{by-test}
 use Rattle.rules.specs.declared.Act.{Act}
+use Rattle.rules.specs.declared.Carried.{Carried}
+use Rattle.rules.specs.declared.Carried.the-variants as carries
 use Rattle.rules.specs.declared.Act.the-variants.{Start, Byte, Read, Stop, Timeout, Tick, Voltage, Power, Temperature}
 use Rattle.rules.specs.declared.Answer.the-variants.{Nothing, Ack, Nack}
 use Rattle.rules.specs.declared.Event.{Event}
 use Rattle.rules.specs.declared.Ruling.{Ruling}
 use Rattle.rules.specs.declared.Ruling.the-variants.{Taken}
 use Rattle.rules.specs.declared.Slot.{Slot}
-use Rattle.rules.specs.Events.{actOf, letterOf}
+use Rattle.rules.specs.Events.{carried, actOf, letterOf}
 use Rattle.rules.specs.Fresh.{absentSlot}
 use Rattle.rules.specs.Slot.{acks}
-use Rattle.rules.specs.Bus.{anyAck, shown}
+use Rattle.rules.specs.Bus.{anyAck, shownFor, shown}
 use Rattle.rules.specs.Refusals.{unknownKind, wrongSlot, wrongValue, outside, ruledFor, ruledBy}
 use Rattle.rules.specs.Runs.{Bench, taken, given, rulingOn, ruledNext, ruledAnswer, next, answered, after, answers}
-use Rattle.runs.specs.Exchanges.{keptBy, actsOf, went, told, shownAlone, toldAlone}
+use Rattle.runs.specs.Exchanges.{keptBy, actsOf, went, told, aloneFor, shownAlone, toldAlone}
 use Rattle.rules.proofs.Memory.Protection.{number-taken}
 use Rattle.runs.proofs.TwoClerks.Alone.{slotsOf, partOf, slot-taken, part-taken}
 use Rattle.runs.proofs.TwoClerks.RunAnswers.{Sound, sound-next, ruled-by-kinds}
 use Rattle.planner.specs.Plan.{start, byte, stop, ticks, pageAt, pageBytes, pageHalf, pageCounter, selecting, writing, differs, halfBefore, pageEvents, pagesBefore}
 use Rattle.planner.specs.Effect.{due}
-use Rattle.planner.proofs.Ran.{dueTo}
+use Rattle.planner.proofs.Ran.{dueFor, dueTo}
 use Rattle.planner.proofs.Page.{pageActs}
 use Rattle.planner.proofs.Steps.{selectActs, actsBefore}
 
@@ -65,20 +67,20 @@ module _ (kinds : List ℕ) where
 
   -- the four kinds of a plan
   start-acted : {es : List Event} {r : List Act} → Acted es r → Acted (start ∷ es) (Start ∷ r)
-  unfolding ruledBy ruledFor unknownKind wrongSlot wrongValue actOf due dueTo
+  unfolding ruledBy ruledFor unknownKind wrongSlot wrongValue actOf due dueFor
   start-acted b = more refl refl b
 
   stop-acted : {es : List Event} {r : List Act} → Acted es r → Acted (stop ∷ es) (Stop ∷ r)
-  unfolding ruledBy ruledFor unknownKind wrongSlot wrongValue actOf due dueTo
+  unfolding ruledBy ruledFor unknownKind wrongSlot wrongValue actOf due dueFor
   stop-acted b = more refl refl b
 
   pub ticks-acted : (n : ℕ) → Acted (ticks n) (replicate n Tick)
-  unfolding ticks ruledBy ruledFor unknownKind wrongSlot wrongValue actOf due dueTo
+  unfolding ticks ruledBy ruledFor unknownKind wrongSlot wrongValue actOf due dueFor
   ticks-acted zero = none
   ticks-acted (suc n) = more refl refl (ticks-acted n)
 
   byte-acted : (b : ℕ) {es : List Event} {r : List Act} → b ≤ 255 → Acted es r → Acted (byte b ∷ es) (Byte b ∷ r)
-  unfolding ruledBy ruledFor unknownKind wrongSlot wrongValue outside actOf due dueTo
+  unfolding ruledBy ruledFor unknownKind wrongSlot wrongValue outside actOf due dueFor
   byte-acted b h a = let v : ruledBy kinds (byte b) ≡ Taken (Byte b) = rw (le-ltb 255 b h, le-ltb b 0 (omega arith)) in more v refl a
 
   bytes-acted : (bs : List ℕ) → Every (λ b. b ≤ 255) bs → Acted (map byte bs) (map Byte bs)
@@ -130,19 +132,17 @@ tailOf [] = []
 tailOf (y ∷ ys) = ys
 
 module _ (k : ℕ) where
-  one-heard : (a : Act) (x : Bench) → k < length (slotsOf x) → shownAlone k a (getD (slotsOf x) k absentSlot) (partOf k x) ≡ dueTo a → given a x ≡ dueTo a
-  unfolding given shown shownAlone dueTo anyAck letterOf
-  one-heard Start x h e = refl
-  one-heard (Byte v) x h e = by-test (acks k v (getD (slotsOf x) k absentSlot))
+  heard-for : (c : Carried) (x : Bench) → k < length (slotsOf x) → aloneFor k c (getD (slotsOf x) k absentSlot) (partOf k x) ≡ dueFor c → shownFor c (x .bus) (x .memory) ≡ dueFor c
+  unfolding shownFor aloneFor dueFor anyAck letterOf
+  heard-for (carries.Byte v) x h e = by-test (acks k v (getD (slotsOf x) k absentSlot))
       (λ t. rw (anyFrom-some (λ n s. acks n v s) 0 (slotsOf x) absentSlot k h (rw zero-add t)))
       (λ t. let f : letterOf Nack ≡ letterOf Ack = ap letterOf (rw t at e) in absurd (omega (arith, f)))
-  one-heard (Read b) x h e = let f = ap letterOf e in absurd (omega (arith, f))
-  one-heard Stop x h e = refl
-  one-heard Timeout x h e = refl
-  one-heard Tick x h e = refl
-  one-heard (Voltage j on) x h e = refl
-  one-heard (Power k) x h e = refl
-  one-heard (Temperature j t) x h e = refl
+  heard-for (carries.Read b) x h e = let f = ap letterOf e in absurd (omega (arith, f))
+  heard-for carries.Nothing x h e = refl
+
+  one-heard : (a : Act) (x : Bench) → k < length (slotsOf x) → shownAlone k a (getD (slotsOf x) k absentSlot) (partOf k x) ≡ dueTo a → given a x ≡ dueTo a
+  unfolding given shown shownAlone
+  one-heard a x h e = heard-for (carried a) x h e
 
   pub all-heard : (r : List Act) (x : Bench) → k < length (slotsOf x)
       → toldAlone k r (getD (slotsOf x) k absentSlot) (partOf k x) ≡ map dueTo r → told r x ≡ map dueTo r

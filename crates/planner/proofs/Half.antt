@@ -18,11 +18,11 @@ use Rattle.rules.specs.Open.{open-fields}
 use Rattle.rules.specs.Fields.{inPhase, inHalf}
 use Rattle.rules.specs.Control.{commandOf, heardOf, acksHeard, acksControl, obeyed, controlled}
 use Rattle.rules.specs.Slot.{standing, letGo, byteIn, acksIn, stopIn, presentNext, slotNext, partNext, acks}
-use Rattle.runs.specs.Exchanges.{shownAlone}
+use Rattle.runs.specs.Exchanges.{aloneFor, shownAlone}
 use Rattle.rules.proofs.Run.Cases.{present-next, byte-next}
 use Rattle.planner.specs.Effect.{leaving}
 use Rattle.planner.proofs.LetGo.{let-go-lasts}
-use Rattle.planner.proofs.Ran.{Ran, dueTo, ran-none, ran-on}
+use Rattle.planner.proofs.Ran.{Ran, dueFor, dueTo, ran-none, ran-on}
 use Rattle.planner.proofs.Page.{stands-in, acked}
 
 abbrev pub halfActs : ℕ → List Act
@@ -57,7 +57,7 @@ module _ (n h : ℕ) (two : h < 2) where
         ∙ ap (λ (q : Phase). inPhase Idle (stopIn q (inPhase HalfSelected (inHalf h u)))) (stands-in HalfSelected (inHalf h u) here refl)
 
   pub half-run : (s : Slot) (m : List ℕ) → eqb (s .kind) 0 ≡ false → s .left ≡ 0 → Ran n (halfActs h) s m (inHalf h (leaving s)) m []
-  unfolding leaving shownAlone dueTo partNext presentNext absent open-fields
+  unfolding leaving shownAlone aloneFor dueFor partNext presentNext absent open-fields
   half-run s m here rests =
       let u : Slot = letGo (standing s) s in
       let there : eqb (u .kind) 0 ≡ false = rw (let-go-lasts s .kind) here in

@@ -25,14 +25,14 @@ use Rattle.rules.specs.Fresh.{noBytes, noMarks}
 use Rattle.rules.specs.Control.{protects, heardOf, acksControl, obeyed, controlled}
 use Rattle.rules.specs.Memory.{abandoned, cancelled, upInPage, guarded, anyMark, putUpTo, stored}
 use Rattle.rules.specs.Slot.{withSensorIn, standing, letGo, byteIn, acksIn, presentNext, slotNext, partNext, acks}
-use Rattle.runs.specs.Exchanges.{shownAlone}
+use Rattle.runs.specs.Exchanges.{aloneFor, shownAlone}
 use Rattle.rules.proofs.Run.Cases.{let-go-cases, present-next, byte-next}
 use Rattle.rules.proofs.Document.Exchange.{counter-byte, data-byte, stop-begins}
 use Rattle.rules.proofs.Document.Commands.{memory-family, memory-acked}
 use Rattle.planner.specs.Plan.{pageHalf, pageBlock, pageCounter}
 use Rattle.planner.specs.Effect.{leaving, rested}
 use Rattle.planner.proofs.LetGo.{let-go-lasts}
-use Rattle.planner.proofs.Ran.{Ran, dueTo, ran-none, ran-joined, ran-on, ran-begins, ran-ticks}
+use Rattle.planner.proofs.Ran.{Ran, dueFor, dueTo, ran-none, ran-joined, ran-on, ran-begins, ran-ticks}
 
 -- what a page can be written to: a present slot in no cycle, that stands in the page's half, with its arrays, and the page's block without protection
 -- (over the fields, so that a step which replaces others needs no word)
@@ -65,7 +65,7 @@ pageActs k c bs count = Start ∷ Byte (0xA0 + 2 * k) ∷ Byte c ∷ bytesActs b
 
 -- an acknowledged byte shows as one
 pub acked : (n b : ℕ) (s : Slot) (m : List ℕ) → acks n b s ≡ true → shownAlone n (Byte b) s m ≡ dueTo (Byte b)
-unfolding shownAlone dueTo
+unfolding shownAlone aloneFor dueFor
 acked n b s m e = rw e
 
 -- a slot that takes data: at the counter c, with so much latched
@@ -179,7 +179,7 @@ module _ (k p : ℕ) (u : Slot) (f : Free p u) where
 
     -- from the stop on, and from the data bytes on
     stop-run : (m : List ℕ) → Ran k (Stop ∷ replicate (u .length) Tick) (taking (pageCounter p) bs allMarked u) m (written p u) (pagePut p bs m) (p ∷ [])
-    unfolding partNext shownAlone dueTo open-fields
+    unfolding partNext shownAlone aloneFor dueFor open-fields
     stop-run m =
         let page : addressOf begunSlot .0 / 16 ≡ p = ap (λ (n : ℕ). n / 16) begun-address ∙ omega arith in
         let r = ran-begins k Stop page-begun refl refl (f .no-ticks) (f .lasts) (ticks-run m) in
@@ -236,7 +236,7 @@ module _ (k p : ℕ) (below : k < 8) (bs : List ℕ) (sixteen : length bs ≡ 16
   -- a whole page, from any phase
   pub page-run : (s : Slot) (m : List ℕ) → Free p s
       → Ran k (pageActs k (pageCounter p) bs (s .length)) s m (rested (pageHalf p) (pageCounter p) s) (pagePut p bs m) (p ∷ [])
-  unfolding rested leaving shownAlone dueTo partNext presentNext absent open-fields
+  unfolding rested leaving shownAlone aloneFor dueFor partNext presentNext absent open-fields
   page-run s m f =
       let u : Slot = letGo (standing s) s in
       let g : Free p u = let-go-free (p / 16) (p / 8) s f in

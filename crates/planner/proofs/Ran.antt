@@ -9,6 +9,8 @@ use lib.Dec.{eqb}
 use lib.ListN.{replicate}
 use borrow.Author.Tests.{eq-eqb, ne-eqb}
 use Rattle.rules.specs.declared.Act.{Act}
+use Rattle.rules.specs.declared.Carried.{Carried}
+use Rattle.rules.specs.declared.Carried.the-variants as carries
 use Rattle.rules.specs.declared.Act.the-variants.{Start, Byte, Read, Stop, Timeout, Tick, Voltage, Power, Temperature}
 use Rattle.rules.specs.declared.Answer.{Answer}
 use Rattle.rules.specs.declared.Answer.the-variants.{Nothing, Ack}
@@ -17,24 +19,22 @@ use Rattle.rules.specs.Modelled.{absent, addressOf}
 use Rattle.rules.specs.Fields.{withLeft, protecting, latched}
 use Rattle.rules.specs.Fresh.{noBytes, noMarks}
 use Rattle.rules.specs.Memory.{stored}
+use Rattle.rules.specs.Events.{carried}
 use Rattle.rules.specs.Slot.{slotNext, partNext}
 use Rattle.rules.specs.Runs.{slotAfter, partAfter}
-use Rattle.runs.specs.Exchanges.{shownAlone, toldAlone}
+use Rattle.runs.specs.Exchanges.{aloneFor, shownAlone, toldAlone}
 use Rattle.rules.proofs.Document.Exchange.{other-tick}
 use Rattle.rules.proofs.Document.Cycle.{ends, ends-part}
 use Rattle.planner.specs.Effect.{begunPages}
 
 -- what a plan's acts are to be answered
-unfoldable pub dueTo : Act → Answer
-dueTo Start = Nothing
-dueTo (Byte v) = Ack
-dueTo (Read b) = Nothing
-dueTo Stop = Nothing
-dueTo Timeout = Nothing
-dueTo Tick = Nothing
-dueTo (Voltage k on) = Nothing
-dueTo (Power k) = Nothing
-dueTo (Temperature k t) = Nothing
+unfoldable pub dueFor : Carried → Answer
+dueFor (carries.Byte v) = Ack
+dueFor (carries.Read more) = Nothing
+dueFor carries.Nothing = Nothing
+
+abbrev pub dueTo : Act → Answer
+dueTo a = dueFor (carried a)
 
 -- from s with the bytes m to t with the bytes q; the slot itself acknowledges every byte, and begins a cycle for each of the pages
 pub record Ran (n : ℕ) (r : List Act) (s : Slot) (m : List ℕ) (t : Slot) (q : List ℕ) (pages : List ℕ) : Type 0 where
@@ -107,7 +107,7 @@ module _ (n : ℕ) where
 
   -- the ticks of a cycle to its end
   said-ticks : (j : ℕ) (s : Slot) (m : List ℕ) → toldAlone n (replicate j Tick) s m ≡ map dueTo (replicate j Tick)
-  unfolding toldAlone shownAlone dueTo
+  unfolding toldAlone shownAlone aloneFor dueFor
   said-ticks zero s m = refl
   said-ticks (suc j) s m = ap (Nothing ∷_) (said-ticks j (slotNext n Tick s) _)
 

@@ -15,17 +15,17 @@ use Rattle.rules.specs.Modelled.{absent, slotCount, memoryBytes}
 use Rattle.rules.specs.Open.{open-fields, open-memory}
 use Rattle.rules.specs.Fields.{withWord}
 use Rattle.rules.specs.Slot.{standing, letGo, presentNext, slotNext}
-use Rattle.rules.specs.Bus.{shown}
+use Rattle.rules.specs.Bus.{shownFor, shown}
 use Rattle.rules.specs.Refusals.{kindsOf}
 use Rattle.rules.specs.Runs.{Bench, given, after, answers, slotAfter, partAfter}
-use Rattle.runs.specs.Exchanges.{actsOf, told, shownAlone, toldAlone}
+use Rattle.runs.specs.Exchanges.{actsOf, told, aloneFor, shownAlone, toldAlone}
 use Rattle.rules.proofs.Memory.Stored.{memory-length-after}
 use Rattle.runs.proofs.TwoClerks.Joined.{answers-joined}
 use Rattle.planner.specs.Plan.{five, ticks, fiveTicks, settled, slotAt, bytesAt, pageCount, planEvents}
 use Rattle.planner.specs.Effect.{due, leaving, rested, touched, ownBefore, otherBefore}
 use Rattle.planner.proofs.Settled.{fiveTimes, settled-slot, settled-part, settled-left, settled-kind}
 use Rattle.planner.proofs.LetGo.{let-go-lasts}
-use Rattle.planner.proofs.Ran.{dueTo, told-joined}
+use Rattle.planner.proofs.Ran.{dueFor, dueTo, told-joined}
 use Rattle.planner.proofs.Pages.{bytesBefore, image-stands}
 use Rattle.planner.proofs.Acted.{Acted, acted-joined, acted-acts, acted-due, acted-after, ticks-acted}
 use Rattle.planner.proofs.Carried.{Asked, there, old-length, acts, pages, own, acted, own-slot, own-bytes, other-slot, absent-slot, other-bytes, all-answered}
@@ -159,7 +159,7 @@ module _ (k : ℕ) (x : Bench) (image : List ℕ) (asked : Asked k x image) wher
   unfolding fiveTicks
   ticks-answered =
       acted-after (kindsOf (x .bus)) x (record { long = asked .long; ranged = asked .ranged; alike = refl }) (ticks-acted (kindsOf (x .bus)) five) .1
-      ∙ unfold told given shown ticks due in refl
+      ∙ unfold told given shown shownFor ticks due in refl
 
   whole-acted : Acted (kindsOf (x .bus)) (planEvents k x image) (fiveTimes ++ acts k x image asked 32)
   unfolding planEvents fiveTicks
@@ -173,7 +173,7 @@ module _ (k : ℕ) (x : Bench) (image : List ℕ) (asked : Asked k x image) wher
       ∙ unfold fiveTicks ticks in refl
 
   self-said : toldAlone k (actsOf (kindsOf (x .bus)) (planEvents k x image)) (slotAt k x) (bytesAt k x) ≡ map due (planEvents k x image)
-  unfolding slotAfter partAfter slotNext presentNext toldAlone shownAlone dueTo
+  unfolding slotAfter partAfter slotNext presentNext toldAlone shownAlone aloneFor dueFor
   self-said =
       ap (λ r. toldAlone k r (slotAt k x) (bytesAt k x)) (acted-acts (kindsOf (x .bus)) whole-acted)
       ∙ told-joined k fiveTimes (acts k x image asked 32) (slotAt k x) (bytesAt k x)

@@ -10,7 +10,10 @@ use Rattle.rules.specs.declared.Act.the-variants.{Start, Byte, Read, Sto
 use Rattle.rules.specs.declared.Answer.{Answer}
 use Rattle.rules.specs.declared.Answer.the-variants.{Nothing, Ack, Nack, Data}
 use Rattle.rules.specs.declared.Bus.{Bus}
+use Rattle.rules.specs.declared.Carried.{Carried}
+use Rattle.rules.specs.declared.Carried.the-variants as carries
 use Rattle.rules.specs.Modelled.{slotBytes}
+use Rattle.rules.specs.Events.{carried}
 use Rattle.rules.specs.Memory.{tickedPart}
 use Rattle.rules.specs.Power.{cutPart}
 use Rattle.rules.specs.Slot.{slotNext, acks, drives, driven}
@@ -40,13 +43,10 @@ unfoldable pub readByte : Bus → List ℕ → ℕ
 readByte b m = firstFrom (λ n s. drives s) (λ n s. driven (part slotBytes n m) s) 0xFF 0 (b .slots)
 
 -- "Kind 2 answers ACK or NACK [..] Kind 3 answers a byte [..] The others answer nothing."
+unfoldable pub shownFor : Carried → Bus → List ℕ → Answer
+shownFor (carries.Byte v) b m = cond (anyAck v b) Ack Nack
+shownFor (carries.Read more) b m = Data (readByte b m)
+shownFor carries.Nothing b m = Nothing
+
 unfoldable pub shown : Act → Bus → List ℕ → Answer
-shown Start b m = Nothing
-shown (Byte v) b m = cond (anyAck v b) Ack Nack
-shown (Read more) b m = Data (readByte b m)
-shown Stop b m = Nothing
-shown Timeout b m = Nothing
-shown Tick b m = Nothing
-shown (Voltage k on) b m = Nothing
-shown (Power k) b m = Nothing
-shown (Temperature k t) b m = Nothing
+shown a b m = shownFor (carried a) b m

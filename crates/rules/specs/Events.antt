@@ -8,6 +8,8 @@ use lib.Signed.{ltZ}
 use Rattle.rules.specs.declared.Event.{Event}
 use Rattle.rules.specs.declared.Act.{Act}
 use Rattle.rules.specs.declared.Act.the-variants.{Start, Byte, Read, Stop, Timeout, Tick, Voltage, Power, Temperature}
+use Rattle.rules.specs.declared.Carried.{Carried}
+use Rattle.rules.specs.declared.Carried.the-variants as carries
 use Rattle.rules.specs.declared.Refusal.{Refusal}
 use Rattle.rules.specs.declared.Refusal.the-variants.{MemoryLength, UnknownKind, WrongSlot, WrongValue, WrongSetup, WrongState, ProtectedPage}
 use Rattle.rules.specs.declared.Answer.{Answer}
@@ -30,6 +32,18 @@ actOf e =
     (cond (eqb (e .kind) 7) (Voltage (e .slot) (isOne (e .value)))
     (cond (eqb (e .kind) 8) (Power (record { 0 = natAbs (e .value) }))
     (Temperature (e .slot) (e .value)))))))))
+
+-- what an act carries over the wires: a byte from the master, a read; the others nothing
+abbrev pub carried : Act → Carried
+carried Start = carries.Nothing
+carried (Byte b) = carries.Byte b
+carried (Read more) = carries.Read more
+carried Stop = carries.Nothing
+carried Timeout = carries.Nothing
+carried Tick = carries.Nothing
+carried (Voltage k on) = carries.Nothing
+carried (Power k) = carries.Nothing
+carried (Temperature k t) = carries.Nothing
 
 -- the refusals' numbers, of document 01 and of the change requests
 unfoldable pub refusalNumber : Refusal → ℕ

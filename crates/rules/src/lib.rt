@@ -37,6 +37,14 @@ pub enum Act {
     Temperature(SlotNo, i16),
 }
 
+// What an act carries over the wires, and is answered: a byte from the master, a read, or nothing.
+pub enum Carried {
+    Byte(u8),
+    // Whether the master then acknowledges.
+    Read(bool),
+    Nothing,
+}
+
 // Why an event, a setup or a plan is refused. The paper's number of each: specs/Events.
 pub enum Refusal {
     MemoryLength,

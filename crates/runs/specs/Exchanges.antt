@@ -8,6 +8,8 @@ use lib.Dec.{eqb}
 use lib.IntN.{ℤ}
 use Rattle.lists.specs.Each.{allOf}
 use Rattle.rules.specs.declared.Act.{Act}
+use Rattle.rules.specs.declared.Carried.{Carried}
+use Rattle.rules.specs.declared.Carried.the-variants as carries
 use Rattle.rules.specs.declared.Cut.{Cut}
 use Rattle.rules.specs.declared.Act.the-variants.{Start, Byte, Read, Stop, Timeout, Tick, Voltage, Power, Temperature}
 use Rattle.rules.specs.declared.Answer.{Answer}
@@ -18,6 +20,7 @@ use Rattle.rules.specs.declared.Ruling.the-variants.{Taken, Refused}
 use Rattle.rules.specs.declared.Slot.{Slot}
 use Rattle.rules.specs.declared.SlotNo.{SlotNo}
 use Rattle.rules.specs.Control.{selectOf}
+use Rattle.rules.specs.Events.{carried}
 use Rattle.rules.specs.Slot.{slotNext, partNext, acks, drives, driven}
 use Rattle.rules.specs.Refusals.{ruledBy}
 use Rattle.rules.specs.Runs.{Bench, taken, given, next, answered}
@@ -41,16 +44,13 @@ told [] x = []
 told (a ∷ r) x = given a x ∷ told r (taken a x)
 
 -- what the bus would show if slot n were the only one, with its 512 bytes: at an act, and over a run
+unfoldable pub aloneFor : ℕ → Carried → Slot → List ℕ → Answer
+aloneFor n (carries.Byte v) s m = cond (acks n v s) Ack Nack
+aloneFor n (carries.Read more) s m = Data (cond (drives s) (driven m s) 0xFF)
+aloneFor n carries.Nothing s m = Nothing
+
 unfoldable pub shownAlone : ℕ → Act → Slot → List ℕ → Answer
-shownAlone n Start s m = Nothing
-shownAlone n (Byte v) s m = cond (acks n v s) Ack Nack
-shownAlone n (Read b) s m = Data (cond (drives s) (driven m s) 0xFF)
-shownAlone n Stop s m = Nothing
-shownAlone n Timeout s m = Nothing
-shownAlone n Tick s m = Nothing
-shownAlone n (Voltage k on) s m = Nothing
-shownAlone n (Power k) s m = Nothing
-shownAlone n (Temperature k t) s m = Nothing
+shownAlone n a s m = aloneFor n (carried a) s m
 
 unfoldable pub toldAlone : ℕ → List Act → Slot → List ℕ → List Answer
 toldAlone n [] s m = []

@@ -2,7 +2,7 @@
 ghost use mathlib.Core.Path.{_≡_};
 ghost use mathlib.Core.Bool.{cond, _||_};
 ghost use Rattle.shown.specs.Shown.{answerFor};
-use rules::Act;
+use rules::Carried;
 use rules::Answer;
 
 // One of two bytes.
@@ -37,19 +37,13 @@ pub fn joined(t: Shown, ack: bool, drives: bool, byte: u8) -> Shown
     }
 }
 
-// What the bus shows at an act: whether a slot acknowledges, or the byte read, FFh where none drives one.
-pub fn answer_of(a: Act, t: Shown) -> Answer
-    ensures { λ r. ⌜ r ≡ answerFor a (t .ack) (cond (t .driven) (t .byte) 255) ⌝ }
+// What the bus shows, by what an act carries: whether a slot acknowledges, or the byte read, FFh where none drives one.
+pub fn answer_of(c: Carried, t: Shown) -> Answer
+    ensures { λ r. ⌜ r ≡ answerFor c (t .ack) (cond (t .driven) (t .byte) 255) ⌝ }
 {
-    match a {
-        Act::Start => Answer::Nothing,
-        Act::Byte(_) => ack_of(t.ack),
-        Act::Read(_) => Answer::Data(either(t.driven, t.byte, 255)),
-        Act::Stop => Answer::Nothing,
-        Act::Timeout => Answer::Nothing,
-        Act::Tick => Answer::Nothing,
-        Act::Voltage(_, _) => Answer::Nothing,
-        Act::Power(_) => Answer::Nothing,
-        Act::Temperature(_, _) => Answer::Nothing,
+    match c {
+        Carried::Byte(_) => ack_of(t.ack),
+        Carried::Read(_) => Answer::Data(either(t.driven, t.byte, 255)),
+        Carried::Nothing => Answer::Nothing,
     }
 }

@@ -6,6 +6,7 @@ ghost use Rattle.rules.specs.Control.{heardOf};
 ghost use Rattle.rules.specs.Slot.{slotNext, acks, drives, driven, partNext};
 ghost use Rattle.rules.specs.Modelled.{slotBytes};
 ghost use Rattle.rules.specs.Refusals.{slotInRange};
+ghost use Rattle.rules.specs.Events.{carried};
 ghost use Rattle.foreseen.specs.Foreseen.{heardIn};
 ghost use Rattle.slot.specs.Shown.{stepped};
 use rules::Act;
@@ -86,7 +87,7 @@ fn temperature(k: SlotNo, t: i16, n: SlotNo, s: Slot) -> Step
 
 // Slot n's step at an act; part is its own 512 bytes, which a tick and a power cycle may change.
 pub fn next(a: Act, n: SlotNo, h: Heard, s: Slot, part: &mut [u8]) -> Step
-    requires { ⌜ (h ≡ heardIn a) × (slotInRange s ≡ true) × (length (now part) ≡ slotBytes) ⌝ }
+    requires { ⌜ (h ≡ heardIn (carried a)) × (slotInRange s ≡ true) × (length (now part) ≡ slotBytes) ⌝ }
     ensures { λ r. ⌜ (r ≡ stepped (n .0) a (now (part .entry)) s) × (now (part .exit) ≡ partNext a s (now (part .entry))) ⌝ }
 {
     match a {

@@ -21,8 +21,9 @@ pub fn taken(slots: [Slot; 8], mem: &mut [u8], a: Act) -> Outcome
     requires { ⌜ (allOf slotInRange slots ≡ true) × (length (now mem) ≡ memoryBytes) ⌝ }
     ensures { λ r. ⌜ takenThen (record { slots = slots }) (now (mem .entry)) a ≡ (r, now (mem .exit)) ⌝ }
 {
-    let carried = foreseen::carried(a);
-    let h = foreseen::heard_in(a);
+    let c = foreseen::carried(a);
+    let carries = foreseen::carrying(c);
+    let h = foreseen::heard_in(c);
     let mut all = slots;
     let mut shown = Shown {
         ack: false,
@@ -31,8 +32,8 @@ pub fn taken(slots: [Slot; 8], mem: &mut [u8], a: Act) -> Outcome
     };
     for i in 0..8u8 {
         let at = i as usize;
-        let c = foreseen::glance(a, carried, h, SlotNo(i), all[at]);
-        match c {
+        let change = foreseen::glance(a, carries, h, SlotNo(i), all[at]);
+        match change {
             Change::Nothing => {}
             Change::To(p) => {
                 all[at] = phase::in_phase(p, all[at]);
@@ -47,7 +48,7 @@ pub fn taken(slots: [Slot; 8], mem: &mut [u8], a: Act) -> Outcome
             }
         }
     }
-    let answer = shown::answer_of(a, shown);
+    let answer = shown::answer_of(c, shown);
     Outcome {
         bus: Bus { slots: all },
         answer,

@@ -14,7 +14,7 @@ use Rattle.rules.specs.declared.Bus.{Bus}
 use Rattle.rules.specs.declared.Slot.{Slot}
 use Rattle.rules.specs.Modelled.{slotBytes}
 use Rattle.rules.specs.Slot.{acks, drives, driven}
-use Rattle.rules.specs.Bus.{anyAck, readByte, shown}
+use Rattle.rules.specs.Bus.{anyAck, readByte, shownFor, shown}
 
 module _ (b : Bus) (m : List ℕ) (d : Slot) where
   abbrev slot : ℕ → Slot
@@ -22,20 +22,20 @@ module _ (b : Bus) (m : List ℕ) (d : Slot) where
 
   -- "Kind 2 answers ACK or NACK: ACK if at least one slot acknowledges."
   pub some-ack : (v i : ℕ) → i < length (b .slots) → acks i v (slot i) ≡ true → shown (Byte v) b m ≡ Ack
-  unfolding shown anyAck
+  unfolding shown shownFor anyAck
   some-ack v i l a = ap (λ (t : Bool). cond t Ack Nack) (anyFrom-some (λ n s. acks n v s) 0 (b .slots) d i l (rw zero-add a))
 
   pub no-ack : (v : ℕ) → ((i : ℕ) → i < length (b .slots) → acks i v (slot i) ≡ false) → shown (Byte v) b m ≡ Nack
-  unfolding shown anyAck
+  unfolding shown shownFor anyAck
   no-ack v h = ap (λ (t : Bool). cond t Ack Nack) (anyFrom-no (λ n s. acks n v s) 0 (b .slots) d (λ i l. rw zero-add (h i l)))
 
   -- "Kind 3 answers a byte: the driving slot's, or FFh when none drives."; "of several driving slots the lowest is read"
   pub lowest-read : (more : Bool) (i : ℕ) → i < length (b .slots) → drives (slot i) ≡ true → ((j : ℕ) → j < i → drives (slot j) ≡ false)
       → shown (Read more) b m ≡ Data (driven (part slotBytes i m) (slot i))
-  unfolding shown readByte
+  unfolding shown shownFor readByte
   lowest-read more i l f h =
       ap Data (rw zero-add at (firstFrom-at (λ n s. drives s) (λ n s. driven (part slotBytes n m) s) 0xFF 0 (b .slots) d i l f h))
 
   pub none-read : (more : Bool) → ((i : ℕ) → i < length (b .slots) → drives (slot i) ≡ false) → shown (Read more) b m ≡ Data 0xFF
-  unfolding shown readByte
+  unfolding shown shownFor readByte
   none-read more h = ap Data (firstFrom-no (λ n s. drives s) (λ n s. driven (part slotBytes n m) s) 0xFF 0 (b .slots) d h)

@@ -13,15 +13,17 @@ use Rattle.lists.specs.Tests.{cond-cases, by-test}
 use Rattle.rules.specs.declared.Act.{Act}
 use Rattle.rules.specs.declared.Act.the-variants.{Start, Byte, Read, Stop, Timeout, Tick, Voltage, Power, Temperature}
 use Rattle.rules.specs.declared.Bus.{Bus}
+use Rattle.rules.specs.declared.Carried.{Carried}
+use Rattle.rules.specs.declared.Carried.the-variants as carries
 use Rattle.rules.specs.declared.Event.{Event}
 use Rattle.rules.specs.declared.Pair.{Pair}
 use Rattle.rules.specs.declared.Refusal.{Refusal}
 use Rattle.rules.specs.declared.Refusal.the-variants.{MemoryLength, UnknownKind, WrongSlot, WrongValue, WrongSetup, WrongState, ProtectedPage}
 use Rattle.rules.specs.declared.Ruling.{Ruling}
 use Rattle.rules.specs.declared.Ruling.the-variants.{Taken, Refused}
-use Rattle.rules.specs.Events.{actOf, refusalNumber, letterOf, valueOf}
+use Rattle.rules.specs.Events.{actOf, carried, refusalNumber, letterOf, valueOf}
 use Rattle.rules.specs.Fresh.{setupSlot, absentSlot}
-use Rattle.rules.specs.Bus.{anyAck, shown}
+use Rattle.rules.specs.Bus.{anyAck, shownFor, shown}
 use Rattle.rules.specs.Refusals.{wrongLength, unknownKind, kindsOf, kindAt, wrongSlot, wrongValue, goodPair, inRange, ruledFor, ruledBy, ruling, emptyBus, setupOf}
 use Rattle.rules.specs.Runs.{Bench, given, rulingOn, ruledNext, ruledAnswer, next, answered}
 
@@ -100,21 +102,15 @@ unfolding rulingOn
 refused-at-row e x n (row r f j) = ruled-refusing e x r n f (sym (only-ruling (x .bus) (x .memory) e (Refused r) j))
 
 -- and no other event is answered `R`
-shown-letter : (a : Act) (b : Bus) (m : List ℕ) → letterOf (shown a b m) ≡ 0x52 → ⊥
-unfolding shown letterOf
-shown-letter Start b m e = omega (arith, e)
-shown-letter (Byte v) b m e = by-test (anyAck v b) (λ h. let f : _≡_ {A = ℕ} 0x41 0x52 = rw h at e in omega (arith, f)) (λ h. let f : _≡_ {A = ℕ} 0x4E 0x52 = rw h at e in omega (arith, f))
-shown-letter (Read more) b m e = omega (arith, e)
-shown-letter Stop b m e = omega (arith, e)
-shown-letter Timeout b m e = omega (arith, e)
-shown-letter Tick b m e = omega (arith, e)
-shown-letter (Voltage k on) b m e = omega (arith, e)
-shown-letter (Power k) b m e = omega (arith, e)
-shown-letter (Temperature k t) b m e = omega (arith, e)
+shown-letter : (c : Carried) (b : Bus) (m : List ℕ) → letterOf (shownFor c b m) ≡ 0x52 → ⊥
+unfolding shownFor letterOf
+shown-letter (carries.Byte v) b m e = by-test (anyAck v b) (λ h. let f : _≡_ {A = ℕ} 0x41 0x52 = rw h at e in omega (arith, f)) (λ h. let f : _≡_ {A = ℕ} 0x4E 0x52 = rw h at e in omega (arith, f))
+shown-letter (carries.Read more) b m e = omega (arith, e)
+shown-letter carries.Nothing b m e = omega (arith, e)
 
 row-of : (e : Event) (x : Bench) (r : Ruling) → Judged (x .bus) (x .memory) e r → letterOf (ruledAnswer r x) ≡ 0x52 → Row (x .bus) (x .memory) e (valueOf (ruledAnswer r x))
-unfolding ruledAnswer given letterOf valueOf
-row-of e x (Taken a) j l = absurd (shown-letter a (x .bus) (x .memory) l)
+unfolding ruledAnswer given shown letterOf valueOf
+row-of e x (Taken a) j l = absurd (shown-letter (carried a) (x .bus) (x .memory) l)
 row-of e x (Refused r) j l = row r refl j
 
 pub row-at-refused : (e : Event) (x : Bench) → letterOf (answered e x) ≡ 0x52 → Row (x .bus) (x .memory) e (valueOf (answered e x))

@@ -16,6 +16,8 @@ use Rattle.rules.specs.declared.Answer.{Answer}
 use Rattle.rules.specs.declared.Answer.the-variants as answer
 use Rattle.rules.specs.declared.Bus.{Bus}
 use Rattle.rules.specs.declared.Cut.{Cut}
+use Rattle.rules.specs.declared.Carried.{Carried}
+use Rattle.rules.specs.declared.Carried.the-variants as carries
 use Rattle.rules.specs.declared.Event.{Event}
 use Rattle.rules.specs.declared.Heard.{Heard}
 use Rattle.rules.specs.declared.Heard.the-variants.{Memory, Sensor, Protect, ClearAll, ReadProtection, SelectHalf, ReadHalf, Nothing}
@@ -30,13 +32,13 @@ use Rattle.rules.specs.declared.Slot.{Slot}
 use Rattle.rules.specs.Open.{open-fields, open-all}
 use Rattle.rules.specs.Fields as Fields
 use Rattle.rules.specs.Fields.{inPhase, withLeft}
-use Rattle.rules.specs.Events.{actOf, refusalNumber}
+use Rattle.rules.specs.Events.{actOf, carried, refusalNumber}
 use Rattle.rules.specs.Fresh.{freshSlot, setupSlot, powered}
 use Rattle.rules.specs.Control.{commandOf, heardOf, acksControl, obeyed, controlled}
 use Rattle.rules.specs.Memory.{emptied, abandoned, cancelled, loaded, guarded, upInPage, latching, dataByte, fetched, anyMark, begun, dataStop, ended, ticked}
 use Rattle.rules.specs.Power.{running, cut, powerCut}
 use Rattle.rules.specs.Slot.{standing, commanding, letGo, lost, pointer, firstByte, secondByte, byteIn, readIn, stopIn, switched, presentNext, slotNext}
-use Rattle.rules.specs.Bus.{busNext, shown, anyAck}
+use Rattle.rules.specs.Bus.{busNext, shownFor, shown, anyAck}
 use Rattle.rules.specs.Refusals.{outside, wrongValue, goodLength, goodPair, kindInRange, lengthInRange, sensorInRange, slotInRange, inRange, setupOf}
 use Rattle.rules.specs.Runs.{Bench, taken, given, rulingOn, ruledNext, ruledAnswer, next, answered, after, answers}
 use Rattle.rules.proofs.Run.Cases.{next-cases, let-go-cases}
@@ -307,18 +309,12 @@ unfolding powerCut cut open-fields
 power-kept k s v = powered-kept _ (cond-cases InRange (running s) (λ e. ended-kept (cut k s) v) (λ e. v))
 
 -- an act whose byte is a byte keeps a slot in range
-unfoldable pub byteFits : Act → Bool
-byteFits Start = true
-byteFits (Byte b) = leb b 255
-byteFits (Read more) = true
-byteFits Stop = true
-byteFits Timeout = true
-byteFits Tick = true
-byteFits (Voltage k on) = true
-byteFits (Power k) = true
-byteFits (Temperature k t) = true
+unfoldable pub byteFits : Carried → Bool
+byteFits (carries.Byte b) = leb b 255
+byteFits (carries.Read more) = true
+byteFits carries.Nothing = true
 
-present-kept : (n : ℕ) (a : Act) (s : Slot) → byteFits a ≡ true → InRange s → InRange (presentNext n a s)
+present-kept : (n : ℕ) (a : Act) (s : Slot) → byteFits (carried a) ≡ true → InRange s → InRange (presentNext n a s)
 unfolding presentNext byteFits
 present-kept n Start s f v = phase-kept Control _ (letGo-kept (standing s) s v)
 present-kept n (Byte b) s f v = byte-kept (standing s) n b s (leb-true _ _ f) v
@@ -331,11 +327,11 @@ present-kept n (Power k) s f v = power-kept k s v
 present-kept n (Temperature k t) s f v =
     cond-cases InRange (eqb (k .0) n) (λ e. sensor-kept _ s (converted-kept (s .sensor) t (v .sensors)) v) (λ e. v)
 
-pub slot-kept : (n : ℕ) (a : Act) (s : Slot) → byteFits a ≡ true → InRange s → InRange (slotNext n a s)
+pub slot-kept : (n : ℕ) (a : Act) (s : Slot) → byteFits (carried a) ≡ true → InRange s → InRange (slotNext n a s)
 slot-kept n a s f v = next-cases InRange n a s (λ e. v) (λ e. present-kept n a s f v)
 
 -- the bus
-pub bus-kept : (a : Act) (b : Bus) → byteFits a ≡ true → inRange b ≡ true → inRange (busNext a b) ≡ true
+pub bus-kept : (a : Act) (b : Bus) → byteFits (carried a) ≡ true → inRange b ≡ true → inRange (busNext a b) ≡ true
 unfolding inRange busNext
 bus-kept a b f v =
     allOf-mapFrom slotInRange (λ n s. slotNext n a s) (λ n s t. test (slotNext n a s) (slot-kept n a s f (facts s t))) 0 (b .slots) v
@@ -346,7 +342,7 @@ unfolding outside
 fits-in-byte (pos n) e = le-leb n 255 (ltb-false 255 n (or-right-false (ltb n 0) (ltb 255 n) e))
 fits-in-byte (negsuc n) e = absurd (false≢true (sym e))
 
-act-fits : (e : Event) → wrongValue e ≡ false → byteFits (actOf e) ≡ true
+act-fits : (e : Event) → wrongValue e ≡ false → byteFits (carried (actOf e)) ≡ true
 unfolding actOf byteFits wrongValue
 act-fits e w =
     cond-cases P (eqb (e .kind) 1) (λ h. refl) λ h.
@@ -359,10 +355,10 @@ act-fits e w =
     cond-cases P (eqb (e .kind) 8) (λ h. refl) λ h. refl
   where
     P : Act → Type 0
-    P a = byteFits a ≡ true
+    P a = byteFits (carried a) ≡ true
 
 fitting : Ruling → Type 0
-fitting (Taken a) = byteFits a ≡ true
+fitting (Taken a) = byteFits (carried a) ≡ true
 fitting (Refused r) = Unit {0}
 
 judged-fits : (b : Bus) (m : List ℕ) (e : Event) (r : Ruling) → Judged b m e r → fitting r
@@ -435,21 +431,15 @@ judged-not-six b m e (Refused r) v (row-3 n h i j k) = ap (λ (k : ℕ). eqb k 6
 judged-not-six b m e (Refused r) v (row-4 n h i j k l) = ap (λ (k : ℕ). eqb k 6) n
 judged-not-six b m e (Taken a) v (no-row h i j k l) = tt
 
-shown-not-six : (a : Act) (b : Bus) (m : List ℕ) → isSix (shown a b m) ≡ false
-unfolding shown isSix
-shown-not-six Start b m = refl
-shown-not-six (Byte v) b m = cond-cases (λ (r : Answer). isSix r ≡ false) (anyAck v b) (λ e. refl) (λ e. refl)
-shown-not-six (Read more) b m = refl
-shown-not-six Stop b m = refl
-shown-not-six Timeout b m = refl
-shown-not-six Tick b m = refl
-shown-not-six (Voltage k on) b m = refl
-shown-not-six (Power k) b m = refl
-shown-not-six (Temperature k t) b m = refl
+shown-not-six : (c : Carried) (b : Bus) (m : List ℕ) → isSix (shownFor c b m) ≡ false
+unfolding shownFor isSix
+shown-not-six (carries.Byte v) b m = cond-cases (λ (r : Answer). isSix r ≡ false) (anyAck v b) (λ e. refl) (λ e. refl)
+shown-not-six (carries.Read more) b m = refl
+shown-not-six carries.Nothing b m = refl
 
 ruled-not-six : (r : Ruling) (x : Bench) → notSix r → isSix (ruledAnswer r x) ≡ false
-unfolding ruledAnswer given notSix isSix
-ruled-not-six (Taken a) x h = shown-not-six a (x .bus) (x .memory)
+unfolding ruledAnswer given shown notSix isSix
+ruled-not-six (Taken a) x h = shown-not-six (carried a) (x .bus) (x .memory)
 ruled-not-six (Refused r) x h = h
 
 pub answered-not-six : (e : Event) (x : Bench) → inRange (x .bus) ≡ true → isSix (answered e x) ≡ false

@@ -9,14 +9,16 @@ use lib.ListN.{length, getD}
 use Rattle.lists.specs.Each.{mapFrom-at, anyFrom-one, firstFrom-one}
 use Rattle.lists.specs.Parts.{part}
 use Rattle.rules.specs.declared.Act.{Act}
-use Rattle.rules.specs.declared.Act.the-variants.{Start, Byte, Read, Stop, Timeout, Tick, Voltage, Power, Temperature}
+use Rattle.rules.specs.declared.Carried.{Carried}
+use Rattle.rules.specs.declared.Carried.the-variants as carries
 use Rattle.rules.specs.declared.Answer.the-variants.{Ack, Nack, Data}
 use Rattle.rules.specs.declared.Slot.{Slot}
 use Rattle.rules.specs.Modelled.{slotBytes}
+use Rattle.rules.specs.Events.{carried}
 use Rattle.rules.specs.Slot.{slotNext, partNext, acks, drives, driven}
-use Rattle.rules.specs.Bus.{busNext, anyAck, readByte, shown}
+use Rattle.rules.specs.Bus.{busNext, anyAck, readByte, shownFor, shown}
 use Rattle.rules.specs.Runs.{Bench, taken, given, slotAfter, partAfter}
-use Rattle.runs.specs.Exchanges.{went, told, shownAlone, toldAlone}
+use Rattle.runs.specs.Exchanges.{went, told, aloneFor, shownAlone, toldAlone}
 use Rattle.rules.proofs.Memory.Stored.{part-next}
 use Rattle.rules.proofs.Memory.Protection.{number-taken}
 
@@ -28,16 +30,13 @@ abbrev pub partOf : ℕ → Bench → List ℕ
 partOf k x = part slotBytes k (x .memory)
 
 -- slot i says nothing at the act
-unfoldable pub Silent : ℕ → Act → Slot → Type 0
-Silent i Start s = Unit {0}
-Silent i (Byte v) s = acks i v s ≡ false
-Silent i (Read b) s = drives s ≡ false
-Silent i Stop s = Unit {0}
-Silent i Timeout s = Unit {0}
-Silent i Tick s = Unit {0}
-Silent i (Voltage k on) s = Unit {0}
-Silent i (Power k) s = Unit {0}
-Silent i (Temperature k t) s = Unit {0}
+unfoldable pub SilentFor : ℕ → Carried → Slot → Type 0
+SilentFor i (carries.Byte v) s = acks i v s ≡ false
+SilentFor i (carries.Read more) s = drives s ≡ false
+SilentFor i carries.Nothing s = Unit {0}
+
+abbrev pub Silent : ℕ → Act → Slot → Type 0
+Silent i a s = SilentFor i (carried a) s
 
 -- and over a run
 unfoldable pub SilentOver : ℕ → List Act → Slot → Type 0
@@ -72,21 +71,21 @@ module _ (d : Slot) (k : ℕ) where
   part-went (a ∷ r) x h = part-went r (taken a x) (below-taken a x h) ∙ ap₂ (partAfter k r) (slot-taken a x h) (part-taken a x h)
 
   -- what the bench shows, where the others are silent
+  shown-one : (c : Carried) (x : Bench) → k < length (slotsOf x)
+      → ((i : ℕ) → i < length (slotsOf x) → (i ≡ k → ⊥) → SilentFor i c (getD (slotsOf x) i d))
+      → shownFor c (x .bus) (x .memory) ≡ aloneFor k c (slotAt x) (partOf k x)
+  unfolding shownFor aloneFor SilentFor anyAck readByte
+  shown-one (carries.Byte v) x h q =
+      ap (λ (b : Bool). cond b Ack Nack) (rw zero-add at (anyFrom-one (λ n s. acks n v s) 0 (slotsOf x) d k h (λ i l ne. rw zero-add (q i l ne))))
+  shown-one (carries.Read b) x h q =
+      ap Data (rw zero-add at (firstFrom-one (λ n s. drives s) (λ n s. driven (part slotBytes n (x .memory)) s) 0xFF 0 (slotsOf x) d k h q))
+  shown-one carries.Nothing x h q = refl
+
   pub given-one : (a : Act) (x : Bench) → k < length (slotsOf x)
       → ((i : ℕ) → i < length (slotsOf x) → (i ≡ k → ⊥) → Silent i a (getD (slotsOf x) i d))
       → given a x ≡ shownAlone k a (slotAt x) (partOf k x)
-  unfolding given shown shownAlone Silent anyAck readByte
-  given-one Start x h q = refl
-  given-one (Byte v) x h q =
-      ap (λ (b : Bool). cond b Ack Nack) (rw zero-add at (anyFrom-one (λ n s. acks n v s) 0 (slotsOf x) d k h (λ i l ne. rw zero-add (q i l ne))))
-  given-one (Read b) x h q =
-      ap Data (rw zero-add at (firstFrom-one (λ n s. drives s) (λ n s. driven (part slotBytes n (x .memory)) s) 0xFF 0 (slotsOf x) d k h q))
-  given-one Stop x h q = refl
-  given-one Timeout x h q = refl
-  given-one Tick x h q = refl
-  given-one (Voltage j on) x h q = refl
-  given-one (Power j) x h q = refl
-  given-one (Temperature j t) x h q = refl
+  unfolding given shown shownAlone
+  given-one a x h q = shown-one (carried a) x h q
 
 -- and over a run
 pub told-one : (d : Slot) (k : ℕ) (r : List Act) (x : Bench) → k < length (slotsOf x)

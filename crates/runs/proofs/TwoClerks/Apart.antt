@@ -14,7 +14,7 @@ use Rattle.rules.specs.declared.Slot.{Slot}
 use Rattle.rules.specs.Runs.{Bench, taken}
 use Rattle.runs.specs.Exchanges.{went, told, toldAlone, Inside, Item, exchange, between, insideAct, upToStop, itemActs, flatten, controls, names, someOf, addressed, own, ownTold, strike}
 use Rattle.rules.proofs.Memory.Protection.{number-taken}
-use Rattle.runs.proofs.TwoClerks.Alone.{slotsOf, partOf, slotAt, Silent, SilentOver, slot-went, part-went, told-one}
+use Rattle.runs.proofs.TwoClerks.Alone.{slotsOf, partOf, slotAt, SilentFor, SilentOver, slot-went, part-went, told-one}
 use Rattle.runs.proofs.TwoClerks.Foreign.{all-named, silent}
 use Rattle.runs.proofs.TwoClerks.Struck.{Idles, itemSlot, itemPart, slotItems, partItems, ownAlone, strike-slot, strike-part, strike-own}
 
@@ -52,7 +52,7 @@ module _ (d : Slot) (k : ℕ) where
 
   -- in an exchange of k's own all others are silent, whatever state they were in, so the answers are k's
   told-own : (i : Item) (x : Bench) → k < length (slotsOf x) → own k i ≡ true → told (itemActs i []) x ≡ toldAlone k (itemActs i []) (slotAt d k x) (partOf k x)
-  unfolding itemActs own addressed SilentOver Silent
+  unfolding itemActs own addressed SilentOver SilentFor
   told-own (exchange xs) x h e =
       told-one d k (Start ∷ upToStop xs []) x h
       (λ i l ne.

@@ -10,6 +10,8 @@ use borrow.Author.Tests.{eqb-true, eqb-false, ne-eqb, not-true}
 use Rattle.lists.specs.Each.{allOf}
 use Rattle.lists.specs.Tests.{cond-cases, by-test, and-left, and-right, or-cases}
 use Rattle.rules.specs.declared.Act.{Act}
+use Rattle.rules.specs.declared.Carried.{Carried}
+use Rattle.rules.specs.declared.Carried.the-variants as carries
 use Rattle.rules.specs.declared.Act.the-variants.{Start, Byte, Read, Stop, Timeout, Tick, Voltage, Power, Temperature}
 use Rattle.rules.specs.declared.Phase.{Phase}
 use Rattle.rules.specs.declared.Phase.the-variants.{Idle, Control, Deaf}
@@ -19,13 +21,14 @@ use Rattle.rules.specs.Fields.{inPhase}
 use Rattle.rules.specs.Control.{selectOf, heardOf, acksHeard, acksControl, controlled}
 use Rattle.rules.specs.Memory.{emptied, abandoned, cancelled}
 use Rattle.rules.specs.Open.{open-fields}
+use Rattle.rules.specs.Events.{carried}
 use Rattle.rules.specs.Slot.{standing, letGo, byteIn, acksIn, readIn, drivesIn, stopIn, presentNext, slotNext, partNext, acks, drives}
 use Rattle.rules.specs.Runs.{slotAfter, partAfter}
 use Rattle.runs.specs.Exchanges.{Inside, again, byte, read, exchange, insideAct, upToStop, controls, names, mute, someOf, addressed, toNone, toOther, struck}
 use Rattle.rules.proofs.Run.Cases.{let-go-cases, absent-next, present-next}
 use Rattle.rules.proofs.Memory.Stored.{absent-part}
 use Rattle.rules.proofs.Memory.Protection.{still-present}
-use Rattle.runs.proofs.TwoClerks.Alone.{Silent, SilentOver}
+use Rattle.runs.proofs.TwoClerks.Alone.{SilentFor, SilentOver}
 
 -- slot n does not hear the control byte, whatever state it is in
 abbrev pub Unheard : ℕ → ℕ → Type 0
@@ -119,23 +122,17 @@ unfolding partAfter
 absent-parts n [] s m e = refl
 absent-parts n (a ∷ r) s m e = ap₂ (partAfter n r) (absent-next n a s e) (absent-part a s m e) ∙ absent-parts n r s m e
 
-absent-once : (n : ℕ) (a : Act) (s : Slot) → standing s ≡ Deaf → Silent n a s
-unfolding Silent acks acksIn drives
-absent-once n Start s e = tt
-absent-once n (Byte b) s e = ap (λ p. acksIn p n b s) e
-absent-once n (Read m) s e = ap drivesIn e
-absent-once n Stop s e = tt
-absent-once n Timeout s e = tt
-absent-once n Tick s e = tt
-absent-once n (Voltage k on) s e = tt
-absent-once n (Power k) s e = tt
-absent-once n (Temperature k t) s e = tt
+absent-once : (n : ℕ) (c : Carried) (s : Slot) → standing s ≡ Deaf → SilentFor n c s
+unfolding SilentFor acks acksIn drives
+absent-once n (carries.Byte b) s e = ap (λ p. acksIn p n b s) e
+absent-once n (carries.Read m) s e = ap drivesIn e
+absent-once n carries.Nothing s e = tt
 
 absent-silent : (n : ℕ) (r : List Act) (s : Slot) → absent s ≡ true → SilentOver n r s
 unfolding SilentOver
 absent-silent n [] s e = tt
 absent-silent n (a ∷ r) s e =
-    (absent-once n a s (unfold standing in rw e), subst (SilentOver n r) (sym (absent-next n a s e)) (absent-silent n r s e))
+    (absent-once n (carried a) s (unfold standing in rw e), subst (SilentOver n r) (sym (absent-next n a s e)) (absent-silent n r s e))
 
 -- after the exchange a present slot is idle, and otherwise as it was
 pub as-it-was : (n : ℕ) (fresh : Bool) (xs : List Inside) (s : Slot) → absent s ≡ false → Waits s fresh → NoneHeard n (controls fresh xs)
@@ -175,7 +172,7 @@ module _ (n : ℕ) where
   on xs e h = subst (SilentOver n (upToStop xs [])) (sym e) h
 
   present-silent : (fresh : Bool) (xs : List Inside) (s : Slot) → absent s ≡ false → Waits s fresh → NoneHeard n (controls fresh xs) → SilentOver n (upToStop xs []) s
-  unfolding SilentOver Silent upToStop insideAct presentNext controls acks acksIn byteIn drives readIn inPhase absent
+  unfolding SilentOver SilentFor upToStop insideAct presentNext controls acks acksIn byteIn drives readIn inPhase absent
   present-silent fresh [] s a w u = (tt, tt)
   present-silent fresh (again ∷ xs) s a w u =
       (tt, on xs (present-next n Start s a ∙ ap (inPhase Control) (let-go-none s w)) (present-silent true xs (inPhase Control s) a (started-waits s a) u))

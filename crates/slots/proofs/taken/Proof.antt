@@ -1,5 +1,5 @@
 use borrow.Author.Needs.{needs}
-use mathlib.Core.Path.{_≡_, refl}
+use mathlib.Core.Path.{_≡_, refl, _∙_, ap}
 use mathlib.Core.Bool.{true}
 use mathlib.Core.Logic.{⊎-elim}
 use Prim.Native.Nat.{_≤_, _<_, _-_, _+_, _*_}
@@ -7,7 +7,8 @@ use native.Mathlib.Omega.{arith}
 use lib.ListN.{length, length-take, length-drop}
 use Rattle.lists.specs.Each.{allOf, allOf-at}
 use Rattle.rules.specs.Refusals.{slotInRange}
-use Rattle.foreseen.specs.Foreseen.{heardIn, carried}
+use Rattle.rules.specs.Events.{carried}
+use Rattle.foreseen.specs.Foreseen.{heardIn, carrying}
 use Rattle.rules.proofs.Past.{noSlot}
 use Rattle.slots.proofs.Laws.{Turned, turned-none, turned-all, turn-nothing, turn-to, turn-more, old}
 use Rattle.slots.proofs.taken.Statement.{statement}
@@ -18,28 +19,35 @@ use Rattle.shown.proofs.answer_of.Reads as answer-of-reads
 use Rattle.shown.proofs.joined.Reads as joined-reads
 use Rattle.phase.proofs.in_phase.Reads as in-phase-reads
 use Rattle.foreseen.proofs.carried.Reads as carried-reads
+use Rattle.foreseen.proofs.carrying.Reads as carrying-reads
 use Rattle.foreseen.proofs.glance.Reads as glance-reads
 use Rattle.foreseen.proofs.heard_in.Reads as heard-in-reads
 use Rattle.slot.proofs.next.Reads as next-reads
 
 abbrev Inv-loop : tie.InvT-loop
-Inv-loop mem₀ a k h all₀ shown₀ i₀ mem all shown i =
-    (i ≤ 8) × (length all₀ ≡ 8) × (length mem₀ ≡ 4096) × (length mem ≡ 4096) × (allOf slotInRange all₀ ≡ true) × (h ≡ heardIn a) × (k ≡ carried a)
-    × Turned a all₀ mem₀ i all mem (shown .ack) (shown .driven) (shown .byte)
+Inv-loop mem₀ a c k h all₀ shown₀ i₀ mem all shown i =
+    (i ≤ 8) × (length all₀ ≡ 8) × (length mem₀ ≡ 4096) × (length mem ≡ 4096) × (allOf slotInRange all₀ ≡ true) × (h ≡ heardIn (carried a)) × (k ≡ carrying (carried a))
+    × (c ≡ carried a) × Turned a all₀ mem₀ i all mem (shown .ack) (shown .driven) (shown .byte)
 
 abbrev μ-loop : tie.MeasureT-loop
-μ-loop mem₀ a k h all₀ shown₀ i₀ mem all shown i = 8 - i
+μ-loop mem₀ a c k h all₀ shown₀ i₀ mem all shown i = 8 - i
 
 -- src/lib.rt:78:9
 carried-requires : tie.Need-carried-requires Inv-loop μ-loop
 carried-requires c κs = search needs
+
+carrying-requires : tie.Need-carrying-requires Inv-loop μ-loop
+carrying-requires c κs = search needs
 
 heard-in-requires : tie.Need-heard-in-requires Inv-loop μ-loop
 heard-in-requires c κs = search needs
 
 -- src/lib.rt:83:5
 loop-holds : tie.Need-loop-holds Inv-loop μ-loop
-loop-holds c = (omega arith, search needs, c .before .before .before .pre .1, c .before .before .before .pre .1, c .before .before .before .pre .0, c .heard-in .ensures, c .before .carried .ensures, turned-none _ _ _)
+loop-holds c =
+    let n = c .before .before in
+    let e = n .carried .ensures in
+    (omega arith, search needs, n .before .before .pre .1, n .before .before .pre .1, n .before .before .pre .0, c .heard-in .ensures ∙ ap heardIn e, c .before .carrying .ensures ∙ ap carrying e, e, turned-none _ _ _)
 
 -- src/lib.rt:84:18
 cast-at : tie.Need-cast-at Inv-loop μ-loop
@@ -61,8 +69,8 @@ enum-told : tie.Need-enum-told Inv-loop μ-loop
 enum-told c = search needs
 
 -- src/lib.rt:88:24
-enum-known-c : tie.Need-enum-known-c Inv-loop μ-loop
-enum-known-c c = search needs
+enum-known-change : tie.Need-enum-known-change Inv-loop μ-loop
+enum-known-change c = search needs
 
 -- src/lib.rt:89:46
 mul-in-phase : tie.Need-mul-in-phase Inv-loop μ-loop
@@ -121,10 +129,10 @@ next-requires : tie.Need-next-requires Inv-loop μ-loop
 next-requires c κs =
     let f = c .before .before .before .before in
     let l = f .before .before .before .loop in
-    let g = f .before .before .before .before .before .before .before .args in
+    let g = f .before .before .before .before .before .before .before .before .args in
     let h : l .i < length (g .slots) = omega arith in
     let r : 512 * (l .i + 1) ≤ length (g .mem .now) = omega arith in
-    (l .inv .5, rw (old (g .a) (g .slots) (g .mem .now) (l .i) h r (l .all) (l .mem) (l .shown .ack) (l .shown .driven) (l .shown .byte) (l .inv .7)) (allOf-at slotInRange (l .i) (g .slots) noSlot h (l .inv .4)), simp (length-take, length-drop) (omega arith))
+    (l .inv .5, rw (old (g .a) (g .slots) (g .mem .now) (l .i) h r (l .all) (l .mem) (l .shown .ack) (l .shown .driven) (l .shown .byte) (l .inv .8)) (allOf-at slotInRange (l .i) (g .slots) noSlot h (l .inv .4)), simp (length-take, length-drop) (omega arith))
 
 -- src/lib.rt:96:17
 mul-all-2 : tie.Need-mul-all-2 Inv-loop μ-loop
@@ -151,14 +159,14 @@ loop-again : tie.Need-loop-again Inv-loop μ-loop
 loop-again c =
     let f = c .before in
     let l = f .before .before .before .loop in
-    let g = f .before .before .before .before .before .before .before .args in
+    let g = f .before .before .before .before .before .before .before .before .args in
     let h : l .i < length (g .slots) = omega arith in
     let r : 512 * (l .i + 1) ≤ length (g .mem .now) = omega arith in
     ⊎-elim
-    (λ w. (omega arith, l .inv .1, l .inv .2, rw (w .2) (l .inv .3), l .inv .4, l .inv .5, l .inv .6, rw (w .2, w .3, w .4) (turn-nothing (g .a) (g .slots) (g .mem .now) (l .i) h r (l .all) (l .mem) (l .shown .ack) (l .shown .driven) (l .shown .byte) (l .inv .7) (f .glance .result) (f .glance .ensures) (w .1 .given .1))))
+    (λ w. (omega arith, l .inv .1, l .inv .2, rw (w .2) (l .inv .3), l .inv .4, l .inv .5, l .inv .6, l .inv .7, rw (w .2, w .3, w .4) (turn-nothing (g .a) (g .slots) (g .mem .now) (l .i) h r (l .all) (l .mem) (l .shown .ack) (l .shown .driven) (l .shown .byte) (l .inv .8) (f .glance .result) (f .glance .ensures) (w .1 .given .1))))
     (λ w. ⊎-elim
-    (λ v. (omega arith, l .inv .1, l .inv .2, rw (v .5) (l .inv .3), l .inv .4, l .inv .5, l .inv .6, rw (v .5, v .6, v .7) (turn-to (g .a) (g .slots) (g .mem .now) (l .i) h r (l .all) (l .mem) (l .shown .ack) (l .shown .driven) (l .shown .byte) (l .inv .7) (f .glance .result) _ (v .4 .result) (f .glance .ensures) (v .1 .given .1) (v .4 .ensures))))
-    (λ v. (omega arith, l .inv .1, l .inv .2, rw (v .9) (omega arith), l .inv .4, l .inv .5, l .inv .6, rw (v .9, v .10, v .11, v .8 .ensures) (turn-more (g .a) (g .slots) (g .mem .now) (l .i) h r (l .all) (l .mem) (l .shown .ack) (l .shown .driven) (l .shown .byte) (l .inv .7) (512 * l .i) (512 * l .i + 512) (v .4 .result) _ refl (omega arith) (v .4 .ensures .0) (v .4 .ensures .1))))
+    (λ v. (omega arith, l .inv .1, l .inv .2, rw (v .5) (l .inv .3), l .inv .4, l .inv .5, l .inv .6, l .inv .7, rw (v .5, v .6, v .7) (turn-to (g .a) (g .slots) (g .mem .now) (l .i) h r (l .all) (l .mem) (l .shown .ack) (l .shown .driven) (l .shown .byte) (l .inv .8) (f .glance .result) _ (v .4 .result) (f .glance .ensures) (v .1 .given .1) (v .4 .ensures))))
+    (λ v. (omega arith, l .inv .1, l .inv .2, rw (v .9) (omega arith), l .inv .4, l .inv .5, l .inv .6, l .inv .7, rw (v .9, v .10, v .11, v .8 .ensures) (turn-more (g .a) (g .slots) (g .mem .now) (l .i) h r (l .all) (l .mem) (l .shown .ack) (l .shown .driven) (l .shown .byte) (l .inv .8) (512 * l .i) (512 * l .i + 512) (v .4 .result) _ refl (omega arith) (v .4 .ensures .0) (v .4 .ensures .1))))
     w)
     (c .match .came)
 
@@ -174,8 +182,8 @@ same-length c = search needs
 returns : tie.Need-returns Inv-loop μ-loop
 returns c =
     let l = c .before .before .loop in
-    let g = c .before .before .before .before .before .before .args in
-    turned-all (g .a) (g .slots) (g .mem .now) (l .i) (l .all) (l .mem) (l .shown .ack) (l .shown .driven) (l .shown .byte) _ (c .answer-of .result) (omega arith) (l .inv .7) refl (c .answer-of .ensures)
+    let g = c .before .before .before .before .before .before .before .args in
+    turned-all (g .a) (g .slots) (g .mem .now) (l .i) (l .all) (l .mem) (l .shown .ack) (l .shown .driven) (l .shown .byte) _ (c .answer-of .result) (omega arith) (l .inv .8) refl (rw (l .inv .7) at (c .answer-of .ensures))
 
 pub taken-spec : {M : Type 1} → statement M
 taken-spec =
@@ -184,6 +192,7 @@ taken-spec =
     Inv-loop
     μ-loop
     carried-requires
+    carrying-requires
     heard-in-requires
     loop-holds
     cast-at
@@ -191,7 +200,7 @@ taken-spec =
     array-copy-out-glance
     glance-requires
     enum-told
-    enum-known-c
+    enum-known-change
     mul-in-phase
     array-copy-out-in-phase
     in-phase-requires
