@@ -14,7 +14,7 @@ use Rattle.lists.specs.Tests.{by-test}
 use Rattle.rules.specs.declared.Act.{Act}
 use Rattle.rules.specs.declared.Carried.{Carried}
 use Rattle.rules.specs.declared.Carried.the-variants as carries
-use Rattle.rules.specs.declared.Act.the-variants.{Start, Byte, Read, Stop, Timeout, Tick, Voltage, Power, Temperature}
+use Rattle.rules.specs.declared.Act.the-variants.{Start, Byte, Stop, Tick}
 use Rattle.rules.specs.declared.Answer.the-variants.{Nothing, Ack, Nack}
 use Rattle.rules.specs.declared.Event.{Event}
 use Rattle.rules.specs.declared.Ruling.{Ruling}

@@ -22,7 +22,7 @@ use Rattle.runs.specs.Exchanges.{aloneFor, shownAlone}
 use Rattle.rules.proofs.Run.Cases.{present-next, byte-next}
 use Rattle.planner.specs.Effect.{leaving}
 use Rattle.planner.proofs.LetGo.{let-go-lasts}
-use Rattle.planner.proofs.Ran.{Ran, dueFor, dueTo, ran-none, ran-on}
+use Rattle.planner.proofs.Ran.{Ran, dueFor, ran-none, ran-on}
 use Rattle.planner.proofs.Page.{stands-in, acked}
 
 abbrev pub halfActs : ℕ → List Act

@@ -2,8 +2,8 @@
 ghost use mathlib.Core.Path.{_≡_};
 ghost use mathlib.Core.Bool.{cond, _||_};
 ghost use Rattle.shown.specs.Shown.{answerFor};
-use rules::Carried;
 use rules::Answer;
+use rules::Carried;
 
 // One of two bytes.
 fn either(first: bool, x: u8, y: u8) -> u8

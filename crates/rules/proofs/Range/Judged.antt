@@ -10,8 +10,6 @@ use lib.ListN.{replicate}
 use borrow.Author.Tests.{not-true, not-false}
 use Rattle.lists.specs.Each.{allOf}
 use Rattle.lists.specs.Tests.{cond-cases, by-test}
-use Rattle.rules.specs.declared.Act.{Act}
-use Rattle.rules.specs.declared.Act.the-variants.{Start, Byte, Read, Stop, Timeout, Tick, Voltage, Power, Temperature}
 use Rattle.rules.specs.declared.Bus.{Bus}
 use Rattle.rules.specs.declared.Carried.{Carried}
 use Rattle.rules.specs.declared.Carried.the-variants as carries
