@@ -1,13 +1,11 @@
 -- What a plan does at the other slots: a page written to slot k passes a slot that is not k by, and one that is in no cycle feels no tick.
 -- Assumes nothing.
-use Prim.Native.Nat.{ℕ, zero, suc, _+_, _*_, _<_}
-use native.Mathlib.Omega.{arith}
+use Prim.Native.Nat.{ℕ, _+_, _*_, _<_}
 use mathlib.Core.Path.{_≡_, refl, sym, _∙_, ap, ap₂, subst}
 use mathlib.Core.Bool.{true, false}
 use mathlib.Core.List.{List, [], _∷_, _++_, map}
 use lib.ListN.{replicate}
 use borrow.Author.Tests.{ne-eqb}
-use Rattle.lists.specs.Tests.{by-test}
 use Rattle.rules.specs.declared.Act.{Act}
 use Rattle.rules.specs.declared.Act.the-variants.{Start, Byte, Stop, Tick}
 use Rattle.rules.specs.declared.Phase.the-variants.{Idle, Control}
@@ -16,15 +14,14 @@ use Rattle.rules.specs.Modelled.{absent}
 use Rattle.rules.specs.Open.{open-fields}
 use Rattle.rules.specs.Fields.{inPhase}
 use Rattle.rules.specs.Control.{acksHeard}
-use Rattle.rules.specs.Memory.{tickedPart}
-use Rattle.rules.specs.Slot.{standing, letGo, presentNext, slotNext, partNext}
+use Rattle.rules.specs.Slot.{standing, letGo, presentNext, partNext}
 use Rattle.rules.specs.Runs.{slotAfter, partAfter}
 use Rattle.runs.specs.Exchanges.{Inside, byte, insideAct, upToStop, controls}
-use Rattle.rules.proofs.Run.Cases.{next-cases, present-next}
-use Rattle.runs.proofs.FromSetup.Reached.{no-cycle}
+use Rattle.rules.proofs.Run.Joined.{slots-joined, parts-joined}
+use Rattle.rules.proofs.Document.Cycle.{idle-slot, idle-part}
+use Rattle.rules.proofs.Run.Cases.{present-next}
 use Rattle.runs.proofs.TwoClerks.Foreign.{Unheard, NoneHeard, started-waits, absent-after, absent-parts, as-it-was, same-part}
 use Rattle.planner.specs.Effect.{leaving}
-use Rattle.planner.proofs.Ran.{slots-joined, parts-joined}
 use Rattle.planner.proofs.Page.{pageActs, bytesActs, own-heard}
 use Rattle.planner.proofs.LetGo.{let-go-lasts}
 
@@ -47,24 +44,9 @@ passed-joined {n} {r} {v} {s} {t} {u} {m} a b = record {
 pub absent-passed : (n : ℕ) (r : List Act) (s : Slot) (m : List ℕ) → absent s ≡ true → Passed n r s m s
 absent-passed n r s m e = record { slot = absent-after n r s e; part = absent-parts n r s m e }
 
--- in no cycle a tick does nothing
-still-tick : (n : ℕ) (s : Slot) → s .left ≡ 0 → slotNext n Tick s ≡ s
-unfolding presentNext
-still-tick n s e = next-cases (λ (r : Slot). r ≡ s) n Tick s (λ a. refl) (λ a. no-cycle s e)
-
-still-part : (s : Slot) (m : List ℕ) → s .left ≡ 0 → partNext Tick s m ≡ m
-unfolding partNext tickedPart
-still-part s m e = rw (ne-eqb (s .left) 1 (omega arith)) (by-test (absent s) (λ a. rw a) (λ a. rw a))
-
+-- in no cycle ticks do nothing
 pub ticks-passed : (n j : ℕ) (s : Slot) (m : List ℕ) → s .left ≡ 0 → Passed n (replicate j Tick) s m s
-unfolding slotAfter partAfter
-ticks-passed n zero s m e = passed-none n s m
-ticks-passed n (suc j) s m e =
-    let rest = ticks-passed n j s m e in
-    record {
-      slot = ap (slotAfter n (replicate j Tick)) (still-tick n s e) ∙ rest .slot;
-      part = ap₂ (partAfter n (replicate j Tick)) (still-tick n s e) (still-part s m e) ∙ rest .part;
-    }
+ticks-passed n j s m e = record { slot = idle-slot n j s e; part = idle-part n j s m e }
 
 -- a page's exchange, as the parse has it
 abbrev insides : ℕ → ℕ → List ℕ → List Inside

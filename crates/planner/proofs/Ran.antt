@@ -25,6 +25,7 @@ use Rattle.rules.specs.Runs.{slotAfter, partAfter}
 use Rattle.runs.specs.Exchanges.{aloneFor, shownAlone, toldAlone}
 use Rattle.rules.proofs.Document.Exchange.{other-tick}
 use Rattle.rules.proofs.Document.Cycle.{ends, ends-part}
+use Rattle.rules.proofs.Run.Joined.{slots-joined, parts-joined}
 use Rattle.planner.specs.Effect.{begunPages}
 
 -- what a plan's acts are to be answered
@@ -49,16 +50,6 @@ module _ (n : ℕ) where
   ran-none s m = record { slot = refl; part = refl; said = refl; begins = refl }
 
   -- two runs one after the other
-  pub slots-joined : (r v : List Act) (s : Slot) → slotAfter n (r ++ v) s ≡ slotAfter n v (slotAfter n r s)
-  unfolding slotAfter
-  slots-joined [] v s = refl
-  slots-joined (a ∷ r) v s = slots-joined r v (slotNext n a s)
-
-  pub parts-joined : (r v : List Act) (s : Slot) (m : List ℕ) → partAfter n (r ++ v) s m ≡ partAfter n v (slotAfter n r s) (partAfter n r s m)
-  unfolding slotAfter partAfter
-  parts-joined [] v s m = refl
-  parts-joined (a ∷ r) v s m = parts-joined r v (slotNext n a s) (partNext a s m)
-
   pub told-joined : (r v : List Act) (s : Slot) (m : List ℕ) → toldAlone n (r ++ v) s m ≡ toldAlone n r s m ++ toldAlone n v (slotAfter n r s) (partAfter n r s m)
   unfolding slotAfter partAfter toldAlone
   told-joined [] v s m = refl
@@ -77,8 +68,8 @@ module _ (n : ℕ) where
 
   pub ran-joined : {r v : List Act} {s t u : Slot} {m q o : List ℕ} {ps qs : List ℕ} → Ran n r s m t q ps → Ran n v t q u o qs → Ran n (r ++ v) s m u o (ps ++ qs)
   ran-joined {r} {v} {s} {t} {u} {m} {q} {o} a b = record {
-    slot = slots-joined r v s ∙ ap (slotAfter n v) (a .slot) ∙ b .slot;
-    part = parts-joined r v s m ∙ ap₂ (partAfter n v) (a .slot) (a .part) ∙ b .part;
+    slot = slots-joined n r v s ∙ ap (slotAfter n v) (a .slot) ∙ b .slot;
+    part = parts-joined n r v s m ∙ ap₂ (partAfter n v) (a .slot) (a .part) ∙ b .part;
     said = told-joined r v s m ∙ ap₂ _++_ (a .said) (ap₂ (toldAlone n v) (a .slot) (a .part) ∙ b .said) ∙ due-joined r v;
     begins = begun-joined r v s ∙ ap₂ _++_ (a .begins) (ap (begunPages n v) (a .slot) ∙ b .begins);
   }

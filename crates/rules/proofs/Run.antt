@@ -2,3 +2,4 @@
 pub mod Cases
 pub mod Unchanged
 pub mod Everywhere
+pub mod Joined

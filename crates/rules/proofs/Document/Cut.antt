@@ -6,7 +6,7 @@ use native.Mathlib.Omega.{arith}
 use mathlib.Core.Path.{_≡_, refl, sym, ap, ap₂, _∙_}
 use mathlib.Core.Logic.{_⊎_, inl, inr, ⊎-elim}
 use mathlib.Core.Bool.{Bool, true, false, not, cond, _&&_}
-use mathlib.Core.List.{List, [], _∷_, map}
+use mathlib.Core.List.{List, [], _∷_, _++_, map}
 use lib.Dec.{eqb}
 use lib.ListN.{length, getD, take, drop, replicate}
 use borrow.Author.Tests.{eq-eqb, ne-eqb}
@@ -21,17 +21,17 @@ use Rattle.rules.specs.declared.Slot.{Slot}
 use Rattle.rules.specs.Modelled.{absent, slotBytes, addressOf}
 use Rattle.rules.specs.Fields.{atCounter, withLeft, expecting, latched}
 use Rattle.rules.specs.Fresh.{freshSlot, powered}
-use Rattle.rules.specs.Memory.{stored, tickedPart}
+use Rattle.rules.specs.Memory.{stored}
 use Rattle.rules.specs.Power.{running, latchedBelow, firstOf, broughtBy, cut, powerCut, cutPart}
 use Rattle.rules.specs.Slot.{presentNext, slotNext, partNext}
 use Rattle.rules.specs.Bus.{memoryNext}
 use Rattle.rules.specs.Runs.{Bench, taken, rulingOn, ruledNext, next, slotAfter, partAfter}
 use Rattle.rules.specs.Open.{open-fields, open-memory, open-all}
 use Rattle.rules.proofs.Run.Cases.{present-next}
+use Rattle.rules.proofs.Run.Joined.{slots-joined, parts-joined}
 use Rattle.rules.proofs.Memory.First.{below-at-most, were-latched, among, first-enough}
 use Rattle.rules.proofs.Memory.Stored.{pageStart, ends, storing, put-alike, put-at, part-still, part-next, within, landsAt, byteAfter, part-byte}
-use Rattle.rules.proofs.Document.Exchange.{other-tick}
-use Rattle.rules.proofs.Document.Cycle.{ticks, waiting, waiting-part}
+use Rattle.rules.proofs.Document.Cycle.{ticks, idle-slot, idle-part, waiting, waiting-part}
 use Rattle.rules.proofs.Document.Cycle as cycle
 
 -- P3 with its numbers, on one slot that is handed in: bytes latched at 1h, 3h, Eh and Fh of the page at 20h, where 11h stood, and block 2 to be
@@ -138,33 +138,9 @@ with-none n k s m a z = (
   part-still (Power k) s m z,
 )
 
--- ticks without a cycle, and ticks after ticks
-module _ (n : ℕ) where
-  idle-tick : (s : Slot) → absent s ≡ false → s .left ≡ 0 → slotNext n Tick s ≡ s
-  unfolding withLeft
-  idle-tick s a z = let same : s .left - 1 ≡ s .left = omega arith in other-tick n s a (λ e. omega (arith, z, e)) ∙ ap (λ (l : ℕ). withLeft l s) same
-
-  idle-slot : (d : ℕ) (s : Slot) → absent s ≡ false → s .left ≡ 0 → slotAfter n (ticks d) s ≡ s
-  unfolding slotAfter
-  idle-slot zero s a z = refl
-  idle-slot (suc d) s a z = ap (slotAfter n (ticks d)) (idle-tick s a z) ∙ idle-slot d s a z
-
-  idle-part : (d : ℕ) (s : Slot) (m : List ℕ) → absent s ≡ false → s .left ≡ 0 → partAfter n (ticks d) s m ≡ m
-  unfolding partAfter partNext tickedPart
-  idle-part zero s m a z = refl
-  idle-part (suc d) s m a z =
-      let still : partNext Tick s m ≡ m = rw (a, ne-eqb (s .left) 1 (λ e. omega (arith, z, e))) in
-      ap₂ (partAfter n (ticks d)) (idle-tick s a z) still ∙ idle-part d s m a z
-
-  slots-joined : (l d : ℕ) (s : Slot) → slotAfter n (ticks (l + d)) s ≡ slotAfter n (ticks d) (slotAfter n (ticks l) s)
-  unfolding slotAfter
-  slots-joined zero d s = rw zero-add
-  slots-joined (suc l) d s = rw suc-add (slots-joined l d (slotNext n Tick s))
-
-  parts-joined : (l d : ℕ) (s : Slot) (m : List ℕ) → partAfter n (ticks (l + d)) s m ≡ partAfter n (ticks d) (slotAfter n (ticks l) s) (partAfter n (ticks l) s m)
-  unfolding slotAfter partAfter
-  parts-joined zero d s m = rw zero-add
-  parts-joined (suc l) d s m = rw suc-add (parts-joined l d (slotNext n Tick s) (partNext Tick s m))
+ticks-more : (l d : ℕ) → ticks (l + d) ≡ ticks l ++ ticks d
+ticks-more zero d = rw zero-add
+ticks-more (suc l) d = rw suc-add (ap (Tick ∷_) (ticks-more l d))
 
 -- with 16 it is the end of the cycle, at the last of the ticks that are left, and then document 01's power cycle; so with every number from 16 on
 module _ (n : ℕ) (k none : Cut) (enough16 : 16 ≤ k .0) (nothing : none .0 ≡ 0) where
@@ -191,17 +167,19 @@ module _ (n : ℕ) (k none : Cut) (enough16 : 16 ≤ k .0) (nothing : none .0 �
   with-all s m a = (all-slot (s .left) s refl a, all-part (s .left) s m refl a)
 
   -- and further ticks, which find no cycle, make no difference
-  over : (l : ℕ) (s : Slot) → s .left ≡ l → absent s ≡ false → ((slotAfter n (ticks l) s) .left ≡ 0) × (absent (slotAfter n (ticks l) s) ≡ false)
-  unfolding slotAfter absent open-fields
-  over zero s e a = (e, a)
-  over (suc j) s e a = let o = cycle.ends n j s a e in (ap (λ (r : Slot). r .left) o, ap (λ (r : Slot). absent r) o ∙ a)
+  over : (l : ℕ) (s : Slot) → s .left ≡ l → absent s ≡ false → (slotAfter n (ticks l) s) .left ≡ 0
+  unfolding slotAfter open-fields
+  over zero s e a = e
+  over (suc j) s e a = ap (λ (r : Slot). r .left) (cycle.ends n j s a e)
 
   pub with-all-later : (d : ℕ) (s : Slot) (m : List ℕ) → absent s ≡ false
       → (slotNext n (Power k) s ≡ slotNext n (Power none) (slotAfter n (ticks (s .left + d)) s)) × (partNext (Power k) s m ≡ partAfter n (ticks (s .left + d)) s m)
   with-all-later d s m a =
-      let o = over (s .left) s refl a in (
-        all-slot (s .left) s refl a ∙ ap (slotNext n (Power none)) (sym (idle-slot n d _ (o .1) (o .0)) ∙ sym (slots-joined n (s .left) d s)),
-        all-part (s .left) s m refl a ∙ sym (idle-part n d _ _ (o .1) (o .0)) ∙ sym (parts-joined n (s .left) d s m),
+      let left : ℕ = s .left in
+      let o = over left s refl a in
+      rw (ticks-more left d) (
+        all-slot left s refl a ∙ ap (slotNext n (Power none)) (sym (slots-joined n (ticks left) (ticks d) s ∙ idle-slot n d _ o)),
+        all-part left s m refl a ∙ sym (parts-joined n (ticks left) (ticks d) s m ∙ idle-part n d _ _ o),
       )
 
 -- "at any moment": ticks that do not end the cycle make no difference to what a cut leaves

@@ -3,7 +3,7 @@
 -- Assumes nothing.
 use Prim.Native.Nat.{ℕ, _+_, _-_, _<_, _≤_}
 use native.Mathlib.Omega.{arith}
-use mathlib.Core.Path.{_≡_, refl, sym, _∙_, ap, ap₂}
+use mathlib.Core.Path.{_≡_, sym, _∙_, ap, ap₂}
 use mathlib.Core.List.{List, [], _∷_, _++_}
 use lib.ListN.{length, replicate}
 use Rattle.lists.specs.Tests.{by-test}
@@ -16,16 +16,11 @@ use Rattle.rules.specs.Slot.{slotNext, partNext}
 use Rattle.rules.specs.Runs.{Bench, taken, slotAfter, partAfter}
 use Rattle.runs.specs.Exchanges.{went}
 use Rattle.rules.proofs.Run.Cases.{absent-next}
+use Rattle.rules.proofs.Run.Joined.{slots-joined, parts-joined}
 use Rattle.rules.proofs.Memory.Stored.{storing, absent-part, part-still}
 use Rattle.rules.proofs.Document.Cut.{with-all-later}
-use Rattle.runs.proofs.FromSetup.Story.{slot-snoc}
 use Rattle.runs.proofs.TwoClerks.Alone.{slotsOf, partOf, slotAt, slot-taken, part-taken, slot-went, part-went}
 use Rattle.runs.proofs.TwoClerks.Foreign.{absent-after, absent-parts}
-
-part-snoc : (n : ℕ) (r : List Act) (a : Act) (s : Slot) (m : List ℕ) → partAfter n (r ++ a ∷ []) s m ≡ partNext a (slotAfter n r s) (partAfter n r s m)
-unfolding slotAfter partAfter
-part-snoc n [] a s m = refl
-part-snoc n (b ∷ r) a s m = part-snoc n r a (slotNext n b s) (partNext b s m)
 
 module _ (d : Slot) (k : ℕ) where
   -- "each slot counts for itself": two benches that agree on slot k and its bytes still do after a power cycle with the same number
@@ -40,6 +35,7 @@ module _ (d : Slot) (k : ℕ) where
   pub all-at-once : (c none : Cut) → 16 ≤ c .0 → none .0 ≡ 0 → (j : ℕ) (x : Bench) → k < length (slotsOf x) → slotAt d k x .left ≤ j
       → let later : Bench = went (replicate j Tick ++ Power none ∷ []) x in
       (slotAt d k (taken (Power c) x) ≡ slotAt d k later) × (partOf k (taken (Power c) x) ≡ partOf k later)
+  unfolding slotAfter partAfter
   all-at-once c none most nothing j x l h =
       let s : Slot = slotAt d k x in
       let m : List ℕ = partOf k x in
@@ -49,6 +45,6 @@ module _ (d : Slot) (k : ℕ) where
       let alone = by-test {P = (slotNext k (Power c) s ≡ slotNext k (Power none) (slotAfter k ticks s)) × (partNext (Power c) s m ≡ partAfter k ticks s m)} (absent s)
       (λ a. (absent-next k (Power c) s a ∙ sym (ap (slotNext k (Power none)) (absent-after k ticks s a) ∙ absent-next k (Power none) s a), absent-part (Power c) s m a ∙ sym (absent-parts k ticks s m a)))
       (λ a. rw e at (with-all-later k c none most nothing more s m a)) in (
-        slot-taken d k (Power c) x l ∙ alone .0 ∙ sym (slot-went d k (ticks ++ Power none ∷ []) x l ∙ slot-snoc k ticks (Power none) s),
-        part-taken d k (Power c) x l ∙ alone .1 ∙ sym (part-went d k (ticks ++ Power none ∷ []) x l ∙ part-snoc k ticks (Power none) s m ∙ part-still (Power none) (slotAfter k ticks s) (partAfter k ticks s m) (unfold storing in nothing)),
+        slot-taken d k (Power c) x l ∙ alone .0 ∙ sym (slot-went d k (ticks ++ Power none ∷ []) x l ∙ slots-joined k ticks (Power none ∷ []) s),
+        part-taken d k (Power c) x l ∙ alone .1 ∙ sym (part-went d k (ticks ++ Power none ∷ []) x l ∙ parts-joined k ticks (Power none ∷ []) s m ∙ part-still (Power none) (slotAfter k ticks s) (partAfter k ticks s m) (unfold storing in nothing)),
       )

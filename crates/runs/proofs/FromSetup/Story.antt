@@ -30,6 +30,7 @@ use Rattle.rules.specs.Power.{firstOf, powerCut}
 use Rattle.rules.specs.Slot.{commanding, standing, letGo, lost, byteIn, readIn, stopIn, acksIn, acks, presentNext, slotNext, partNext}
 use Rattle.rules.specs.Runs.{slotAfter}
 use Rattle.rules.proofs.Run.Cases.{next-cases, stands}
+use Rattle.rules.proofs.Run.Joined.{slots-joined}
 use Rattle.rules.proofs.Memory.First.{first-at}
 use Rattle.rules.proofs.Memory.Stored.{pageStart, storing, finishes, finishes-runs, part-stored, part-still, put-none}
 use Rattle.rules.proofs.Memory.Stored as stored
@@ -49,10 +50,9 @@ snoc-induction P base step r = go [] r base
     go q [] h = subst P (sym (append-nil q)) h
     go q (a ∷ r) h = subst P (append-assoc q (a ∷ []) r) (go (q ++ a ∷ []) r (step q a h))
 
-pub slot-snoc : (n : ℕ) (r : List Act) (a : Act) (s : Slot) → slotAfter n (r ++ a ∷ []) s ≡ slotNext n a (slotAfter n r s)
+slot-snoc : (n : ℕ) (r : List Act) (a : Act) (s : Slot) → slotAfter n (r ++ a ∷ []) s ≡ slotNext n a (slotAfter n r s)
 unfolding slotAfter
-slot-snoc n [] a s = refl
-slot-snoc n (b ∷ r) a s = slot-snoc n r a (slotNext n b s)
+slot-snoc n r a s = slots-joined n r (a ∷ []) s
 
 pub run-reach : (n : ℕ) (r : List Act) (s : Slot) → Reach s → Reach (slotAfter n r s)
 unfolding slotAfter
