@@ -1,10 +1,9 @@
 -- The definitions in the form in which a function's proof asks for them: a premise for each fact of the way to a return.
 -- Assumes nothing.
-use mathlib.Core.Path.{_≡_, refl, _∙_, ap}
+use mathlib.Core.Path.{_≡_, refl, sym, _∙_, ap}
 use mathlib.Core.Bool.{Bool, false, cond}
 use mathlib.Core.List.{List}
 use Prim.Native.Nat.{ℕ, _+_, _-_, _*_, _/_}
-use native.Mathlib.Omega.{arith}
 use native.Mathlib.Numerals.{add-one}
 use lib.ListN.{getD, set}
 use borrow.Author.Tests.{eq-eqb, ne-eqb}
@@ -12,9 +11,10 @@ use Rattle.rules.specs.declared.Address.{Address}
 use Rattle.rules.specs.declared.Slot.{Slot}
 use Rattle.rules.specs.declared.Act.the-variants.{Tick}
 use Rattle.rules.specs.Modelled.{absent, addressOf, pageOf}
-use Rattle.rules.specs.Slot.{presentNext, slotNext}
+use Rattle.rules.specs.Slot.{presentNext, slotNext, partNext}
 use Rattle.rules.specs.Fields.{withLeft}
 use Rattle.rules.specs.Memory.{ended, ticked, putUpTo, stored, tickedPart}
+use Rattle.rules.proofs.Document.Cycle.{idle-tick, idle-tick-part}
 
 -- the latch is stored one byte a turn
 pub put-none : (latch : List ℕ) (marks : List Bool) (at : ℕ) (m : List ℕ) → m ≡ putUpTo latch marks at 0 m
@@ -53,5 +53,5 @@ module _ (s r : Slot) (m q : List ℕ) where
 
   -- there is none
   pub tick-rests : (s .kind ≡ 0 → ⊥) → s .left ≡ 0 → r ≡ s → q ≡ m → AfterTick s m r q
-  unfolding withLeft
-  tick-rests k l e f = tick-waits k (omega arith) (e ∙ ap (λ (n : ℕ). withLeft n s) (omega arith)) f
+  unfolding partNext
+  tick-rests k l e f = (e ∙ sym (idle-tick 0 s l), f ∙ sym (idle-tick-part s m l))

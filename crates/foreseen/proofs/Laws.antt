@@ -3,8 +3,7 @@
 use mathlib.Core.Path.{_≡_, refl, sym, _∙_, ap}
 use mathlib.Core.Bool.{Bool, true, false, false≢true, cond, _&&_, _||_}
 use mathlib.Core.Logic.{inl, inr, ⊎-elim}
-use Prim.Native.Nat.{ℕ, _-_}
-use native.Mathlib.Omega.{arith}
+use Prim.Native.Nat.{ℕ}
 use borrow.Author.Tests.{ne-eqb}
 use lib.Dec.{eqb}
 use lib.IntN.{ℤ}
@@ -19,9 +18,9 @@ use Rattle.rules.specs.declared.Traits.{Traits}
 use Rattle.rules.specs.Modelled.{absent}
 use Rattle.rules.specs.declared.Heard.{Heard}
 use Rattle.rules.specs.Control.{heardOf, acksHeard, acksControl, obeyed, controlled}
-use Rattle.rules.specs.Fields.{inPhase, withLeft}
-use Rattle.rules.specs.Memory.{ticked, tickedPart}
+use Rattle.rules.specs.Fields.{inPhase}
 use Rattle.rules.specs.Slot.{traits, standing, letGo, stopIn, byteIn, acksIn, readIn, drivesIn, presentNext, slotNext, acks, drives, partNext}
+use Rattle.rules.proofs.Document.Cycle.{idle-tick, idle-tick-part}
 use Rattle.rules.proofs.Run.Cases.{absent-next, present-next, byte-next, read-next}
 use Rattle.foreseen.specs.declared.Change.{Change}
 use Rattle.foreseen.specs.declared.Change.the-variants as change
@@ -145,11 +144,8 @@ module _ (n : ℕ) (s : Slot) where
 
   -- a tick without a write cycle
   pub tick-rests : s .left ≡ 0 → Foreseen change.Nothing n Tick s
-  unfolding Foreseen partNext slotNext presentNext ticked tickedPart withLeft
-  tick-rests e =
-      let f : withLeft (s .left - 1) s ≡ s = ap (λ (x : ℕ). withLeft x s) (omega arith) in
-      let g : eqb (s .left) 1 ≡ false = ne-eqb (s .left) 1 (omega arith) in
-      (rw (g, f) (cond-same (absent s) s), record { mute = refl; still = refl; kept = λ m. rw g (cond-same (absent s) m) })
+  unfolding Foreseen
+  tick-rests e = (idle-tick n s e, record { mute = refl; still = refl; kept = λ m. idle-tick-part s m e })
 
   -- another slot's voltage or temperature
   pub voltage-other : (c : Change) (k : SlotNo) (on : Bool) → c ≡ cond (eqb (k .0) n) change.More change.Nothing → Foreseen c n (Voltage k on) s

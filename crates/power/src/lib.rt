@@ -26,7 +26,7 @@ fn first_of(k: Cut, marks: [bool; 16]) -> [bool; 16]
     first
 }
 
-// A running cycle with the rest lost: of its bytes the first so many are left, and of what it was to protect all or nothing.
+// A running cycle with the rest lost: of its bytes the first so many are left, and of the protection to come all or nothing.
 fn shortened(k: Cut, s: Slot) -> Slot
     ensures { λ r. ⌜ r ≡ cut k s ⌝ }
 {

@@ -37,7 +37,7 @@ pub enum Act {
     Temperature(SlotNo, i16),
 }
 
-// What an act carries over the wires, and is answered: a byte from the master, a read, or nothing.
+// What an act carries over the wires and gets an answer to: a byte from the master, a read, or nothing.
 pub enum Carried {
     Byte(u8),
     // Whether the master then acknowledges.

@@ -9,7 +9,7 @@ use mathlib.Core.List.{List, [], _∷_, map}
 use lib.IntN.{ℤ}
 use lib.ListN.{replicate}
 use borrow.Author.Tests.{eq-eqb, ne-eqb}
-use Rattle.lists.specs.Tests.{by-test, cond-same}
+use Rattle.lists.specs.Tests.{cond-same}
 use Rattle.rules.specs.declared.Act.{Act}
 use Rattle.rules.specs.declared.Act.the-variants.{Start, Byte, Read, Stop, Timeout, Tick, Voltage, Temperature}
 use Rattle.rules.specs.declared.Bus.{Bus}
@@ -18,22 +18,28 @@ use Rattle.rules.specs.declared.SlotNo.{SlotNo}
 use Rattle.rules.specs.Modelled.{absent, addressOf}
 use Rattle.rules.specs.Fields.{withLeft, protecting, latched}
 use Rattle.rules.specs.Fresh.{noBytes, noMarks}
-use Rattle.rules.specs.Memory.{stored, tickedPart}
-use Rattle.rules.specs.Slot.{slotNext, partNext}
+use Rattle.rules.specs.Memory.{ticked, stored, tickedPart}
+use Rattle.rules.specs.Slot.{presentNext, slotNext, partNext}
 use Rattle.rules.specs.Bus.{memoryNext}
 use Rattle.rules.specs.Runs.{slotAfter, partAfter}
-use Rattle.rules.proofs.Run.Cases.{absent-next}
+use Rattle.rules.proofs.Run.Cases.{next-cases}
 use Rattle.rules.proofs.Document.Exchange.{last-tick, other-tick}
 
 abbrev pub ticks : ℕ → List Act
 ticks n = replicate n Tick
 
 -- ticks without a cycle do nothing
-idle-tick : (n : ℕ) (s : Slot) → s .left ≡ 0 → slotNext n Tick s ≡ s
-unfolding withLeft
-idle-tick n s z =
-    let same : s .left - 1 ≡ s .left = omega arith in
-    by-test (absent s) (absent-next n Tick s) (λ a. other-tick n s a (λ e. omega (arith, z, e)) ∙ ap (λ (l : ℕ). withLeft l s) same)
+pub idle-ticked : (s : Slot) → s .left ≡ 0 → ticked s ≡ s
+unfolding ticked withLeft
+idle-ticked s z = rw (ne-eqb (s .left) 1 (λ e. omega (arith, z, e))) (ap (λ (l : ℕ). withLeft l s) (omega arith))
+
+pub idle-tick : (n : ℕ) (s : Slot) → s .left ≡ 0 → slotNext n Tick s ≡ s
+unfolding presentNext
+idle-tick n s z = next-cases (λ (r : Slot). r ≡ s) n Tick s (λ a. refl) (λ a. idle-ticked s z)
+
+pub idle-tick-part : (s : Slot) (m : List ℕ) → s .left ≡ 0 → partNext Tick s m ≡ m
+unfolding partNext tickedPart
+idle-tick-part s m z = rw (ne-eqb (s .left) 1 (λ e. omega (arith, z, e))) (cond-same (absent s) m)
 
 pub idle-slot : (n j : ℕ) (s : Slot) → s .left ≡ 0 → slotAfter n (ticks j) s ≡ s
 unfolding slotAfter
@@ -41,11 +47,9 @@ idle-slot n zero s z = refl
 idle-slot n (suc j) s z = ap (slotAfter n (ticks j)) (idle-tick n s z) ∙ idle-slot n j s z
 
 pub idle-part : (n j : ℕ) (s : Slot) (m : List ℕ) → s .left ≡ 0 → partAfter n (ticks j) s m ≡ m
-unfolding partAfter partNext tickedPart
+unfolding partAfter
 idle-part n zero s m z = refl
-idle-part n (suc j) s m z =
-    let still : partNext Tick s m ≡ m = rw (ne-eqb (s .left) 1 (λ e. omega (arith, z, e))) (cond-same (absent s) m) in
-    ap₂ (partAfter n (ticks j)) (idle-tick n s z) still ∙ idle-part n j s m z
+idle-part n (suc j) s m z = ap₂ (partAfter n (ticks j)) (idle-tick n s z) (idle-tick-part s m z) ∙ idle-part n j s m z
 
 -- j ticks of a cycle with j + l + 1 left
 module _ (n l : ℕ) where

@@ -22,7 +22,7 @@ use Rattle.rules.specs.declared.Sensor as sensor
 use Rattle.rules.specs.declared.Slot.{Slot}
 use Rattle.rules.specs.Modelled.{absent, sensing}
 use Rattle.rules.specs.Open.{open-fields, open-memory}
-use Rattle.rules.specs.Fields.{inPhase, atCounter, withLeft, withVoltage, withSensor, holding}
+use Rattle.rules.specs.Fields.{inPhase, atCounter, withVoltage, withSensor, holding}
 use Rattle.rules.specs.Fresh.{noBytes, noMarks, freshSlot, setupSlot, absentSlot, powered, freshSensor}
 use Rattle.rules.specs.Sensor.{converted}
 use Rattle.rules.specs.Control.{acksHeard, acksControl, heardOf, obeyed, controlled, protects}
@@ -31,6 +31,7 @@ use Rattle.rules.specs.Power.{powerCut}
 use Rattle.rules.specs.Slot.{withSensorIn, commanding, taking, standing, letGo, lost, pointer, firstByte, secondByte, byteIn, readIn, stopIn, switched, presentNext, slotNext}
 use Rattle.rules.specs.Refusals.{goodLength, goodPair, setupOf}
 use Rattle.rules.specs.Runs.{after}
+use Rattle.rules.proofs.Document.Cycle.{idle-ticked}
 use Rattle.rules.proofs.Run.Cases.{absent-next, present-next}
 use Rattle.rules.proofs.Memory.Protection.{kind-next, length-next}
 use Rattle.rules.proofs.Registers.Words.{word-fixed}
@@ -283,12 +284,8 @@ stop-holds SensorReadHigh s l q = let-go-waits SensorReadHigh s q
 stop-holds SensorReadLow s l q = let-go-waits SensorReadLow s q
 
 -- a tick: in no cycle nothing moves
-pub no-cycle : (s : Slot) → s .left ≡ 0 → ticked s ≡ s
-unfolding ticked withLeft
-no-cycle s e = rw (ne-eqb (s .left) 1 (omega arith)) (ap (λ (n : ℕ). withLeft n s) (omega arith))
-
 tick-waits : (s : Slot) → Waiting s → Waiting (ticked s)
-tick-waits s (rests r) = subst Waiting (sym (no-cycle s (r .no-ticks))) (rests r)
+tick-waits s (rests r) = subst Waiting (sym (idle-ticked s (r .no-ticks))) (rests r)
 tick-waits s (page l m c p w) = unfold open-memory open-fields in cond-cases Waiting (eqb (s .left) 1)
     (λ e. rests (record { no-ticks = refl; no-bytes = refl; no-marks = refl; steady = refl; no-place = p; no-word = w }))
     (λ e. page (λ z. omega (arith, l, eqb-false (s .left) 1 e)) m c p w)
@@ -304,7 +301,7 @@ pub by-outside : (P : Phase → Type 0) (p : Phase) → P Idle → P Deaf → P 
 by-outside P p i d c o = ⊎-elim (λ e. subst P (sym e) i) (λ o. ⊎-elim (λ e. subst P (sym e) d) (λ e. subst P (sym e) c) o) o
 
 tick-holds : (p : Phase) (s : Slot) → Holds p s → Holds p (ticked s)
-tick-holds p s h = ⊎-elim (λ o. by-outside (λ q. Holds q s → Holds q (ticked s)) p (tick-waits s) (tick-waits s) (tick-waits s) o h) (λ e. subst (Holds p) (sym (no-cycle s e)) h) (no-ticks-in p s h)
+tick-holds p s h = ⊎-elim (λ o. by-outside (λ q. Holds q s → Holds q (ticked s)) p (tick-waits s) (tick-waits s) (tick-waits s) o h) (λ e. subst (Holds p) (sym (idle-ticked s e)) h) (no-ticks-in p s h)
 
 -- high voltage: a command whose voltage goes off is left, so that it is on in those that go on
 still-high : (on : Bool) (s : Slot) → (s .voltage && not on) ≡ false → Commanding s → Commanding (withVoltage on s)
