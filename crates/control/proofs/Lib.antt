@@ -1,1 +1,2 @@
 pub mod Families
+pub mod Search
