@@ -14,14 +14,14 @@ use Rattle.rules.proofs.Answer.{the-type}
 use Rattle.rules.specs.declared.Answer.{Answer}
 use Rattle.rules.specs.declared.Answer.the-variants.{Nothing, Ack, Nack, Data, Refused}
 use Rattle.rules.specs.declared.Refusal.{Refusal}
-use Rattle.rules.specs.declared.Refusal.the-variants.{MemoryLength, UnknownKind, WrongSlot, WrongValue, WrongSetup, WrongState, ProtectedPage}
+use Rattle.rules.specs.declared.Refusal.the-variants.{MemoryLength, UnknownKind, WrongSlot, WrongValue, WrongSetup, WrongState, ProtectedPage, Busy, TooShort, WrongForm}
 use Rattle.rules.specs.Events.{letterOf, refusalNumber}
 use Rattle.letters.specs.Decimal.{digit, decimal}
 use Rattle.letters.specs.Letters.{hexDigit, digitsOf, answerText, lineOf, refusalLine}
-use Rattle.letters.proofs.Decimal.{decimal-one, decimal-more}
+use Rattle.letters.proofs.Decimal.{decimal-one, decimal-more, digits-most}
 
--- a refusal's number is a digit
-refusal-small : (r : Refusal) → refusalNumber r ≤ 7
+-- a refusal's number has at most two digits
+pub refusal-small : (r : Refusal) → refusalNumber r ≤ 10
 unfolding refusalNumber
 refusal-small MemoryLength = omega arith
 refusal-small UnknownKind = omega arith
@@ -30,9 +30,12 @@ refusal-small WrongValue = omega arith
 refusal-small WrongSetup = omega arith
 refusal-small WrongState = omega arith
 refusal-small ProtectedPage = omega arith
+refusal-small Busy = omega arith
+refusal-small TooShort = omega arith
+refusal-small WrongForm = omega arith
 
-pub digit-small : (r : Refusal) (n : ℕ) → n ≡ refusalNumber r → n ≤ 7
-digit-small r n e = omega (arith, refusal-small r)
+pub number-short : (r : Refusal) → length (decimal (refusalNumber r)) ≤ 2
+number-short r = digits-most 1 (refusalNumber r) (omega (arith, refusal-small r))
 
 -- a text put at a place, and another right behind it: together they are put there
 abbrev pub Put : List ℕ → ℕ → List ℕ → ℕ → List ℕ → Type 0
@@ -55,7 +58,7 @@ answer-length Nothing = omega arith
 answer-length Ack = omega arith
 answer-length Nack = omega arith
 answer-length (Data b) = omega arith
-answer-length (Refused r) = omega arith
+answer-length (Refused r) = omega (arith, number-short r)
 
 pub line-length : (a : Answer) → length (lineOf a) ≤ 4
 unfolding lineOf
@@ -66,6 +69,16 @@ pub data-by : (a : Answer) (b x y at end : ℕ) (out o : List ℕ) → a ≡ Dat
     → Put out at (0x44 ∷ x ∷ y ∷ []) end o → Put out at (answerText a) end o
 unfolding digitsOf letterOf
 data-by a b x y at end out o e f g p = rw (e, ← f, ← g) p
+
+-- a refusal: its letter, and its number
+pub number-by : (r : Refusal) (n at mid end : ℕ) (out o p : List ℕ) → n ≡ refusalNumber r → Put out at (0x52 ∷ []) mid o → Put o mid (decimal n) end p
+    → Put out at (answerText (Refused r)) end p
+unfolding digitsOf letterOf
+number-by r n at mid end out o p e f g = rw (← e) (put-on out o p at mid end (0x52 ∷ []) (decimal n) f g)
+
+-- which has room in three characters
+pub number-room : (r : Refusal) (n : ℕ) → n ≡ refusalNumber r → length (decimal n) ≤ 2
+number-room r n e = rw e (number-short r)
 
 -- a line: the answer, and the line's end
 pub line-by : (a : Answer) (at mid end : ℕ) (out o p : List ℕ) → Put out at (answerText a) mid o → Put o mid (0x0A ∷ []) end p → Put out at (lineOf a) end p

@@ -7,6 +7,7 @@ use lib.Dec.{ltb}
 use Rattle.rules.specs.declared.Answer.{Answer}
 use Rattle.rules.specs.declared.Answer.the-variants.{Nothing, Ack, Nack, Data, Refused}
 use Rattle.rules.specs.Events.{letterOf, refusalNumber}
+use Rattle.letters.specs.Decimal.{decimal}
 
 -- "two hex digits in capitals"
 unfoldable pub hexDigit : ℕ → ℕ
@@ -17,7 +18,7 @@ digitsOf Nothing = []
 digitsOf Ack = []
 digitsOf Nack = []
 digitsOf (Data b) = hexDigit (b / 16) ∷ hexDigit (b % 16) ∷ []
-digitsOf (Refused r) = (0x30 + refusalNumber r) ∷ []
+digitsOf (Refused r) = decimal (refusalNumber r)
 
 -- "One line for each event: `A`, `N`, `D` and two hex digits in capitals, `-`, or `R` and the number. Each line ends with 0Ah."
 abbrev pub answerText : Answer → List ℕ

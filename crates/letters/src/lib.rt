@@ -30,6 +30,9 @@ fn number_of(r: Refusal) -> u8
         Refusal::WrongSetup => 5,
         Refusal::WrongState => 6,
         Refusal::ProtectedPage => 7,
+        Refusal::Busy => 8,
+        Refusal::TooShort => 9,
+        Refusal::WrongForm => 10,
     }
 }
 
@@ -80,6 +83,15 @@ pub fn put_decimal(out: &mut [u8], at: usize, n: usize) -> usize
     put_one(out, end, last_digit(n))
 }
 
+// A refusal's text, `R` and its number, put at a place; the place after it.
+fn put_number(out: &mut [u8], at: usize, r: Refusal) -> usize
+    requires { ⌜ at + 3 ≤ length (now out) ⌝ }
+    ensures { λ e. ⌜ (e ≡ at + length (answerText (Answer.Refused r))) × (now (out .exit) ≡ sets (now (out .entry)) at (answerText (Answer.Refused r))) ⌝ }
+{
+    let end = put_one(out, at, b'R');
+    put_decimal(out, end, number_of(r) as usize)
+}
+
 // An answer's text without a line's end, put at a place; the place after it.
 pub fn put_answer(out: &mut [u8], at: usize, a: Answer) -> usize
     requires { ⌜ at + 3 ≤ length (now out) ⌝ }
@@ -90,7 +102,7 @@ pub fn put_answer(out: &mut [u8], at: usize, a: Answer) -> usize
         Answer::Ack => put_one(out, at, b'A'),
         Answer::Nack => put_one(out, at, b'N'),
         Answer::Data(b) => put_three(out, at, b'D', hex_digit(b / 16), hex_digit(b % 16)),
-        Answer::Refused(r) => put_two(out, at, b'R', 0x30 + number_of(r)),
+        Answer::Refused(r) => put_number(out, at, r),
     }
 }
 

@@ -2,3 +2,4 @@ pub mod Each
 pub mod Parts
 pub mod Tests
 pub mod Stores
+pub mod Same

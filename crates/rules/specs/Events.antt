@@ -11,7 +11,7 @@ use Rattle.rules.specs.declared.Act.the-variants.{Start, Byte, Read, Sto
 use Rattle.rules.specs.declared.Carried.{Carried}
 use Rattle.rules.specs.declared.Carried.the-variants as carries
 use Rattle.rules.specs.declared.Refusal.{Refusal}
-use Rattle.rules.specs.declared.Refusal.the-variants.{MemoryLength, UnknownKind, WrongSlot, WrongValue, WrongSetup, WrongState, ProtectedPage}
+use Rattle.rules.specs.declared.Refusal.the-variants.{MemoryLength, UnknownKind, WrongSlot, WrongValue, WrongSetup, WrongState, ProtectedPage, Busy, TooShort, WrongForm}
 use Rattle.rules.specs.declared.Answer.{Answer}
 use Rattle.rules.specs.declared.Answer.the-variants as answer
 
@@ -54,6 +54,9 @@ refusalNumber WrongValue = 4
 refusalNumber WrongSetup = 5
 refusalNumber WrongState = 6
 refusalNumber ProtectedPage = 7
+refusalNumber Busy = 8
+refusalNumber TooShort = 9
+refusalNumber WrongForm = 10
 
 -- the answers' letters, as bytes: `-`, `A`, `N`, `D`, `R`
 unfoldable pub letterOf : Answer → ℕ

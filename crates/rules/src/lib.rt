@@ -45,7 +45,7 @@ pub enum Carried {
     Nothing,
 }
 
-// Why an event, a setup or a plan is refused. The paper's number of each: specs/Events.
+// Why an event, a setup, a plan, a saving or a reading is refused. The paper's number of each: specs/Events.
 pub enum Refusal {
     MemoryLength,
     UnknownKind,
@@ -55,6 +55,12 @@ pub enum Refusal {
     WrongState,
     // A page that a plan would write lies in a protected block.
     ProtectedPage,
+    // A present slot is not idle, or in a write cycle.
+    Busy,
+    // What was lent to be written has too little room.
+    TooShort,
+    // A saved form departs from what a saving gives.
+    WrongForm,
 }
 
 // What an event is taken for.

@@ -1,10 +1,9 @@
 -- Each answer.
 -- Assumes nothing.
-use native.Mathlib.Omega.{arith}
 use borrow.Author.Needs.{needs}
 use Rattle.rules.specs.Events.{letterOf}
 use Rattle.letters.specs.Letters.{digitsOf}
-use Rattle.letters.proofs.Laws.{digit-small, data-by}
+use Rattle.letters.proofs.Laws.{data-by}
 use Rattle.letters.proofs.put_answer.Statement.{statement}
 use Rattle.letters.proofs.put_answer.Tie as tie
 
@@ -25,8 +24,6 @@ put-answer-spec =
     (λ c κs. search needs)
     (λ c. search needs)
     (λ c κs. search needs)
-    (λ c. omega (arith, digit-small _ _ (c .number-of .ensures)))
-    (λ c κs. search needs)
     (λ c. search needs)
     (λ c. rw (c .before .before .before .before .enum-told .given .1) (c .before .before .put-one .ensures))
     (λ c. search needs)
@@ -36,4 +33,4 @@ put-answer-spec =
     (λ c. search needs)
     (λ c. data-by _ _ _ _ _ _ (c .before .before .before .before .before .before .before .before .before .before .args .out .now) _ (c .before .before .before .before .before .before .before .a .given .1) (c .before .before .before .before .hex-digit .ensures) (c .before .before .before .hex-digit2 .ensures) (c .before .before .put-three .ensures))
     (λ c. search needs)
-    (λ c. rw (c .before .before .before .before .before .before .a2 .given .1, ← c .before .before .before .number-of .ensures) (c .before .before .put-two .ensures)))
+    (λ c. rw (c .before .before .before .before .before .a2 .given .1) (c .before .before .put-number .ensures)))

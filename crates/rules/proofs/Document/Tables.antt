@@ -14,7 +14,7 @@ use Rattle.rules.specs.declared.Answer.the-variants as answer
 use Rattle.rules.specs.declared.Bus.{Bus}
 use Rattle.rules.specs.declared.Event.{Event}
 use Rattle.rules.specs.declared.Pair.{Pair}
-use Rattle.rules.specs.declared.Refusal.the-variants.{MemoryLength, UnknownKind, WrongSlot, WrongValue, WrongSetup, WrongState, ProtectedPage}
+use Rattle.rules.specs.declared.Refusal.the-variants.{MemoryLength, UnknownKind, WrongSlot, WrongValue, WrongSetup, WrongState, ProtectedPage, Busy, TooShort, WrongForm}
 use Rattle.rules.specs.declared.Sensor.{Sensor}
 use Rattle.rules.specs.declared.Slot.{Slot}
 use Rattle.rules.specs.declared.SlotNo.{SlotNo}
@@ -66,7 +66,7 @@ unfolding open-all
 events = refl
 
 -- "Refusal numbers" and the letters of the script, with their values
-pub numbers : map refusalNumber (MemoryLength ∷ UnknownKind ∷ WrongSlot ∷ WrongValue ∷ WrongSetup ∷ WrongState ∷ ProtectedPage ∷ []) ≡ 1 ∷ 2 ∷ 3 ∷ 4 ∷ 5 ∷ 6 ∷ 7 ∷ []
+pub numbers : map refusalNumber (MemoryLength ∷ UnknownKind ∷ WrongSlot ∷ WrongValue ∷ WrongSetup ∷ WrongState ∷ ProtectedPage ∷ Busy ∷ TooShort ∷ WrongForm ∷ []) ≡ 1 ∷ 2 ∷ 3 ∷ 4 ∷ 5 ∷ 6 ∷ 7 ∷ 8 ∷ 9 ∷ 10 ∷ []
 unfolding refusalNumber
 numbers = refl
 

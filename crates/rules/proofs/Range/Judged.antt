@@ -16,7 +16,7 @@ use Rattle.rules.specs.declared.Carried.the-variants as carries
 use Rattle.rules.specs.declared.Event.{Event}
 use Rattle.rules.specs.declared.Pair.{Pair}
 use Rattle.rules.specs.declared.Refusal.{Refusal}
-use Rattle.rules.specs.declared.Refusal.the-variants.{MemoryLength, UnknownKind, WrongSlot, WrongValue, WrongSetup, WrongState, ProtectedPage}
+use Rattle.rules.specs.declared.Refusal.the-variants.{MemoryLength, UnknownKind, WrongSlot, WrongValue, WrongSetup, WrongState, ProtectedPage, Busy, TooShort, WrongForm}
 use Rattle.rules.specs.declared.Ruling.{Ruling}
 use Rattle.rules.specs.declared.Ruling.the-variants.{Taken, Refused}
 use Rattle.rules.specs.Events.{actOf, carried, refusalNumber, letterOf, valueOf}
@@ -28,7 +28,7 @@ use Rattle.rules.specs.Runs.{Bench, given, rulingOn, ruledNext, ruledAns
 -- The paper's number tells the refusal.
 abbrev pub refusalOf : ℕ → Refusal
 refusalOf n =
-    cond (eqb n 1) MemoryLength (cond (eqb n 2) UnknownKind (cond (eqb n 3) WrongSlot (cond (eqb n 4) WrongValue (cond (eqb n 5) WrongSetup (cond (eqb n 6) WrongState ProtectedPage)))))
+    cond (eqb n 1) MemoryLength (cond (eqb n 2) UnknownKind (cond (eqb n 3) WrongSlot (cond (eqb n 4) WrongValue (cond (eqb n 5) WrongSetup (cond (eqb n 6) WrongState (cond (eqb n 7) ProtectedPage (cond (eqb n 8) Busy (cond (eqb n 9) TooShort WrongForm))))))))
 
 pub numbered : (r : Refusal) → refusalOf (refusalNumber r) ≡ r
 unfolding refusalNumber
@@ -39,6 +39,9 @@ numbered WrongValue = refl
 numbered WrongSetup = refl
 numbered WrongState = refl
 numbered ProtectedPage = refl
+numbered Busy = refl
+numbered TooShort = refl
+numbered WrongForm = refl
 
 -- The rows as conditions on what is handed in, each with those before it in the order 1, 6, 2, 3, 4 not met; a refusal is known by the paper's
 -- number for it.
