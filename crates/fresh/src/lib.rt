@@ -31,7 +31,7 @@ fn good_pairs(pairs: [Pair; 8]) -> bool
 }
 
 // A fresh slot; the length of an absent one is ignored.
-fn setup_slot(p: Pair) -> Slot
+pub fn setup_slot(p: Pair) -> Slot
     ensures { λ r. ⌜ r ≡ setupSlot p ⌝ }
 {
     if p.kind == 0 {

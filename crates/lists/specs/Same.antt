@@ -28,3 +28,7 @@ same-eq [] [] e = refl
 same-eq [] (y ∷ ys) e = absurd (false≢true e)
 same-eq (x ∷ xs) [] e = absurd (false≢true e)
 same-eq (x ∷ xs) (y ∷ ys) e = ap₂ _∷_ (eqb-true x y (and-left (eqb x y) (same xs ys) e)) (same-eq xs ys (and-right (eqb x y) (same xs ys) e))
+
+-- a list stands in another from a place on
+unfoldable pub stands : List ℕ → List ℕ → ℕ → Bool
+stands xs ys at = same xs (take (length xs) (drop at ys))
