@@ -1,1 +1,6 @@
 pub mod Places
+pub mod Bits
+pub mod Laid
+pub mod Stages
+pub mod Bytes
+pub mod Back

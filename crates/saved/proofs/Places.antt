@@ -2,14 +2,16 @@
 -- kinds alone.
 -- Assumes nothing.
 use Prim.Native.Nat.{ℕ, zero, suc, _+_, _/_, _%_, _≤_, _<_}
-use native.Mathlib.Nat.{add-zero, add-assoc}
+use native.Mathlib.Nat.{add-zero, add-assoc, zero-add}
 use native.Mathlib.Omega.{arith}
 use borrow.Author.Tests.{eqb-true, eqb-false}
 use mathlib.Core.Path.{_≡_, refl, sym, _∙_, ap, ap₂}
+use mathlib.Core.Bool.{false}
 use mathlib.Core.List.{List, _∷_, _++_}
 use lib.Dec.{eqb}
-use lib.ListN.{length, getD, take, drop, length-append, length-take, length-drop, List·getD-append}
+use lib.ListN.{length, getD, take, drop, length-append, length-take, length-drop, length-replicate, List·getD-append}
 use lib.Seq.{getD-append-add, getD-take, getD-drop, ext-getD}
+use Rattle.lists.specs.Each.{length-mapFrom, mapFrom-at}
 use Rattle.lists.specs.Parts.{part, length-part}
 use Rattle.lists.specs.Tests.{by-test}
 use Rattle.rules.specs.declared.Bus.{Bus}
@@ -17,7 +19,7 @@ use Rattle.rules.specs.declared.Slot.{Slot}
 use Rattle.rules.specs.Modelled.{slotCount, slotBytes, memoryBytes, absent, sensing}
 use Rattle.rules.specs.Fresh.{absentSlot}
 use Rattle.saved.specs.Form.{wordOf, setupField, memoryField, stateBytes, stateField, registersTo, sensorBytes, sensorField, fields, fieldCount, fieldAt, shareOf, shares, fieldBytes, formTo, formOf}
-use Rattle.saved.specs.Reading.{sizeIn, offset, begins, place}
+use Rattle.saved.specs.Reading.{sizeIn, offset, begins, place, memoryRow, readField, readTo}
 
 -- a slot's share of a field has as many bytes as the table says for its kind
 pub length-share : (t : ℕ) (s : Slot) (p : List ℕ) → length p ≡ slotBytes → length (shareOf t s p) ≡ sizeIn t s
@@ -160,6 +162,12 @@ module _ (ss : List Slot) (m : List ℕ) (sized : length m ≡ memoryBytes) wher
       ext-getD 0 (take size (drop (place t k ss) form)) own (c ∙ sym n)
       (λ i g. getD-take size (drop (place t k ss) form) i 0 (omega arith) ∙ getD-drop (place t k ss) form i 0 ∙ share-at t k i h l (omega arith))
 
+  -- "the memory of present slots": a present slot's 512 bytes
+  pub bytes-of-form : (k : ℕ) → k < slotCount → absent (getD ss k absentSlot) ≡ false
+      → take slotBytes (drop (place memoryRow k ss) (formTo fieldCount ss m)) ≡ part slotBytes k m
+  unfolding sizeIn shareOf fieldAt fields memoryField absent
+  bytes-of-form k h a = rw a at (share-of-form memoryRow k (omega arith) h)
+
 -- the whole form of a bench
 pub length-formOf : (b : Bus) (m : List ℕ) → length m ≡ memoryBytes → length (formOf b m) ≡ begins fieldCount (b .slots)
 unfolding formOf
@@ -198,3 +206,31 @@ module _ (ss rs : List Slot) where
 
     pub place-by-kinds : (t k : ℕ) → k ≤ slotCount → place t k ss ≡ place t k rs
     place-by-kinds t k l = same-place t k l (λ u g. size-by-kinds u)
+
+-- Two benches whose slots have the same shares have the same form.
+module _ (ss rs : List Slot) (m o : List ℕ) where
+  abbrev pub SameShares : Type 0
+  SameShares = (t k : ℕ) → k < slotCount → shareOf t (getD ss k absentSlot) (part slotBytes k m) ≡ shareOf t (getD rs k absentSlot) (part slotBytes k o)
+
+  same-shares : (t k : ℕ) → k ≤ slotCount → SameShares → shares t k ss m ≡ shares t k rs o
+  unfolding shares
+  same-shares t zero l h = refl
+  same-shares t (suc k) l h = ap₂ _++_ (same-shares t k (omega arith) h) (h t k l)
+
+  pub same-form : (t : ℕ) → SameShares → formTo t ss m ≡ formTo t rs o
+  unfolding formTo fieldBytes
+  same-form zero h = refl
+  same-form (suc t) h = ap₂ _++_ (same-form t h) (ap (λ (c : List ℕ). fieldAt t .tag ∷ wordOf (length c) ++ c) (same-shares t slotCount (omega arith) h))
+
+-- Reading keeps eight slots, and each field says of slot k what stands at its place for it.
+pub length-readTo : (t : ℕ) (f : List ℕ) → length (readTo t f) ≡ slotCount
+unfolding readTo readField
+length-readTo zero f = length-replicate slotCount absentSlot
+length-readTo (suc t) f = length-mapFrom (λ k s. fieldAt t .reads f (place t k (readTo t f)) s) 0 (readTo t f) ∙ length-readTo t f
+
+pub read-at : (t k : ℕ) (f : List ℕ) → k < slotCount
+    → getD (readTo (suc t) f) k absentSlot ≡ fieldAt t .reads f (place t k (readTo t f)) (getD (readTo t f) k absentSlot)
+unfolding readTo readField
+read-at t k f h =
+    mapFrom-at (λ k s. fieldAt t .reads f (place t k (readTo t f)) s) 0 (readTo t f) k absentSlot (rw (length-readTo t f) h)
+    ∙ ap (λ (n : ℕ). fieldAt t .reads f (place t n (readTo t f)) (getD (readTo t f) k absentSlot)) (zero-add k)
