@@ -4,3 +4,5 @@ pub mod Laid
 pub mod Stages
 pub mod Bytes
 pub mod Back
+pub mod Once
+pub mod Plain
