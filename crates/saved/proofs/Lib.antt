@@ -6,3 +6,4 @@ pub mod Bytes
 pub mod Back
 pub mod Once
 pub mod Plain
+pub mod OneForm
