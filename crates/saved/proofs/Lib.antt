@@ -7,3 +7,5 @@ pub mod Back
 pub mod Once
 pub mod Plain
 pub mod OneForm
+pub mod Clerks
+pub mod Onward

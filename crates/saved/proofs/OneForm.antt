@@ -7,9 +7,10 @@ use mathlib.Core.Path.{_≡_, refl, sym, _∙_, ap, ap₂, subst}
 use mathlib.Core.Bool.{Bool, true, false, false≢true, cond, _&&_, _||_}
 use mathlib.Core.List.{List, [], _∷_, map}
 use lib.Dec.{eqb, leb}
-use lib.ListN.{length}
+use lib.ListN.{length, getD}
 use borrow.Author.Tests.{eqb-true, eqb-false, leb-true}
 use Rattle.lists.specs.Each.{allOf, Every}
+use Rattle.lists.specs.Parts.{parts-ext}
 use Rattle.lists.specs.Tests.{cond-cases, by-test, and-left, and-right}
 use Rattle.rules.specs.declared.Bus.{Bus}
 use Rattle.rules.specs.declared.Event.{Event}
@@ -35,6 +36,7 @@ use Rattle.saved.specs.Saving.{isIdle, quiet, allQuiet}
 use Rattle.saved.specs.Reading.{busIn, memoryIn, restored, accepted}
 use Rattle.saved.specs.Rested.{rested, restedBus, Typed}
 use Rattle.saved.proofs.Plain.{FourBlocks, slot-blocks, setup-blocks, Plain, next-plain, setup-plain}
+use Rattle.saved.proofs.Bytes.{length-read}
 use Rattle.saved.proofs.Back.{ReadsBack, reads-back}
 use Rattle.saved.proofs.Once.{accepted-in-range, length-restored, restored-rested, typed-read}
 
@@ -177,6 +179,17 @@ calm-rested x c q = λ i. record { slots = slots-rested (x .bus .slots) q (c .re
 -- What was saved reads back the same, as a whole: the bus that is restored is the bus that was saved.
 pub same-bus : (x : Bench) → Calm x → allQuiet (x .bus) ≡ true → busIn (formOf (x .bus) (x .memory)) ≡ x .bus
 same-bus x c q = reads-back (x .bus) (x .memory) (x .memory) (calm-typed x c) (c .ranged) (c .sized) (c .sized) .bus ∙ calm-rested x c q
+
+-- Read into the memory that it was saved with, the bench is as it was, bytes of absent slots too.
+pub same-bench : (x : Bench) → Calm x → allQuiet (x .bus) ≡ true → restored (formOf (x .bus) (x .memory)) (x .memory) ≡ x
+unfolding restored
+same-bench x c q =
+    let f = formOf (x .bus) (x .memory) in
+    let back : ReadsBack (x .bus) (x .memory) (x .memory) = reads-back (x .bus) (x .memory) (x .memory) (calm-typed x c) (c .ranged) (c .sized) (c .sized) in
+    let bytes : memoryIn f (x .memory) ≡ x .memory
+        = parts-ext slotBytes slotCount (memoryIn f (x .memory)) (x .memory) (length-read f (x .memory) ∙ c .sized) (c .sized)
+        (λ k h. by-test (absent (getD (x .bus .slots) k absentSlot)) (back .untouched k h) (back .present k h)) in
+    λ i. record { bus = same-bus x c q i; memory = bytes i }
 
 -- From setup, after any run of events:
 pub same-bus-from-setup : (ps : List Pair) (m : List ℕ) (es : List Event) → length ps ≡ slotCount → length m ≡ memoryBytes
