@@ -9,3 +9,4 @@ pub mod Plain
 pub mod OneForm
 pub mod Clerks
 pub mod Onward
+pub mod Departures
