@@ -10,3 +10,4 @@ pub mod OneForm
 pub mod Clerks
 pub mod Onward
 pub mod Departures
+pub mod Sample
