@@ -3,18 +3,16 @@
 use Prim.Native.Nat.{ℕ, _<_}
 use mathlib.Core.Path.{_≡_, refl, sym, _∙_, ap, subst}
 use mathlib.Core.Bool.{true}
-use mathlib.Core.List.{List, map}
+use mathlib.Core.List.{List}
 use lib.ListN.{length, getD}
 use Rattle.lists.specs.Parts.{part}
 use Rattle.lists.specs.Tests.{cond-cases}
 use Rattle.rules.specs.declared.Bus.{Bus}
 use Rattle.rules.specs.declared.Event.{Event}
-use Rattle.rules.specs.declared.Phase.the-variants.{Idle}
 use Rattle.rules.specs.declared.Slot.{Slot}
 use Rattle.rules.specs.Modelled.{slotCount, slotBytes, memoryBytes, absent}
 use Rattle.rules.specs.Open.{open-fields}
 use Rattle.rules.specs.Fresh.{freshSlot, absentSlot, atRest}
-use Rattle.rules.specs.Refusals.{inRange}
 use Rattle.rules.specs.Runs.{Bench}
 use Rattle.runs.specs.Exchanges.{Item, strike}
 use Rattle.runs.proofs.TwoClerks.Demand3.{Ready, Parts, Same, demand3}

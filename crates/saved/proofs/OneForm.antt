@@ -1,14 +1,15 @@
 -- One form at rest: of a bench from setup or from a restore, with any run behind it, what was saved reads back as a whole, absent slots and the registers of
 -- slots without a sensor among it.
 -- Assumes nothing.
-use Prim.Native.Nat.{ℕ, _≤_, _<_}
+use Prim.Native.Nat.{ℕ, _≤_}
 use native.Mathlib.Omega.{arith}
 use mathlib.Core.Path.{_≡_, refl, sym, _∙_, ap, ap₂, subst}
-use mathlib.Core.Bool.{Bool, true, false, false≢true, cond, _&&_, _||_}
+use mathlib.Core.Bool.{true, false, false≢true, cond, _&&_}
 use mathlib.Core.List.{List, [], _∷_, map}
 use lib.Dec.{eqb, leb}
 use lib.ListN.{length, getD}
 use borrow.Author.Tests.{eqb-true, eqb-false, leb-true}
+use Rattle.lists.specs.Alike.{every-so, every-map, every-all}
 use Rattle.lists.specs.Each.{allOf, Every}
 use Rattle.lists.specs.Parts.{parts-ext}
 use Rattle.lists.specs.Tests.{cond-cases, by-test, and-left, and-right}
@@ -17,7 +18,6 @@ use Rattle.rules.specs.declared.Event.{Event}
 use Rattle.rules.specs.declared.Pair.{Pair}
 use Rattle.rules.specs.declared.Phase.{Phase}
 use Rattle.rules.specs.declared.Phase.the-variants.{Idle, Control, Deaf, MemoryCounter, MemoryData, MemoryRead, HalfSelected, CommandAddress, CommandData, CommandStop, SensorPointer, SensorHigh, SensorLow, SensorReadHigh, SensorReadLow}
-use Rattle.rules.specs.declared.Sensor.{Sensor}
 use Rattle.rules.specs.declared.Slot.{Slot}
 use Rattle.rules.specs.Modelled.{slotCount, slotBytes, memoryBytes, absent, sensing}
 use Rattle.rules.specs.Open.{open-fields}
@@ -35,7 +35,7 @@ use Rattle.saved.specs.Form.{formOf}
 use Rattle.saved.specs.Saving.{isIdle, quiet, allQuiet}
 use Rattle.saved.specs.Reading.{busIn, memoryIn, restored, accepted}
 use Rattle.saved.specs.Rested.{rested, restedBus, Typed}
-use Rattle.saved.proofs.Plain.{FourBlocks, slot-blocks, setup-blocks, Plain, next-plain, setup-plain}
+use Rattle.runs.proofs.FromSetup.Plain.{FourBlocks, slot-blocks, setup-blocks, Plain, next-plain, setup-plain}
 use Rattle.saved.proofs.Bytes.{length-read}
 use Rattle.saved.proofs.Back.{ReadsBack, reads-back}
 use Rattle.saved.proofs.Once.{accepted-in-range, length-restored, restored-rested, typed-read}
@@ -49,10 +49,6 @@ pub record Calm (x : Bench) : Type 0 where
   pub blocks : Everywhere FourBlocks x
   pub reach : Everywhere Reach x
   pub plain : Everywhere Plain x
-
-every-so : {A : Type 0} (P Q : A → Type 0) → ((x : A) → P x → Q x) → (xs : List A) → Every P xs → Every Q xs
-every-so P Q f [] h = tt
-every-so P Q f (x ∷ xs) h = (f x (h .0), every-so P Q f xs (h .1))
 
 pub calm-typed : (x : Bench) → Calm x → Typed (x .bus)
 calm-typed x c = record { slots = c .slots; blocks = every-so FourBlocks (λ (s : Slot). length (s .protection) ≡ 4) (λ s h. h .stands) (x .bus .slots) (c .blocks) }
@@ -105,15 +101,6 @@ unfolding rested absent absentSlot freshSlot freshSensor atRest open-fields
 rested-reach s r = cond-cases Reach (eqb (s .kind) 0) (λ a. none refl) (λ a. some (eqb-false (s .kind) 0 a) (λ z. lasting s r a z)
     (rests (record { no-ticks = refl; no-bytes = refl; no-marks = refl; steady = refl; no-place = refl; no-word = refl })))
 
-every-rested : (Q P : Slot → Type 0) → ((s : Slot) → Q s → P (rested s)) → (ss : List Slot) → Every Q ss → Every P (map rested ss)
-every-rested Q P f [] h = tt
-every-rested Q P f (s ∷ ss) h = (f s (h .0), every-rested Q P f ss (h .1))
-
-every-all : (p : Slot → Bool) (ss : List Slot) → allOf p ss ≡ true → Every (λ (s : Slot). p s ≡ true) ss
-unfolding allOf
-every-all p [] h = tt
-every-all p (s ∷ ss) h = (and-left (p s) (allOf p ss) h, every-all p ss (and-right (p s) (allOf p ss) h))
-
 -- and every restore gives it
 pub restored-calm : (f n : List ℕ) → accepted f n ≡ true → length n ≡ memoryBytes → Calm (restored f n)
 unfolding restored
@@ -121,9 +108,9 @@ restored-calm f n a l = record {
   sized = length-restored f n a l;
   slots = typed-read f .slots;
   ranged = accepted-in-range f n a;
-  blocks = back FourBlocks (every-rested (λ (s : Slot). length (s .protection) ≡ 4) FourBlocks rested-blocks (busIn f .slots) (typed-read f .blocks));
-  reach = back Reach (every-rested (λ (s : Slot). slotInRange s ≡ true) Reach rested-reach (busIn f .slots) ranges);
-  plain = back Plain (every-rested (λ (s : Slot). slotInRange s ≡ true) Plain (λ s r. rested-plain s) (busIn f .slots) ranges);
+  blocks = back FourBlocks (every-map rested (λ (s : Slot). length (s .protection) ≡ 4) FourBlocks rested-blocks (busIn f .slots) (typed-read f .blocks));
+  reach = back Reach (every-map rested (λ (s : Slot). slotInRange s ≡ true) Reach rested-reach (busIn f .slots) ranges);
+  plain = back Plain (every-map rested (λ (s : Slot). slotInRange s ≡ true) Plain (λ s r. rested-plain s) (busIn f .slots) ranges);
 }
   where
     back : (P : Slot → Type 0) → Every P (map rested (busIn f .slots)) → Every P (busIn f .slots)

@@ -1,26 +1,24 @@
 -- Request P5: after a restore the bench goes on as if it had never been saved: the same answers to every run of events, the same bus after it, and the same
 -- bytes of every present slot.
 -- Assumes nothing.
-use Prim.Native.Nat.{ℕ, zero, suc, _+_, _<_, suc-le-suc}
-use native.Mathlib.Nat.{zero-add, add-zero, add-suc, suc-add}
-use native.Mathlib.Omega.{arith}
+use Prim.Native.Nat.{ℕ, _<_}
+use native.Mathlib.Nat.{zero-add}
 use mathlib.Core.Path.{_≡_, refl, sym, _∙_, ap, ap₂, subst}
-use mathlib.Core.Bool.{Bool, true, false, false≢true, not, cond}
+use mathlib.Core.Bool.{true, false, false≢true, not, cond}
 use mathlib.Core.List.{List, [], _∷_}
 use lib.Dec.{eqb}
 use lib.ListN.{length, getD}
-use Rattle.lists.specs.Each.{firstFrom, mapFrom-at}
+use Rattle.lists.specs.Alike.{first-alike}
+use Rattle.lists.specs.Each.{firstFrom}
 use Rattle.lists.specs.Parts.{part}
 use Rattle.lists.specs.Tests.{by-test}
 use Rattle.rules.specs.declared.Act.{Act}
-use Rattle.rules.specs.declared.Answer.{Answer}
 use Rattle.rules.specs.declared.Answer.the-variants.{Data}
 use Rattle.rules.specs.declared.Bus.{Bus}
 use Rattle.rules.specs.declared.Carried.{Carried}
 use Rattle.rules.specs.declared.Carried.the-variants as carries
 use Rattle.rules.specs.declared.Event.{Event}
 use Rattle.rules.specs.declared.Pair.{Pair}
-use Rattle.rules.specs.declared.Phase.{Phase}
 use Rattle.rules.specs.declared.Ruling.{Ruling}
 use Rattle.rules.specs.declared.Ruling.the-variants.{Taken, Refused}
 use Rattle.rules.specs.declared.Slot.{Slot}
@@ -33,15 +31,15 @@ use Rattle.rules.specs.declared.Refusal.the-variants.{MemoryLength, WrongState}
 use Rattle.rules.specs.Refusals.{wrongLength, kindsOf, inRange, ruledBy, ruling}
 use Rattle.rules.specs.Runs.{Bench, taken, given, rulingOn, ruledNext, ruledAnswer, next, answered, after, answers}
 use Rattle.rules.proofs.Memory.Protection.{kind-next, number-taken}
-use Rattle.rules.proofs.Memory.Stored.{part-next, memory-length-next}
+use Rattle.rules.proofs.Memory.Stored.{memory-length-next}
 use Rattle.rules.proofs.Run.Cases.{absent-stands}
 use Rattle.runs.proofs.TwoClerks.Alone.{slotAt, partOf, slotsOf, slot-taken, part-taken}
 use Rattle.runs.proofs.TwoClerks.Demand3.{begun}
 use Rattle.saved.specs.Form.{formOf}
 use Rattle.saved.specs.Saving.{allQuiet}
-use Rattle.saved.specs.Reading.{busIn, memoryIn, restored}
+use Rattle.saved.specs.Reading.{restored}
 use Rattle.saved.proofs.Bytes.{length-read}
-use Rattle.saved.proofs.Back.{ReadsBack, reads-back}
+use Rattle.saved.proofs.Back.{reads-back}
 use Rattle.saved.proofs.OneForm.{Calm, calm-typed, setup-calm, after-calm, same-bus}
 
 -- two benches with the same bus, of which every present slot has the same bytes, and with memories of the same length
@@ -54,15 +52,6 @@ pub record Alike (x y : Bench) : Type 0 where
 drives-present : (s : Slot) → drives s ≡ true → absent s ≡ false
 unfolding drives
 drives-present s d = by-test (absent s) (λ a. absurd (false≢true (ap drivesIn (sym (absent-stands s a)) ∙ d))) (λ a. a)
-
-module _ {A B : Type 0} (p : ℕ → A → Bool) (q r : ℕ → A → B) (e : B) (d : A) where
-  first-alike : (n : ℕ) (xs : List A) → ((i : ℕ) → i < length xs → p (n + i) (getD xs i d) ≡ true → q (n + i) (getD xs i d) ≡ r (n + i) (getD xs i d))
-      → firstFrom p q e n xs ≡ firstFrom p r e n xs
-  unfolding firstFrom
-  first-alike n [] h = refl
-  first-alike n (x ∷ xs) h = by-test (p n x)
-      (λ t. rw t (rw add-zero at (h 0 (omega arith) (rw add-zero t))))
-      (λ t. rw t (first-alike (suc n) xs (λ i l. rw (suc-add, ← add-suc) (h (suc i) (suc-le-suc l)))))
 
 read-alike : (x y : Bench) → Alike x y → readByte (x .bus) (x .memory) ≡ readByte (y .bus) (y .memory)
 unfolding readByte

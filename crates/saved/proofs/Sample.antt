@@ -7,8 +7,7 @@ use mathlib.Core.List.{List, [], _∷_, _++_}
 use lib.ListN.{length, take, set, replicate}
 use Rattle.rules.specs.declared.Bus.{Bus}
 use Rattle.rules.specs.declared.Sensor.{Sensor}
-use Rattle.rules.specs.declared.Slot.{Slot}
-use Rattle.rules.specs.Modelled.{slotBytes, memoryBytes}
+use Rattle.rules.specs.Modelled.{memoryBytes}
 use Rattle.rules.specs.Fresh.{freshSensor, absentSlot, atRest}
 use Rattle.saved.specs.Form.{formOf}
 use Rattle.saved.specs.Reading.{busIn, accepted}
