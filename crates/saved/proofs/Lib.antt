@@ -1,4 +1,4 @@
-pub mod Sample
+pub mod AllBytes
 pub mod Places
 pub mod Bits
 pub mod Stages
