@@ -4,13 +4,13 @@
  * the sentences of request P5, on the second opinion's model and with a writer
  * and a reader of its own (forms.h); no line of it comes from the crates.
  *
- *   resave runs COUNT SEED DIR SAVE RESUME [UNSEEN-SAVE UNSEEN-RESUME]
+ *   resave COUNT TRIES SEED DIR SAVE RESUME [UNSEEN-SAVE UNSEEN-RESUME]
  *       Cuts each of the scripts DIR/1.script to DIR/COUNT.script somewhere:
  *       the command line SAVE saves what is before, RESUME goes on from there.
  *       Also forms that are damaged, inputs that are cut, bad setups.
- *   resave sweep TRIES SEED DIR SAVE RESUME [UNSEEN-SAVE UNSEEN-RESUME]
- *       Forms of small benches with every byte changed to every other value,
- *       and cut at every length: some TRIES of them, or all (0).
+ *       Then small benches: saved in every phase; their forms with every byte
+ *       changed to every other value, and cut at every length, some TRIES of
+ *       these, or all (0).
  *
  * The unseen ones are the same programs without a status of their own: most
  * inputs then go to those.  A fault is told in a sentence, with status 1;
@@ -19,6 +19,7 @@
  */
 #include "forms.h"
 #include "chance.h"
+#include "damage.h"
 #include "program.h"
 
 enum { SEEN_OF = 19 };            /* one in so many goes to the ones with a status */
@@ -26,7 +27,6 @@ enum { TALK_UP_TO = 60 };         /* records of a talk */
 
 static const char *saver[2], *resumer[2];  /* command lines: seen, unseen */
 static int number;                /* of the run in hand */
-static char what[200];            /* is tried, in words */
 static const char *program;       /* that is tried */
 static long tries, by_status[2][3];        /* of `save`, of `resume` */
 
@@ -315,190 +315,6 @@ static void look(int whole)
     look_at_voltage(chosen);
 }
 
-/* ---- A form, and how it is damaged -------------------------------------------- */
-
-enum { FIELDS = 4 };
-
-static unsigned char good[MOST];  /* the form that was saved */
-static size_t good_length;
-static unsigned char bad[1 << 16];         /* the same, damaged */
-static size_t bad_length;
-
-static void keep_form(void)
-{
-    write_form();
-    memcpy(good, form, form_length);
-    good_length = form_length;
-}
-
-static void say_what(const char *words) { snprintf(what, sizeof what, "%s", words); }
-
-static void begin(const char *words)
-{
-    memcpy(bad, good, good_length);
-    bad_length = good_length;
-    say_what(words);
-}
-
-/* Where a field of the good form begins; of the one behind the last, the end. */
-static size_t field_at(int which)
-{
-    size_t at = 0;
-
-    while (which-- > 0)
-        at += HEAD + (size_t)word_at(good + at + 1);
-    return at;
-}
-
-static size_t field_length(int which) { return field_at(which + 1) - field_at(which) - HEAD; }
-
-/* A byte that is not in the memory. */
-static size_t place_outside_memory(void)
-{
-    size_t stored = field_at(1) + HEAD;
-    size_t at = (size_t)below((int)(good_length - field_length(1)));
-
-    return at < stored ? at : at + field_length(1);
-}
-
-/* Another byte: the least, the greatest, those beside it, the one that differs
- * in the highest bit alone, or any. */
-static unsigned char other_than(unsigned char byte)
-{
-    int bytes[] = { 0x00, 0xFF, byte + 1, byte - 1, byte ^ 0x80, below(256) };
-    unsigned char other = (unsigned char)ONE_OF(bytes);
-
-    return other != byte ? other : byte ^ 1;
-}
-
-static void change_at(size_t at, int byte)
-{
-    size_t said = strlen(what);
-
-    bad[at] = (unsigned char)byte;
-    snprintf(what + said, sizeof what - said, ", byte %lu changed to %02Xh", (unsigned long)at, byte & 255);
-}
-
-/* Leaves out `less` bytes there, and puts `more` others in. */
-static void splice(size_t at, size_t less, const unsigned char *bytes, size_t more)
-{
-    memmove(bad + at + more, bad + at + less, bad_length - at - less);
-    if (more > 0)
-        memcpy(bad + at, bytes, more);
-    bad_length += more - less;
-}
-
-/* ---- Numbers of a form, just in their ranges and just out of them -------------- */
-
-static void change_pair(void)
-{
-    static const int kinds[] = { 0, 1, 2, 3, 3, 4, 255 };
-    static const int lengths[] = { 0, 0, 1, 5, 6, 6, 255 };
-    size_t at = HEAD + 2 * (size_t)below(SLOTS);
-
-    if (one_in(3))
-        change_at(at, ONE_OF(kinds));
-    else
-        change_at(at + 1, ONE_OF(lengths));
-}
-
-static void change_slot(void)
-{
-    static const int ends[OF_SLOT][4] = { { 15, 16, 31, 240 }, { 0, 1, 2, 3 }, { 0, 128, 254, 255 }, { 0, 1, 2, 3 } };
-    int slots = (int)field_length(2) / OF_SLOT;
-    int which = below(OF_SLOT);
-
-    if (slots > 0)
-        change_at(field_at(2) + HEAD + (size_t)(OF_SLOT * below(slots) + which), ONE_OF(ends[which]));
-}
-
-/* The pointer, or one bit of a register. */
-static void change_sensor(void)
-{
-    static const int pointers[] = { 0, 9, 9, 10, 10, 11, 16, 255 };
-    int sensors = (int)field_length(3) / OF_SENSOR;
-    size_t at = field_at(3) + HEAD;
-
-    if (sensors == 0)
-        return;
-    at += (size_t)(OF_SENSOR * below(sensors));
-    if (one_in(4)) {
-        change_at(at, ONE_OF(pointers));
-    } else {
-        at += (size_t)between(1, OF_SENSOR - 1);
-        change_at(at, bad[at] ^ 1 << below(8));
-    }
-}
-
-/* ---- Fields that are not as they should be ------------------------------------- */
-
-static void exchange_fields(void)
-{
-    static unsigned char first[MOST];
-    int which = below(FIELDS - 1);
-    size_t at = field_at(which), middle = field_at(which + 1), behind = field_at(which + 2);
-
-    memcpy(first, bad + at, middle - at);
-    memmove(bad + at, bad + middle, behind - middle);
-    memcpy(bad + at + behind - middle, first, middle - at);
-}
-
-/* Another field somewhere between the fields: one of a tag that is not known,
- * or one of the four once more. */
-static void add_field(void)
-{
-    static const int tags[] = { 0, 5, 5, 6, 17, 255 };
-    unsigned char other[HEAD + 1] = { (unsigned char)ONE_OF(tags), 0, 0, 0 };
-    size_t at = field_at(below(FIELDS + 1));
-    int which = below(FIELDS);
-
-    if (one_in(2)) {
-        splice(at, 0, good + field_at(which), HEAD + field_length(which));
-    } else {
-        other[2] = (unsigned char)below(2);
-        splice(at, 0, other, HEAD + (size_t)other[2]);
-    }
-}
-
-static void drop_field(void)
-{
-    int which = below(FIELDS);
-
-    splice(field_at(which), field_at(which + 1) - field_at(which), NULL, 0);
-}
-
-/* A field that says it is longer or shorter, and mostly is. */
-static void resize_field(void)
-{
-    static const int steps[] = { 1, 1, 2, 4, 15, 16, 256, 512 };
-    static const unsigned char more[512];
-    int which = below(FIELDS), step = ONE_OF(steps);
-    int now = (int)field_length(which), grows = one_in(2) || now < step;
-    size_t at = field_at(which);
-
-    if (!one_in(4))
-        splice(field_at(which + 1) - (grows ? 0 : (size_t)step), grows ? 0 : (size_t)step, more, grows ? (size_t)step : 0);
-    now += grows ? step : -step;
-    bad[at + 1] = (unsigned char)(now >> 8);
-    bad[at + 2] = (unsigned char)now;
-}
-
-static void turn_length(void)     /* the low byte first */
-{
-    size_t at = field_at(below(FIELDS));
-    unsigned char high = bad[at + 1];
-
-    bad[at + 1] = bad[at + 2];
-    bad[at + 2] = high;
-}
-
-static void append(void)
-{
-    static const unsigned char more[] = { 0, 0, 0, 5, 0, 0, 255, 0 };
-
-    splice(bad_length, 0, more + below(4), (size_t)between(1, 4));
-}
-
 /* ---- Inputs made of a form and records ----------------------------------------- */
 
 static void put_up(unsigned long announced, const unsigned char *bytes, size_t many, size_t records)
@@ -520,39 +336,6 @@ static void try_bad(void)
         records = tail_length;
     put_up(bad_length, bad, bad_length, records);
     try_resume();
-}
-
-static void damage_field(void)
-{
-    switch (below(7)) {
-    case 0: begin("two fields exchanged"); exchange_fields(); break;
-    case 1: begin("a field more"); add_field(); break;
-    case 2: begin("a field less"); drop_field(); break;
-    case 3: begin("the low byte of a length first"); turn_length(); break;
-    case 4: begin("bytes behind the end"); append(); break;
-    case 5: begin("a form that ends early"); bad_length -= (size_t)between(1, one_in(2) ? 20 : (int)good_length); break;
-    default: begin("a field of another length"); resize_field(); break;
-    }
-}
-
-static void damage_number(void)
-{
-    size_t at;
-
-    begin("a number changed");
-    switch (below(5)) {
-    case 0: change_pair(); break;
-    case 1: change_slot(); break;
-    case 2: change_sensor(); break;
-    case 3:
-        at = place_outside_memory();
-        change_at(at, other_than(bad[at]));
-        break;
-    default:
-        at = (size_t)below((int)good_length);
-        change_at(at, other_than(bad[at]));
-        break;
-    }
 }
 
 /* The good form, or nothing of it, announced with another length. */
@@ -717,10 +500,88 @@ static void one_run(void)
     free(script);
 }
 
+/* ---- How much of what follows is tried ---------------------------------------------- */
+
+enum { ABOUT_ALL = 43000 };       /* changes of one byte, and cuts */
+static long every;                /* one in so many is tried */
+
+/* ---- A bench in every phase --------------------------------------------------------- */
+
+/* What happens last.  Bytes are in hex; w and m are the control bytes of a
+ * memory write and read of the slot, g and k of a sensor write and read; s start,
+ * p stop, o timeout, c power cycle, t tick, v and u high voltage on and off, r and
+ * n a read with ACK and NACK. */
+static const char *const endings[] = {
+    "", "s", "sFF", "sn", "sp", "so", "sc", "sw", "sw00", "sw005A", "sw00p", "sw005Ao", "sw005Ap", "sw005Apt", "sw005Aptt",
+    "sw005Apc", "sw005As", "sm", "smr", "smn", "smnp", "sm00", "s6C", "s6E", "s6E00", "s6Ep", "s6D", "s63", "s66",
+    "vs62", "vs6200", "vs620000", "vs62000000", "vs62u", "vs6200p", "vs620000p", "vs620000pt", "vs620000pst", "vs620000ptt",
+    "vs660000ptt", "sg", "sg0A", "sg01", "sg0107", "sg010700", "sg010700p", "sg01070000", "sk", "skr", "skrr", "skrrp", "sw005Apstt" };
+
+static void add_letter(char letter, int n)
+{
+    switch (letter) {
+    case 's': add(START, 0, 0); break;
+    case 'p': add(STOP, 0, 0); break;
+    case 'o': add(TIMEOUT, 0, 0); break;
+    case 'c': add(POWER, 0, 0); break;
+    case 't': add(TICK, 0, 0); break;
+    case 'v': add(VOLTAGE, n, 1); break;
+    case 'u': add(VOLTAGE, n, 0); break;
+    case 'r': add(READ, 0, 1); break;
+    case 'n': add(READ, 0, 0); break;
+    case 'w': add(BYTE, 0, 0xA0 + 2 * n); break;
+    case 'm': add(BYTE, 0, 0xA1 + 2 * n); break;
+    case 'g': add(BYTE, 0, 0x30 + 2 * n); break;
+    case 'k': add(BYTE, 0, 0x31 + 2 * n); break;
+    }
+}
+
+static void add_ending(const char *ending, int n)
+{
+    tail_length = 0;
+    for (; *ending != 0; ending++) {
+        char pair[3] = { ending[0], ending[1], 0 };
+
+        if (*ending >= 'a') {
+            add_letter(*ending, n);
+        } else {
+            add(BYTE, 0, (int)strtol(pair, NULL, 16));
+            ending++;
+        }
+    }
+}
+
+/* A sensor with a cycle of two ticks, and so many others. */
+static void try_ending(const char *ending, int others)
+{
+    int n = below(SLOTS);
+
+    memset(input, 0, SETUP);
+    for (int i = 0; i < SLOTS; i++)
+        if (i == n ? others >= 0 : others > 0) {
+            input[2 * i] = MEMORY_WITH_SENSOR;
+            input[2 * i + 1] = 2;
+        }
+    add_ending(ending, n);
+    memcpy(input + SETUP, tail, tail_length);
+    length = SETUP + tail_length;
+    snprintf(what, sizeof what, "%s, in the end \"%s\" on slot %d", others < 0 ? "no slot" : others ? "eight slots" : "one slot", ending, n);
+    try_save();
+}
+
+static void sweep_phases(void)
+{
+    for (int i = 0; i < (int)(sizeof endings / sizeof endings[0]); i++) {
+        try_ending(endings[i], 0);
+        if (every == 1 || one_in(4))
+            try_ending(endings[i], 1);
+        if (every == 1 || one_in(8))
+            try_ending(endings[i], -1);
+    }
+}
+
 /* ---- Every byte of small forms --------------------------------------------------- */
 
-enum { ABOUT_ALL = 43000 };       /* tries that there are */
-static long every;                /* one in so many is tried */
 
 /* A bench in any state that may be saved. */
 static void stir(const unsigned char pairs[SETUP])
@@ -804,6 +665,38 @@ static void sweep_lengths(void)
     }
 }
 
+/* The ends of every range of the sensor's form, and the heads of its fields. */
+static void sweep_ends(int n)
+{
+    static const int ends[][3] = { { 2, 0, 15 }, { 2, 0, 16 }, { 2, 1, 1 }, { 2, 1, 2 }, { 2, 2, 255 }, { 2, 3, 1 }, { 2, 3, 2 }, { 3, 0, 9 }, { 3, 0, 10 } };
+    const int pairs[][2] = { { 2 * n, 3 }, { 2 * n + 1, 0 }, { 2 * n + 1, 5 }, { 2 * n + 1, 6 }, { 2 * n + 2, 1 }, { 2 * n + 3, 1 } };
+
+    for (int i = 0; i < 9 + 6 + HEAD * FIELDS; i++) {
+        int head = i - 9 - 6;
+        size_t at = field_at(head / HEAD) + (size_t)head % HEAD;
+
+        begin("a small form");
+        if (i < 9)
+            change_at(field_at(ends[i][0]) + HEAD + (size_t)ends[i][1], ends[i][2]);
+        else if (head < 0)
+            change_at(HEAD + (size_t)pairs[i - 9][0], pairs[i - 9][1]);
+        else
+            change_at(at, good[at] + 1);
+        try_small(1);
+    }
+}
+
+/* The first bytes of an input. */
+static void sweep_first(void)
+{
+    for (size_t many = 0; many <= 5; many++) {
+        put_up(good_length, good, good_length, 0);
+        length = many;
+        snprintf(what, sizeof what, "the input cut after %lu bytes", (unsigned long)many);
+        try_resume();
+    }
+}
+
 static void sweep_announced(void)
 {
     static const unsigned long lengths[] = { 0, 1, MOST + 1, 65534, 65535, 65536, 65537, 0x00FFFFFF, 0x01000000, 0x7FFFFFFF,
@@ -824,47 +717,61 @@ static void sweep(long wanted)
     pairs[2][2 * first] = MEMORY;
     pairs[1][2 * first + 1] = pairs[2][2 * first + 1] = pairs[2][2 * second + 1] = (unsigned char)between(1, 5);
     every = wanted == 0 || wanted > ABOUT_ALL ? 1 : ABOUT_ALL / wanted;
+    sweep_phases();
     for (number = 0; number < 3; number++) {
         stir(pairs[number]);
-        tail_length = 0;
-        look(0);
         keep_form();
+        tail_length = 0;
+        look(1);
         begin("a small form as it is");
         try_small(1);
+        stir(pairs[number]);      /* what was tried has gone over the bench */
+        keep_form();
+        tail_length = 0;
+        look(0);
+        if (number == 1)
+            sweep_ends(first);
         sweep_values();
         sweep_lengths();
     }
+    sweep_first();
     sweep_announced();
 }
 
-/* ---- The two things that are asked for ------------------------------------------- */
+/* ---- All of it --------------------------------------------------------------------- */
+
+static void sum_up(void)
+{
+    long *of_save = by_status[0], *of_resume = by_status[1];
+
+    printf("resave: %ld saves (%ld forms, %ld R8, %ld short or R5), %ld resumed (%ld whole, %ld R10, %ld short), all right\n",
+           of_save[0] + of_save[1] + of_save[2], of_save[0], of_save[1], of_save[2],
+           of_resume[0] + of_resume[1] + of_resume[2], of_resume[0], of_resume[1], of_resume[2]);
+}
 
 int main(int count, char **words)
 {
     unsigned long long seed;
-    int sweeping;
 
-    if ((count != 7 && count != 9) || (strcmp(words[1], "runs") != 0 && strcmp(words[1], "sweep") != 0)) {
-        fputs("usage: resave runs|sweep COUNT SEED DIR SAVE RESUME [UNSEEN-SAVE UNSEEN-RESUME]\n", stderr);
+    if (count != 7 && count != 9) {
+        fputs("usage: resave COUNT TRIES SEED DIR SAVE RESUME [UNSEEN-SAVE UNSEEN-RESUME]\n", stderr);
         return 2;
     }
-    sweeping = strcmp(words[1], "sweep") == 0;
     seed = strtoull(words[3], NULL, 10) * 1000003ULL;
     folder = words[4];
     saver[0] = words[5];
     resumer[0] = words[6];
-    saver[1] = count == 9 ? words[7] : NULL;
-    resumer[1] = count == 9 ? words[8] : NULL;
+    if (count == 9) {
+        saver[1] = words[7];
+        resumer[1] = words[8];
+    }
     signal(SIGPIPE, SIG_IGN);     /* a program that ends early */
-    seed_with(seed);
-    if (sweeping)
-        sweep(atol(words[2]));
-    for (number = 1; !sweeping && number <= atol(words[2]); number++) {
+    for (number = 1; number <= atol(words[1]); number++) {
         seed_with(seed + (unsigned)number);
         one_run();
     }
-    printf("resave: %ld saves (%ld forms, %ld R8, %ld short or R5), %ld resumed (%ld whole, %ld R10, %ld short), all right\n",
-           by_status[0][0] + by_status[0][1] + by_status[0][2], by_status[0][0], by_status[0][1], by_status[0][2],
-           by_status[1][0] + by_status[1][1] + by_status[1][2], by_status[1][0], by_status[1][1], by_status[1][2]);
+    seed_with(seed);
+    sweep(atol(words[2]));
+    sum_up();
     return 0;
 }
