@@ -181,10 +181,11 @@ static size_t due(size_t given)
 /* Where the records begin, or would. */
 static size_t form_end(void) { return length < 4 || announced() > 65535 ? 4 : 4 + announced(); }
 
-/* A talk is for inputs that bring the form and few records. */
-static enum way a_way(void)
+/* A talk is for inputs that bring the form and few records; the seen program
+ * has one wherever it can. */
+static enum way a_way(int seen)
 {
-    if (one_in(3) && length >= form_end() && length - form_end() <= 4 * TALK_UP_TO)
+    if ((seen || one_in(3)) && length >= form_end() && length - form_end() <= 4 * TALK_UP_TO)
         return AS_TALK;
     return one_in(3) ? IN_PIECES : AS_FILE;
 }
@@ -210,7 +211,7 @@ static void try_resume(void)
 {
     static const char *const words[] = { "", ", read in pieces", ", in a talk" };
     int seen = is_seen();
-    enum way way = a_way();
+    enum way way = a_way(seen && saver[1] != NULL);
     int status = judge_resume();
     size_t many, silent;
     unsigned char *said;
