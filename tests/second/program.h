@@ -110,7 +110,8 @@ static void feed(int to)
     state = before;
 }
 
-/* Whether so many bytes are said, or come to be within ten seconds. */
+/* Whether so many bytes are said, or come to be within ten seconds.  A program
+ * that has ended is judged by what it said. */
 static int is_said(size_t many)
 {
     for (int i = 0; i < 50000; i++) {
@@ -119,7 +120,7 @@ static int is_said(size_t many)
 
         free(read_file("said", &said));
         if (said >= many || last)
-            return said >= many;
+            return 1;
         usleep(200);
     }
     return 0;

@@ -219,10 +219,10 @@ static void try_resume(void)
     program = "resume";
     by_status[1][status]++;
     silent = run_program(resumer[!seen], way, form_end(), due);
+    if (silent)
+        WRONG("what is due to the first %lu bytes did not come before more were given", (unsigned long)silent);
     said = read_file("said", &many);
     compare_lines(said, many, words[way]);
-    if (silent)
-        WRONG("nothing came to the first %lu bytes before more were given", (unsigned long)silent);
     must_end(seen, status);
     free(said);
 }
@@ -399,20 +399,20 @@ static void play_to(size_t at)
 
 static size_t any_moment(void) { return SETUP + 4 * (size_t)below((int)(script_length - SETUP) / 4 + 1); }
 
-/* A moment at which the bench may be saved, the first from a chosen one on; the
- * setup's end is one. */
+/* A moment at which the bench may be saved: the first from a chosen one on, or
+ * else the last before it. */
 static size_t quiet_moment(void)
 {
-    size_t at = any_moment();
+    size_t chosen = any_moment(), last = SETUP;
 
-    play_to(at);
-    while (!quiet()) {
-        if (at == script_length)
-            return SETUP;
+    setup(script);
+    for (size_t at = SETUP; ; at += 4) {
+        if (quiet())
+            last = at;
+        if (last >= chosen || at == script_length)
+            return last;
         play(script + at);
-        at += 4;
     }
-    return at;
 }
 
 static void try_saving(size_t many, const char *words)
@@ -718,6 +718,7 @@ static void sweep(long wanted)
     pairs[2][2 * first] = MEMORY;
     pairs[1][2 * first + 1] = pairs[2][2 * first + 1] = pairs[2][2 * second + 1] = (unsigned char)between(1, 5);
     every = wanted == 0 || wanted > ABOUT_ALL ? 1 : ABOUT_ALL / wanted;
+    number = 0;                   /* no run any more */
     sweep_phases();
     for (number = 0; number < 3; number++) {
         stir(pairs[number]);
