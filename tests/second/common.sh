@@ -62,8 +62,8 @@ run_second() { "$work/second" <"$1" >"$2"; }
 # says to no input at all (`save` to standard error, where a build also speaks).
 start_of() {
     local said
-    said=$("$root/run" "$1" </dev/null 2>&1 | tee "$work/start.err")
-    [ "${said##*$'\n'}" = short ] || die "$(cat "$work/start.err")"$'\n'"${0##*/}: the program $1 could not be built or run"
+    said=$("$root/run" "$1" </dev/null 2>&1 | tee >(grep --line-buffered -vx short >&2))
+    [ "${said##*$'\n'}" = short ] || die "${0##*/}: the program $1 could not be built or run"
     [ -n "${tools:-}" ] || find_kit
     command=$(printf '%q ' "${under[@]}" "$root/target/bin/$1")
 }
