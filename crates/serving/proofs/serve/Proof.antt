@@ -7,8 +7,8 @@ use native.Mathlib.Omega.{arith}
 use borrow.Author.Needs.{needs}
 use lib.ListN.{length}
 use Rattle.rules.specs.Refusals.{inRange}
-use Rattle.script.proofs.serve.Statement.{statement}
-use Rattle.script.proofs.serve.Tie as tie
+use Rattle.serving.proofs.serve.Statement.{statement}
+use Rattle.serving.proofs.serve.Tie as tie
 
 abbrev Inv-loop : tie.InvT-loop
 Inv-loop mem₀ out₀ buf₀ g₀ turns₀ mem out buf g turns = (inRange (g .bus) ≡ true) × (length mem ≡ 4096) × (length buf ≡ 65536) × (length out ≡ 65536) × (g .held < 4)

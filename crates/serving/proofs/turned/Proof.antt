@@ -4,8 +4,8 @@ use native.Mathlib.Omega.{arith}
 use lib.ListN.{length-take}
 use Rattle.lines.proofs.Onward.{turn-onward}
 use borrow.Author.Needs.{needs}
-use Rattle.script.proofs.turned.Statement.{statement}
-use Rattle.script.proofs.turned.Tie as tie
+use Rattle.serving.proofs.turned.Statement.{statement}
+use Rattle.serving.proofs.turned.Tie as tie
 
 turn-requires : tie.Need-turn-requires
 turn-requires c κs = search needs

@@ -6,8 +6,8 @@ use native.Mathlib.Omega.{arith}
 use borrow.Rule.Slice.PartMut.{putMid, take-put}
 use lib.ListN.{length}
 use borrow.Author.Needs.{needs}
-use Rattle.script.proofs.read_on.Statement.{statement}
-use Rattle.script.proofs.read_on.Tie as tie
+use Rattle.serving.proofs.read_on.Statement.{statement}
+use Rattle.serving.proofs.read_on.Tie as tie
 
 sub-read : tie.Need-sub-read
 sub-read c = search needs

@@ -4,8 +4,8 @@ use native.Mathlib.Omega.{arith}
 use lib.ListN.{length-take}
 use Rattle.frame.proofs.Onward.{finish-onward}
 use borrow.Author.Needs.{needs}
-use Rattle.script.proofs.ended.Statement.{statement}
-use Rattle.script.proofs.ended.Tie as tie
+use Rattle.serving.proofs.ended.Statement.{statement}
+use Rattle.serving.proofs.ended.Tie as tie
 
 finish-requires : tie.Need-finish-requires
 finish-requires c κs = search needs

@@ -7,11 +7,11 @@ use native.Mathlib.Omega.{arith}
 use borrow.Author.Needs.{needs}
 use lib.ListN.{length}
 use Rattle.rules.specs.Refusals.{inRange}
-use Rattle.plan.specs.Program.{begun}
-use Rattle.plan.specs.Went.{ranOf, Reached}
-use Rattle.plan.proofs.Onward.{reached-none, reached-more}
-use Rattle.plan.proofs.run_records.Statement.{statement}
-use Rattle.plan.proofs.run_records.Tie as tie
+use Rattle.running.specs.Program.{begun}
+use Rattle.running.specs.Went.{ranOf, Reached}
+use Rattle.running.proofs.Onward.{reached-none, reached-more}
+use Rattle.running.proofs.run_records.Statement.{statement}
+use Rattle.running.proofs.run_records.Tie as tie
 
 abbrev Inv-loop : tie.InvT-loop
 Inv-loop mem₀ out₀ buf₀ g₀ turns₀ mem out buf g turns =

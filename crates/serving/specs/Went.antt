@@ -6,7 +6,7 @@ use mathlib.Core.Path.{_≡_}
 use mathlib.Core.List.{List}
 use lib.ListN.{take}
 use Rattle.lines.specs.Steps.{turnOf}
-use Rattle.script.specs.declared.Going.{Going}
+use Rattle.serving.specs.declared.Going.{Going}
 
 pub record Turned (g : Going) (m buf : List ℕ) (came : ℕ) (out : List ℕ) (r : Going) (stored moved written : List ℕ) : Type 0 where
   pub end : ℕ

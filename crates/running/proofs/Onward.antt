@@ -9,9 +9,9 @@ use lib.ListN.{length, take, drop, take-append-drop, length-drop}
 use lib.Seq.{length-take-le}
 use Rattle.lines.specs.Steps.{turnOf}
 use Rattle.lines.specs.Program.{Read, readInto}
-use Rattle.plan.specs.declared.Going.{Going}
-use Rattle.plan.specs.Program.{Ran, turnsLeave}
-use Rattle.plan.specs.Went.{ranOf, Went, Reached}
+use Rattle.running.specs.declared.Going.{Going}
+use Rattle.running.specs.Program.{Ran, turnsLeave}
+use Rattle.running.specs.Went.{ranOf, Went, Reached}
 
 -- the read that left a buffer
 module _ (buf read : List ℕ) (held n : ℕ) where

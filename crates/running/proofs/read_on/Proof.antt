@@ -7,9 +7,9 @@ use borrow.Author.Needs.{needs}
 use borrow.Rule.Slice.PartMut.{putMid, take-put}
 use lib.ListN.{length}
 use Rattle.lines.proofs.Onward.{turn-onward}
-use Rattle.plan.proofs.Onward.{went-by}
-use Rattle.plan.proofs.read_on.Statement.{statement}
-use Rattle.plan.proofs.read_on.Tie as tie
+use Rattle.running.proofs.Onward.{went-by}
+use Rattle.running.proofs.read_on.Statement.{statement}
+use Rattle.running.proofs.read_on.Tie as tie
 
 turn-requires : tie.Need-turn-requires
 turn-requires c κs = (c .before .before .before .before .before .before .before .before .before .before .before .before .before .before .pre .0, omega arith, omega arith, omega arith)
