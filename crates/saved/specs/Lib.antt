@@ -1,3 +1,4 @@
 pub mod Form
 pub mod Saving
 pub mod Reading
+pub mod Rested

@@ -56,7 +56,7 @@ pub fn put_word(out: &mut [u8], at: usize, v: u16) -> usize
 
 // One or none.
 fn bit(on: bool) -> u8
-    ensures { λ r. ⌜ r ≡ cond on 1 0 ⌝ }
+    ensures { λ r. ⌜ (r ≡ cond on 1 0) × (r ≤ 1) ⌝ }
 {
     if on { 1 } else { 0 }
 }
@@ -96,8 +96,9 @@ fn put_memory(s: Slot, memory: &[u8], out: &mut [u8], at: usize) -> usize
     if s.kind == 0 {
         return at;
     }
-    let n = bytes::copy(memory, &mut out[at..]);
-    at + n
+    let to = at + memory.len();
+    bytes::copy(memory, &mut out[at..to]);
+    to
 }
 
 // Its protection, half, counter and high voltage.
