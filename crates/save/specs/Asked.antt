@@ -2,9 +2,9 @@
 -- Assumes nothing.
 use Prim.Native.Nat.{ℕ, _%_}
 use mathlib.Core.Bool.{true, false, cond}
-use mathlib.Core.List.{List, []}
+use mathlib.Core.List.{List, [], _∷_}
 use lib.Dec.{eqb, ltb}
-use lib.ListN.{length, take, drop, replicate}
+use lib.ListN.{length, drop}
 use lib.Seq.{sets}
 use Rattle.lists.specs.Each.{allOf}
 use Rattle.rules.specs.declared.Answer.the-variants as answer
@@ -16,7 +16,8 @@ use Rattle.frame.specs.Frame.{badSetupLine}
 use Rattle.lines.specs.Script.{benchTo, recordsIn, begunAt}
 use Rattle.saved.specs.declared.Saved.{Saved}
 use Rattle.saved.specs.declared.Saved.the-variants.{Form, Refused}
-use Rattle.saved.specs.Saving.{saveOf}
+use Rattle.saved.specs.Form.{formOf}
+use Rattle.saved.specs.Saving.{allQuiet, saveOf}
 use Rattle.save.specs.declared.Answered.{Answered}
 
 -- what is written on standard output, and on standard error
@@ -30,20 +31,18 @@ onOutput bs = record { output = bs; errors = [] }
 abbrev pub onErrors : List ℕ → Written
 onErrors bs = record { output = []; errors = bs }
 
--- bytes of the longest form: Whole.form-fits in proofs/
+-- bytes of the longest form, that of eight slots of kind 2 (proofs/Fits.form-fits): four heads of 3, and in them 16, 4,096, 32 and 120
 abbrev pub longestForm : ℕ
 longestForm = 4276
 
--- "standard output the form, nothing else; a refusal [..] writes nothing there, a line [..] on standard error": a saving's result and its buffer
-unfoldable pub savedText : Saved → List ℕ → Written
-savedText (Form n) buffer = onOutput (take n buffer)
-savedText (Refused r) buffer = onErrors (lineOf (answer.Refused r))
+-- "saving is refused with 8": its line
+abbrev pub busyLine : List ℕ
+busyLine = 0x52 ∷ 0x38 ∷ 0x0A ∷ []
 
--- a bench, saved into a buffer that has room for every form
+-- "standard output the form, nothing else; a refusal [..] writes nothing there, a line [..] on standard error". The records leave a bench in range, with its
+-- whole memory, and the buffer has room for every form: so 8 is the only refusal
 unfoldable pub benchText : Bench → Written
-benchText x =
-    let s : Saved × List ℕ = saveOf (x .bus) (x .memory) (replicate longestForm 0) in
-    savedText (s .0) (s .1)
+benchText x = cond (allQuiet (x .bus)) (onOutput (formOf (x .bus) (x .memory))) (onErrors busyLine)
 
 -- at the input's end, where so many bytes of a record are left over: "`short` before `R8`"
 unfoldable pub endText : Bench → ℕ → Written
