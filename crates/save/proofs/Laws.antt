@@ -17,7 +17,7 @@ use Rattle.rules.specs.declared.Refusal.the-variants.{MemoryLength, WrongState,
 use Rattle.rules.specs.Refusals.{wrongLength, inRange}
 use Rattle.rules.specs.Runs.{Bench}
 use Rattle.letters.specs.Letters.{lineOf, shortLine}
-use Rattle.letters.proofs.Laws.{line-length}
+use Rattle.letters.proofs.Laws.{Put, at-front, line-length}
 use Rattle.saved.specs.declared.Saved.{Saved}
 use Rattle.saved.specs.declared.Saved.the-variants.{Form, Refused}
 use Rattle.saved.specs.Form.{formOf}
@@ -36,9 +36,11 @@ module _ (x : Bench) (left : ℕ) (out o : List ℕ) where
   answer-form n s h e f = rw (eq-eqb left 0 h, e, f)
 
   pub answer-refused : (r : Refusal) (s : Saved) (kept : List ℕ) (end : ℕ) → left ≡ 0 → saveOf (x .bus) (x .memory) out ≡ (s, kept) → s ≡ Refused r
-      → (end ≡ length (lineOf (answer.Refused r))) × (o ≡ sets kept 0 (lineOf (answer.Refused r))) → answerOf x left out ≡ (record { end = end; form = false }, o)
+      → Put kept 0 (lineOf (answer.Refused r)) end o → answerOf x left out ≡ (record { end = end; form = false }, o)
   unfolding answerOf savedAnswer
-  answer-refused r s kept end h e f p = rw (eq-eqb left 0 h, e, f, p .0, p .1)
+  answer-refused r s kept end h e f p =
+      let q = at-front kept o end (lineOf (answer.Refused r)) p in
+      rw (eq-eqb left 0 h, e, f, q .0, q .1)
 
 -- the answer lies in the output
 abbrev Lies : ℕ → Answered × List ℕ → Type 0
