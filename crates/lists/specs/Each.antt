@@ -265,3 +265,8 @@ module _ {A : Type 0} where
 
   pub anyFrom-no : (p : ℕ → A → Bool) (n : ℕ) (xs : List A) (d : A) → ((i : ℕ) → i < length xs → p (n + i) (getD xs i d) ≡ false) → anyFrom p n xs ≡ false
   anyFrom-no p n xs d h = any-first p n xs ∙ firstFrom-no p (λ i x. true) false n xs d h
+
+  -- an element that is there, whatever stands for one that is not
+  pub getD-any : (xs : List A) (k : ℕ) (d e : A) → k < length xs → getD xs k d ≡ getD xs k e
+  getD-any (x ∷ xs) zero d e h = refl
+  getD-any (x ∷ xs) (suc k) d e (suc-le-suc h) = getD-any xs k d e h

@@ -3,3 +3,5 @@ pub mod Parts
 pub mod Tests
 pub mod Stores
 pub mod Same
+pub mod Laid
+pub mod Alike

@@ -2,11 +2,11 @@
 -- Assumes nothing.
 use mathlib.Core.Path.{_≡_, refl, sym, _∙_, ap, ap₂}
 use mathlib.Core.Bool.{Bool, true, false, not}
-use mathlib.Core.List.{List, _∷_}
-use Prim.Native.Nat.{ℕ, zero, suc, _*_, _<_, suc-le-suc}
+use mathlib.Core.List.{List}
+use Prim.Native.Nat.{ℕ, _*_, _<_}
 use lib.ListN.{length, getD, take, drop, replicate}
 use borrow.Author.Tests.{not-false}
-use Rattle.lists.specs.Each.{allOf-at}
+use Rattle.lists.specs.Each.{allOf-at, getD-any}
 use Rattle.lists.specs.Parts.{part-flat}
 use Rattle.rules.specs.declared.Act.the-variants.{Tick}
 use Rattle.rules.specs.declared.Bus.{Bus}
@@ -23,10 +23,6 @@ use Rattle.planner.specs.Plan.{wrongLengths, noSuchSlot, forbidden, planEvents,
 use Rattle.planner.proofs.Given.{right-lengths, slot-there}
 use Rattle.planner.proofs.Settled.{settled-slot, settled-part}
 use Rattle.single.specs.Alone.{aloneOf}
-
-getD-any : (ss : List Slot) (k : ℕ) (d e : Slot) → k < length ss → getD ss k d ≡ getD ss k e
-getD-any (s ∷ ss) zero d e h = refl
-getD-any (s ∷ ss) (suc k) d e (suc-le-suc h) = getD-any ss k d e h
 
 pub slot-ranged : (k : SlotNo) (b : Bus) (d : Slot) → noSuchSlot k b ≡ false → inRange b ≡ true → slotInRange (getD (b .slots) (k .0) d) ≡ true
 unfolding inRange

@@ -1,5 +1,6 @@
 -- What holds after any run from setup: what a slot can be, and how its bytes and its protection came to change.
 pub mod Reached
 pub mod Together
+pub mod Plain
 pub mod Story
 pub mod History

@@ -4,15 +4,16 @@ use Prim.Native.Nat.{ℕ, zero, suc, _+_, _≤_, _<_}
 use native.Mathlib.Omega.{arith}
 use mathlib.Core.Path.{_≡_, refl, sym, _∙_, ap, ap₂}
 use mathlib.Core.Bool.{Bool, true, false, cond}
-use mathlib.Core.List.{List, [], _∷_, map, _++_}
+use mathlib.Core.List.{List, map, _++_}
 use lib.Dec.{eqb}
 use lib.ListN.{length, getD, take, drop, getD-replicate, length-map, List·getD-map}
 use lib.Seq.{ext-getD, take-append-seam}
 use borrow.Author.Tests.{eq-eqb, le-ltb}
-use Rattle.lists.specs.Each.{allOf, allOf-at, every-at}
+use Rattle.lists.specs.Alike.{allOf-map}
+use Rattle.lists.specs.Each.{allOf-at, every-at}
 use Rattle.lists.specs.Parts.{part}
 use Rattle.lists.specs.Same.{same, same-refl}
-use Rattle.lists.specs.Tests.{by-test, and-left, and-right, both}
+use Rattle.lists.specs.Tests.{by-test, both}
 use Rattle.rules.specs.declared.Answer.the-variants as answer
 use Rattle.rules.specs.declared.Bus.{Bus}
 use Rattle.rules.specs.declared.Slot.{Slot}
@@ -38,16 +39,9 @@ rested-absent = refl
 pub rested-at : (ss : List Slot) (k : ℕ) → getD (map rested ss) k absentSlot ≡ rested (getD ss k absentSlot)
 rested-at ss k = ap (getD (map rested ss) k) (sym rested-absent) ∙ List·getD-map rested ss k absentSlot
 
-all-rested : (ss : List Slot) → allOf slotInRange ss ≡ true → allOf slotInRange (map rested ss) ≡ true
-unfolding allOf
-all-rested [] h = refl
-all-rested (s ∷ ss) h =
-    both (slotInRange (rested s)) (allOf slotInRange (map rested ss)) (test (rested s) (rested-in-range s (facts s (and-left (slotInRange s) (allOf slotInRange ss) h))))
-    (all-rested ss (and-right (slotInRange s) (allOf slotInRange ss) h))
-
 rested-bus-in-range : (b : Bus) → inRange b ≡ true → inRange (restedBus b) ≡ true
 unfolding inRange restedBus
-rested-bus-in-range b h = all-rested (b .slots) h
+rested-bus-in-range b h = allOf-map rested slotInRange slotInRange (λ s r. test (rested s) (rested-in-range s (facts s r))) (b .slots) h
 
 module _ (b : Bus) (m : List ℕ) (typed : Typed b) (ranged : inRange b ≡ true) (sized : length m ≡ memoryBytes) where
   abbrev ss : List Slot

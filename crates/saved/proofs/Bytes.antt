@@ -9,6 +9,7 @@ use lib.Dec.{eqb}
 use lib.ListN.{length, getD, take, drop, length-take, length-drop}
 use lib.Seq.{length-sets}
 use borrow.Author.Tests.{eqb-true, eqb-false}
+use Rattle.lists.specs.Laid.{part-laid, part-beside}
 use Rattle.lists.specs.Tests.{cond-cases, by-test}
 use Rattle.lists.specs.Parts.{part}
 use Rattle.rules.specs.declared.Slot.{Slot}
@@ -17,7 +18,6 @@ use Rattle.rules.specs.Fresh.{absentSlot}
 use Rattle.saved.specs.Form.{memoryField, fields, fieldCount, fieldAt}
 use Rattle.saved.specs.Reading.{sizeIn, begins, place, memoryRow, storedTo, memoryIn, busIn}
 use Rattle.saved.proofs.Places.{share-within}
-use Rattle.saved.proofs.Laid.{part-laid, part-beside}
 
 module _ (f : List ℕ) (ss : List Slot) (m : List ℕ) where
   -- slot k's bytes in the form

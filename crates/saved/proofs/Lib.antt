@@ -1,8 +1,11 @@
 pub mod Places
 pub mod Bits
-pub mod Laid
 pub mod Stages
 pub mod Bytes
 pub mod Back
 pub mod Once
-pub mod Plain
+pub mod OneForm
+pub mod Clerks
+pub mod Onward
+pub mod Departures
+pub mod Sample

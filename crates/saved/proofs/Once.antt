@@ -1,8 +1,8 @@
 -- Request P5: "every form that is accepted is the one the writer would give".
 -- Assumes nothing.
-use Prim.Native.Nat.{ℕ, zero, suc, _≤_, _<_}
-use mathlib.Core.Path.{_≡_, refl, sym, _∙_, ap, ap₂}
-use mathlib.Core.Bool.{Bool, true, false, cond, _&&_, _||_, or-true}
+use Prim.Native.Nat.{ℕ, zero, suc, _≤_}
+use mathlib.Core.Path.{_≡_, refl, sym, _∙_, ap}
+use mathlib.Core.Bool.{true, or-true}
 use mathlib.Core.List.{List, [], _∷_, map, _++_}
 use lib.Dec.{eqb}
 use lib.ListN.{length, getD, drop}
@@ -16,9 +16,8 @@ use Rattle.rules.specs.Open.{open-fields}
 use Rattle.rules.specs.Fresh.{freshSlot, setupSlot, absentSlot, atRest}
 use Rattle.rules.specs.Refusals.{inRange}
 use Rattle.rules.specs.Runs.{Bench}
-use Rattle.records.specs.Records.{pairAt}
 use Rattle.saved.specs.declared.Saved.the-variants.{Form}
-use Rattle.saved.specs.Form.{bitsIn, setupField, memoryField, stateFrom, stateField, sensorFrom, sensorField, fields, fieldCount, fieldAt, formOf}
+use Rattle.saved.specs.Form.{setupField, memoryField, stateFrom, stateField, sensorField, fields, fieldCount, fieldAt, formOf}
 use Rattle.saved.specs.Saving.{isIdle, quiet, allQuiet, saveOf}
 use Rattle.saved.specs.Reading.{begins, place, readField, readTo, busIn, memoryIn, restored, accepted}
 use Rattle.saved.specs.Rested.{rested, restedBus, Typed}

@@ -37,15 +37,15 @@ stage (suc (suc (suc zero))) s =
 stage (suc (suc (suc (suc t)))) s = rested s
 
 -- a slot in range: its registers 08h and 09h fit in a byte, and an absent one has no length
-resolution-small : (x : Sensor) → sensorInRange x ≡ true → x .resolution ≤ 3
+pub resolution-small : (x : Sensor) → sensorInRange x ≡ true → x .resolution ≤ 3
 unfolding sensorInRange
 resolution-small x e = kept-small resolutionBits (x .resolution) (search (and-left, and-right) depth 9)
 
-timeout-small : (x : Sensor) → sensorInRange x ≡ true → x .timeout ≤ 1
+pub timeout-small : (x : Sensor) → sensorInRange x ≡ true → x .timeout ≤ 1
 unfolding sensorInRange
 timeout-small x e = kept-small timeoutBits (x .timeout) (search (and-left, and-right) depth 9)
 
-length-zero : (s : Slot) → InRange s → absent s ≡ true → s .length ≡ 0
+pub length-zero : (s : Slot) → InRange s → absent s ≡ true → s .length ≡ 0
 unfolding absent
 length-zero s v a = eqb-true (s .length) 0 (rw a at (v .lengths))
 

@@ -1,17 +1,18 @@
 -- Two more things that hold of every slot after any run from setup: its protection speaks of four blocks, and without a sensor its registers are fresh.
 -- The first is kept by every act, the second by every event: a temperature for a slot without a sensor is refused by row 3.
 -- Assumes nothing.
-use Prim.Native.Nat.{ℕ, zero, suc, _≤_, _<_, suc-le-suc}
+use Prim.Native.Nat.{ℕ, suc, _≤_, _<_}
 use native.Mathlib.Omega.{arith}
 use native.Mathlib.Nat.{zero-add, le-antisymm}
 use mathlib.Core.Path.{_≡_, refl, sym, _∙_, ap, subst}
-use mathlib.Core.Bool.{Bool, true, false, false≢true, not, cond, _&&_, _||_}
-use mathlib.Core.List.{List, [], _∷_, map}
-use lib.Dec.{eqb, leb, ltb}
-use lib.ListN.{length, getD, set, length-set, List·getD-map}
+use mathlib.Core.Bool.{Bool, true, false, false≢true, not, _&&_, _||_}
+use mathlib.Core.List.{List, [], _∷_}
+use lib.Dec.{eqb, ltb}
+use lib.ListN.{length, getD, length-set, List·getD-map}
 use borrow.Author.Tests.{not-false, eqb-true, eqb-false, eq-eqb, ltb-false}
+use Rattle.lists.specs.Alike.{every-from}
 use Rattle.lists.specs.Each.{Every, every-at, mapFrom, length-mapFrom, mapFrom-at}
-use Rattle.lists.specs.Tests.{cond-cases, by-test, and-left, and-right, or-left-false, or-right-false}
+use Rattle.lists.specs.Tests.{cond-cases, by-test, and-right, or-left-false, or-right-false}
 use Rattle.rules.specs.declared.Act.{Act}
 use Rattle.rules.specs.declared.Act.the-variants.{Start, Byte, Read, Stop, Timeout, Tick, Voltage, Power, Temperature}
 use Rattle.rules.specs.declared.Bus.{Bus}
@@ -24,7 +25,6 @@ use Rattle.rules.specs.declared.Phase.the-variants.{Idle, Control, Deaf, Memory
 use Rattle.rules.specs.declared.Ruling.{Ruling}
 use Rattle.rules.specs.declared.Ruling.the-variants.{Taken, Refused}
 use Rattle.rules.specs.declared.Slot.{Slot}
-use Rattle.rules.specs.declared.SlotNo.{SlotNo}
 use Rattle.rules.specs.Modelled.{absent, sensing}
 use Rattle.rules.specs.Open.{open-fields, open-memory}
 use Rattle.rules.specs.Events.{actOf}
@@ -36,8 +36,8 @@ use Rattle.rules.specs.Slot.{withSensorIn, commanding, taking, standing, letGo,
 use Rattle.rules.specs.Bus.{busNext}
 use Rattle.rules.specs.Refusals.{unknownKind, kindsOf, kindAt, wrongSlot, setupOf}
 use Rattle.rules.specs.Runs.{Bench, taken, rulingOn, ruledNext, next, after}
-use Rattle.rules.proofs.Range.Judged.{Judged, row-1, row-6, row-2, row-3, row-4, no-row, judged}
-use Rattle.rules.proofs.Memory.Protection.{Decided, asBefore, asStands, byProtect, byClear, protection-next, coming-next, kind-next, number-taken}
+use Rattle.rules.proofs.Range.Judged.{Judged, no-row, judged}
+use Rattle.rules.proofs.Memory.Protection.{Decided, asBefore, asStands, byProtect, byClear, protection-next, coming-next, kind-next}
 use Rattle.rules.proofs.Memory.Stored.{finishes}
 use Rattle.rules.proofs.Run.Cases.{next-cases}
 use Rattle.rules.proofs.Run.Everywhere.{Everywhere, after-everywhere, setup-everywhere}
@@ -212,11 +212,6 @@ unfolding kindsOf absentSlot freshSlot
 kind-of b k = List·getD-map (λ (s : Slot). s .kind) (b .slots) k absentSlot
 
 -- so every event keeps it
-module _ {A : Type 0} (P : A → Type 0) (d : A) where
-  every-from : (xs : List A) → ((k : ℕ) → k < length xs → P (getD xs k d)) → Every P xs
-  every-from [] h = tt
-  every-from (x ∷ xs) h = (h 0 (omega arith), every-from xs (λ k l. h (suc k) (suc-le-suc l)))
-
 taken-plain : (e : Event) (x : Bench) → unknownKind e ≡ false → wrongSlot (kindAt (kindsOf (x .bus)) (e .slot)) e ≡ false → Everywhere Plain x → Everywhere Plain (taken (actOf e) x)
 unfolding taken busNext
 taken-plain e x u w h =

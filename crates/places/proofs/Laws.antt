@@ -1,0 +1,57 @@
+-- Laws of places: one share and one field more, and how far they reach.
+-- Assumes nothing.
+use mathlib.Core.Path.{_≡_, refl}
+use mathlib.Core.List.{List}
+use Prim.Native.Nat.{ℕ, zero, suc, _+_, _*_, _≤_, _<_}
+use native.Mathlib.Numerals.{add-one}
+use native.Mathlib.Omega.{arith}
+use lib.Dec.{eqb}
+use lib.ListN.{length, getD}
+use Rattle.lists.specs.Each.{getD-any}
+use Rattle.lists.specs.Tests.{cond-cases}
+use Rattle.rules.specs.declared.Slot.{Slot}
+use Rattle.rules.specs.Modelled.{slotCount, slotBytes}
+use Rattle.rules.specs.Fresh.{absentSlot}
+use Rattle.saved.specs.Form.{fieldAt, fields, setupField, memoryField, stateField, sensorField}
+use Rattle.saved.specs.Reading.{sizeIn, offset, begins}
+
+-- a slot has at most its 512 bytes in a field
+pub size-small : (t kind : ℕ) → fieldAt t .size kind ≤ slotBytes
+unfolding fieldAt fields setupField memoryField stateField sensorField
+size-small zero kind = omega arith
+size-small (suc zero) kind = cond-cases (λ (n : ℕ). n ≤ slotBytes) (eqb kind 0) (λ e. omega arith) (λ e. omega arith)
+size-small (suc (suc zero)) kind = cond-cases (λ (n : ℕ). n ≤ slotBytes) (eqb kind 0) (λ e. omega arith) (λ e. omega arith)
+size-small (suc (suc (suc zero))) kind = cond-cases (λ (n : ℕ). n ≤ slotBytes) (eqb kind 2) (λ e. omega arith) (λ e. omega arith)
+size-small (suc (suc (suc (suc t)))) kind = omega arith
+
+pub size-fits : (t kind n : ℕ) → n ≡ fieldAt t .size kind → n ≤ slotBytes
+size-fits t kind n e = rw e (size-small t kind)
+
+pub offset-small : (t k : ℕ) (ss : List Slot) → offset t k ss ≤ slotBytes * k
+unfolding offset sizeIn
+offset-small t zero ss = omega arith
+offset-small t (suc k) ss = omega (arith, offset-small t k ss, size-small t ((getD ss k absentSlot) .kind))
+
+pub begins-small : (t : ℕ) (ss : List Slot) → begins t ss ≤ 4099 * t
+unfolding begins
+begins-small zero ss = omega arith
+begins-small (suc t) ss = omega (arith, begins-small t ss, offset-small t slotCount ss)
+
+-- one slot more, and one field more
+pub offset-none : (t : ℕ) (ss : List Slot) → 0 ≡ offset t 0 ss
+unfolding offset
+offset-none t ss = refl
+
+-- (the slot is there, whatever would stand for one that is not)
+pub offset-step : (t k n size : ℕ) (ss : List Slot) (d : Slot) → k < length ss → n ≡ offset t k ss → size ≡ fieldAt t .size ((getD ss k d) .kind)
+    → n + size ≡ offset t (k + 1) ss
+unfolding offset sizeIn
+offset-step t k n size ss d h e f = rw (e, f, getD-any ss k d absentSlot h, add-one)
+
+pub begins-none : (ss : List Slot) → 0 ≡ begins 0 ss
+unfolding begins
+begins-none ss = refl
+
+pub begins-step : (t at n : ℕ) (ss : List Slot) → at ≡ begins t ss → n ≡ offset t slotCount ss → at + 3 + n ≡ begins (t + 1) ss
+unfolding begins
+begins-step t at n ss e f = rw (e, f, add-one)
