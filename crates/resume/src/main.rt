@@ -3,7 +3,7 @@
 // The status that a result has, the script `run` gives it.
 ghost use mathlib.Core.Path.{_≡_};
 ghost use mathlib.Core.Bool.{true, false};
-ghost use Prim.Native.Nat.{_≤_};
+ghost use Prim.Native.Nat.{_+_, _*_, _≤_};
 ghost use lib.ListN.{length};
 ghost use Rattle.rules.specs.Modelled.{memoryBytes};
 ghost use Rattle.rules.specs.Refusals.{inRange, emptyBus};
@@ -18,19 +18,19 @@ use rules::Refusal;
 // The most bytes that a form's length may say.
 const MOST: usize = 65535;
 
-// A byte as a number to reckon with.
-fn wide(b: u8) -> usize
-    ensures { λ r. ⌜ r ≡ b ⌝ }
+// A number of four bytes, the highest first.
+fn number(a: u8, b: u8, c: u8, d: u8) -> usize
+    ensures { λ r. ⌜ r ≡ 16777216 * a + 65536 * b + 256 * c + d ⌝ }
 {
-    b as usize
+    16777216 * (a as usize) + 65536 * (b as usize) + 256 * (c as usize) + (d as usize)
 }
 
-// The length that four bytes say, the high byte first.
+// The length that the first four bytes say.
 fn form_bytes(head: &[u8]) -> usize
     requires { ⌜ 4 ≤ length (now head) ⌝ }
     ensures { λ r. ⌜ r ≡ formBytes (now (head .entry)) ⌝ }
 {
-    16777216 * wide(head[0]) + 65536 * wide(head[1]) + 256 * wide(head[2]) + wide(head[3])
+    number(head[0], head[1], head[2], head[3])
 }
 
 // How many bytes are to be read as the form: none where its length is cut or too large.
