@@ -43,19 +43,27 @@ fn count_of(digits: &[u8]) -> Count {
     Count::Of(value)
 }
 
+// Where a line's text ends: before its line's end, if it has one.
+fn end_of(line: &[u8]) -> usize
+    ensures { λ r. ⌜ r ≤ length (now (line .entry)) ⌝ }
+{
+    let n = line.len();
+    if n == 0 {
+        return 0;
+    }
+    if line[n - 1] == b'\n' {
+        return n - 1;
+    }
+    n
+}
+
 // The count on a line: a letter and a blank stand before it.
 fn asked(line: &[u8]) -> Count {
-    if line.len() < 3 {
+    let end = end_of(line);
+    if end < 3 {
         return Count::Wrong;
     }
     if line[1] != b' ' {
-        return Count::Wrong;
-    }
-    let mut end = line.len();
-    if line[end - 1] == b'\n' {
-        end -= 1;
-    }
-    if end < 2 {
         return Count::Wrong;
     }
     count_of(&line[2..end])
@@ -121,7 +129,7 @@ fn run(letter: u8, count: u64) -> u8 {
 // The laps run, and `done`, or that they were not all run.
 fn serve(letter: u8, count: u64) {
     let last = run(letter, count);
-    if last == ((count + 255) % 256) as u8 {
+    if last == ((count % 256 + 255) % 256) as u8 {
         io::write_all(STDOUT_FILENO, b"done\n");
     } else {
         io::write_all(STDERR_FILENO, b"laps: a lap was lost\n");
