@@ -146,5 +146,8 @@ fn main() {
             return;
         }
     }
-    io::write_all(STDERR_FILENO, b"laps: say s, r or c, a blank and a count, as in: s 1000\n");
+    io::write_all(
+        STDERR_FILENO,
+        b"laps: say s, r or c, a blank and a count, as in: s 1000\n",
+    );
 }

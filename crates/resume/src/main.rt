@@ -52,7 +52,11 @@ fn stopped(end: usize) -> Begun
     ensures { λ r. ⌜ r ≡ record { bus = emptyBus; end = end; on = false } ⌝ }
 {
     let bus = fresh::empty_bus();
-    Begun { bus, end, on: false }
+    Begun {
+        bus,
+        end,
+        on: false,
+    }
 }
 
 // The beginning, from the bytes that were read as the form's length and as the form: memory as it starts, and then as the form restores it; `short`, `R10` or
