@@ -1,6 +1,7 @@
 /*
  * Chance that is the same for the same seed (splitmix for the seed, then
- * xorshift).  Included by generate.c, replan.c and recapture.c.
+ * xorshift).  Included by generate.c, replan.c, recapture.c and
+ * resave.c.
  */
 static unsigned long long state;
 

@@ -1,6 +1,6 @@
 # shellcheck shell=bash
-# Shared by compare, fuzz, faults, replan, wrongplans, recapture and
-# wrongcaptures; sourced, not run.
+# Shared by compare, fuzz, faults, replan, wrongplans, recapture, wrongcaptures,
+# resave and wrongforms; sourced, not run.
 #
 # Finds the repository root (two folders up), builds the C programs (build.sh)
 # into a temporary folder that goes away at the end, and runs the two programs.
@@ -59,9 +59,11 @@ run_second() { "$work/second" <"$1" >"$2"; }
 
 # start_of PROGRAM: leaves in `command` its command line without ./run in front;
 # a start then takes a few milliseconds. `short` is what every program here
-# says to no input at all.
+# says to no input at all (`save` to standard error, where a build also speaks).
 start_of() {
-    [ "$("$root/run" "$1" </dev/null)" = short ] || die "${0##*/}: the program $1 could not be built or run"
+    local said
+    said=$("$root/run" "$1" </dev/null 2>&1 | tee >(grep --line-buffered -vx short >&2))
+    [ "${said##*$'\n'}" = short ] || die "${0##*/}: the program $1 could not be built or run"
     [ -n "${tools:-}" ] || find_kit
     command=$(printf '%q ' "${under[@]}" "$root/target/bin/$1")
 }

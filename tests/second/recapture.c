@@ -8,7 +8,7 @@
  *       with the second opinion's answers, and of it some sixteen captures,
  *       which the command line SEEN checks.  UNSEEN is the same program
  *       without a status of its own: most captures then go to that.  A fault
- *       is told in a sentence, with status 1; DIR/capture and DIR/said are
+ *       is told in a sentence, with status 1; DIR/input and DIR/said are
  *       what the program was given and what it said.  Else one line sums up.
  *
  *   recapture take SCRIPT CAPTURE
@@ -17,12 +17,7 @@
  */
 #include "capture.h"
 #include "chance.h"
-#include <fcntl.h>
-#include <sched.h>
-#include <signal.h>
-#include <sys/ioctl.h>
-#include <sys/wait.h>
-#include <unistd.h>
+#include "program.h"
 
 enum { NONE = -1, SEEN_OF = 41 };  /* one in so many goes to SEEN */
 
@@ -31,9 +26,7 @@ enum { NONE = -1, SEEN_OF = 41 };  /* one in so many goes to SEEN */
 static unsigned char *run;        /* it agrees, up to the first refused record */
 static int total;                 /* its records */
 static int refused;               /* the first refused record; `total` if none */
-static unsigned char *capture;    /* the capture in hand: the run, or a changed one */
-static size_t length;             /* of the capture in hand */
-static char what[200];            /* it is, in words */
+static char what[200];            /* the capture in hand, `input`, is, in words: the run, or a changed one */
 
 static unsigned char *record_of(unsigned char *bytes, int n) { return bytes + HEAD + RECORD * (size_t)n; }
 
@@ -66,9 +59,7 @@ static void take_run(const unsigned char *script, size_t script_length, const un
     size_t room = HEAD + RECORD * (script_length / 4);
 
     free(run);
-    free(capture);
     run = malloc(room);
-    capture = malloc(room);
     memcpy(run, script, SETUP);
     memcpy(run + SETUP, start, sizeof memory);
     setup(run);
@@ -96,7 +87,7 @@ static void take_run(const unsigned char *script, size_t script_length, const un
 static void begin(const char *words)
 {
     length = HEAD + RECORD * (size_t)total;
-    memcpy(capture, run, length);
+    memcpy(input, run, length);
     snprintf(what, sizeof what, "%s", words);
 }
 
@@ -123,15 +114,15 @@ static int judge(char line[40])
     strcpy(line, "short");        /* unless there is something else to say */
     if (length < SETUP)
         return 2;
-    if (!setup(capture)) {
+    if (!setup(input)) {
         strcpy(line, "R5");
         return 2;
     }
     if (length < HEAD)
         return 2;
-    memcpy(memory, capture + SETUP, sizeof memory);
+    memcpy(memory, input + SETUP, sizeof memory);
     for (size_t n = 0; HEAD + RECORD * (n + 1) <= length; n++) {
-        const unsigned char *r = capture + HEAD + RECORD * n;
+        const unsigned char *r = input + HEAD + RECORD * n;
         const char *model = play(r);
         int end = (int)strcspn(model, "\n");
         char captured[5];
@@ -148,109 +139,15 @@ static int judge(char line[40])
     return 0;
 }
 
-/* ---- The program that is tried ------------------------------------------- */
+/* ---- Trying the capture in hand ------------------------------------------- */
 
-static const char *folder, *seen, *unseen;
+static const char *seen, *unseen;
 static int number;                /* of the run in hand */
 static long captures, by_status[3];
-static pid_t child;               /* 0 when it has ended */
-static int ended;                 /* how */
 
 #define WRONG(...) \
     (printf("recapture: capture %ld, run %d, %s: ", captures, number, what), \
      printf(__VA_ARGS__), putchar('\n'), exit(1))
-
-static void die(const char *words)
-{
-    perror(words);
-    exit(2);
-}
-
-static const char *path(const char *name)
-{
-    static char text[4096];
-
-    snprintf(text, sizeof text, "%s/%s", folder, name);
-    return text;
-}
-
-static FILE *open_file(const char *name, const char *how)
-{
-    FILE *f = fopen(path(name), how);
-
-    if (f == NULL)
-        die(path(name));
-    return f;
-}
-
-/* Starts the command line on this input; `other` is not for it. */
-static void start_program(const char *command, int in, int other)
-{
-    char *words[] = { "sh", "-c", (char *)command, NULL };
-
-    child = fork();
-    if (child < 0)
-        die("fork");
-    if (child > 0) {
-        close(in);
-        return;
-    }
-    signal(SIGPIPE, SIG_DFL);
-    dup2(in, 0);
-    dup2(creat(path("said"), 0666), 1);
-    close(in);
-    close(other);
-    execvp(words[0], words);
-    _exit(127);
-}
-
-static int has_ended(int flags)
-{
-    if (child != 0 && waitpid(child, &ended, flags) == child)
-        child = 0;
-    return child == 0;
-}
-
-/* Gives the capture in odd pieces, each when the one before has been taken.
- * How many pieces are taken must not change the captures that follow. */
-static void feed(int to)
-{
-    unsigned long long before = state;
-    int left;
-
-    for (size_t at = 0, many; at < length; at += many) {
-        many = 1 + (size_t)below(one_in(2) ? 13 : 1 + (int)length / 8);
-        if (many > length - at)
-            many = length - at;
-        if (write(to, capture + at, many) < 0)
-            break;                /* it has seen enough, and has ended */
-        while (ioctl(to, FIONREAD, &left) == 0 && left > 0 && !has_ended(WNOHANG))
-            sched_yield();
-    }
-    state = before;
-    close(to);
-}
-
-static void run_program(const char *command, int in_pieces)
-{
-    FILE *f = open_file("capture", "wb");
-    int pipes[2];
-
-    fwrite(capture, 1, length, f);
-    fclose(f);
-    if (in_pieces) {
-        if (pipe(pipes) != 0)
-            die("pipe");
-        start_program(command, pipes[0], pipes[1]);
-        feed(pipes[1]);
-    } else {
-        int in = open(path("capture"), O_RDONLY);
-        if (in < 0)
-            die(path("capture"));
-        start_program(command, in, -1);
-    }
-    has_ended(0);
-}
 
 /* Has the capture in hand checked.  `named` is the record that must be named
  * by what was done to the run: `total` for none, NONE where that is left to
@@ -258,23 +155,20 @@ static void run_program(const char *command, int in_pieces)
 static void try(int named)
 {
     int is_seen = ++captures % SEEN_OF == 0 || unseen == NULL;
-    int in_pieces = one_in(3);
+    enum way way = one_in(3) ? IN_PIECES : AS_FILE;
     char want[40];
     int status = judge(want);
     size_t said_length, first_line;
     char *said;
-    FILE *f;
 
     by_status[status]++;
     if (named != NONE && (named == total ? status != 0 : status != 1 || strtol(want, NULL, 10) != named))
         WRONG("record %d was to be named, and this test itself says \"%s\"", named, want);
-    run_program(is_seen ? seen : unseen, in_pieces);
-    f = open_file("said", "rb");
-    said = (char *)whole(f, &said_length);
-    fclose(f);
+    run_program(is_seen ? seen : unseen, way, 0, NULL);
+    said = (char *)read_file("said", &said_length);
     first_line = strcspn(said, "\n");
     if (first_line != strlen(want) || memcmp(said, want, first_line) != 0)
-        WRONG("\"%s\" was to be said, not \"%.*s\"%s", want, (int)first_line, said, in_pieces ? ", read in pieces" : "");
+        WRONG("\"%s\" was to be said, not \"%.*s\"%s", want, (int)first_line, said, way == IN_PIECES ? ", read in pieces" : "");
     if (said_length != first_line + 1)
         WRONG("\"%s\" was to be said as a line, and nothing else", want);
     if (WIFSIGNALED(ended))
@@ -320,7 +214,7 @@ static int suits(int way, int code)
 static int change(int at, int way)
 {
     for (int i = 0; i < total; i++, at = (at + 1) % total) {
-        unsigned char *r = record_of(capture, at);
+        unsigned char *r = record_of(input, at);
         size_t said = strlen(what);
 
         if (!suits(way, r[4]))
@@ -387,7 +281,7 @@ static void try_bad_setup(void)
 {
     static const int kinds[] = { 3, 3, 4, 128, 255 };
     static const int lengths[] = { 0, 0, 6, 6, 255 };
-    unsigned char *pair = capture + 2 * below(SLOTS);
+    unsigned char *pair = input + 2 * below(SLOTS);
 
     begin("a bad setup");
     if (one_in(2)) {
@@ -436,12 +330,9 @@ static void one_run(void)
     size_t script_length;
     unsigned char *script;
     int from = 0;                 /* all refused records are taken */
-    FILE *f;
 
     snprintf(name, sizeof name, "%d.script", number);
-    f = open_file(name, "rb");
-    script = whole(f, &script_length);
-    fclose(f);
+    script = read_file(name, &script_length);
     if (number % 2 == 0)
         from = (int)script_length;        /* none */
     else if (number % 4 == 3)

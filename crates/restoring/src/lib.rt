@@ -6,7 +6,7 @@ ghost use lib.ListN.{length};
 ghost use Rattle.lists.specs.Same.{stands};
 ghost use Rattle.rules.specs.Modelled.{slotCount, memoryBytes};
 ghost use Rattle.saved.specs.Form.{wordOf, fieldCount, fieldAt};
-ghost use Rattle.saved.specs.Reading.{sizeIn, offset, begins, place, readField, readTo, storedTo, restoreOf};
+ghost use Rattle.saved.specs.Reading.{sizeIn, offset, begins, readField, busIn, storedTo, restoreOf};
 ghost use Rattle.restoring.specs.Tallied.{shareTallies, sharesTally, fieldTallies, tallies};
 use rules::Answer;
 use rules::Bus;
@@ -22,7 +22,7 @@ fn read_field(t: usize, form: &[u8], slots: [Slot; 8]) -> [Slot; 8]
     let mut at = places::begins(t, slots) + 3;
     let mut all = slots;
     for i in 0..8usize {
-        let s = all[i];
+        let s = slots[i];
         let next = shares::read(t, form, at, s);
         all[i] = next;
         at += shares::size(t, s.kind);
@@ -30,16 +30,25 @@ fn read_field(t: usize, form: &[u8], slots: [Slot; 8]) -> [Slot; 8]
     all
 }
 
-// The slots that a form tells of, whether or not it may be accepted; a byte that is missing counts as 0.
-fn read_form(form: &[u8]) -> [Slot; 8]
-    ensures { λ r. ⌜ r ≡ readTo fieldCount (now (form .entry)) ⌝ }
+// The same of a bus.
+fn read_row(t: usize, form: &[u8], bus: Bus) -> Bus
+    requires { ⌜ t < 4 ⌝ }
+    ensures { λ r. ⌜ r ≡ record { slots = readField t (now (form .entry)) (bus .slots) } ⌝ }
 {
-    let none = Slot::fresh(0, 0);
-    let mut all = [none; 8];
+    let old = bus.slots;
+    let slots = read_field(t, form, old);
+    Bus { slots }
+}
+
+// The bus that a form tells of, whether or not it may be accepted; a byte that is missing counts as 0.
+fn read_form(form: &[u8]) -> Bus
+    ensures { λ r. ⌜ r ≡ busIn (now (form .entry)) ⌝ }
+{
+    let mut bus = fresh::empty_bus();
     for t in 0..4usize {
-        all = read_field(t, form, all);
+        bus = read_row(t, form, bus);
     }
-    all
+    bus
 }
 
 // Whether some bytes stand at a place of a form.
@@ -146,14 +155,15 @@ pub fn restore(bus: Bus, memory: &mut [u8], form: &[u8]) -> Outcome
     if memory.len() != Bus::MEMORY {
         return refused(bus, Refusal::MemoryLength);
     }
-    let slots = read_form(form);
+    let read = read_form(form);
+    let slots = read.slots;
     let good = ranges::in_range(slots) & tallies(slots, form);
     if !good {
         return refused(bus, Refusal::WrongForm);
     }
     store(slots, form, memory);
     Outcome {
-        bus: Bus { slots },
+        bus: read,
         answer: Answer::Nothing,
     }
 }

@@ -59,7 +59,7 @@ module _ (f : List ℕ) (ss : List Slot) (m : List ℕ) where
         (λ a. part-beside slotBytes n (storedTo n f ss m) (bytesAt n) (w n l a) (rw (length-stored n) (omega arith)) j (eqb-false j n e) ∙ before))
 
 -- a form that is as long as its slots' kinds say has the bytes of every present slot
-whole-in : (f : List ℕ) (ss : List Slot) (k : ℕ) → begins fieldCount ss ≤ length f → k < slotCount → absent (getD ss k absentSlot) ≡ false
+pub whole-in : (f : List ℕ) (ss : List Slot) (k : ℕ) → begins fieldCount ss ≤ length f → k < slotCount → absent (getD ss k absentSlot) ≡ false
     → length (take slotBytes (drop (place memoryRow k ss) f)) ≡ slotBytes
 whole-in f ss k h l a =
     let w : place memoryRow k ss + sizeIn memoryRow (getD ss k absentSlot) ≤ begins fieldCount ss = share-within ss memoryRow k (omega arith) l in

@@ -1,3 +1,4 @@
+pub mod AllBytes
 pub mod Places
 pub mod Bits
 pub mod Stages
@@ -8,4 +9,3 @@ pub mod OneForm
 pub mod Clerks
 pub mod Onward
 pub mod Departures
-pub mod Sample

@@ -5,6 +5,7 @@ typedef struct file FILE;
 extern FILE *stdin, *stdout, *stderr;
 FILE *fopen(const char *, const char *);
 int fclose(FILE *);
+int fflush(FILE *);
 int fseek(FILE *, long, int);
 long ftell(FILE *);
 void rewind(FILE *);

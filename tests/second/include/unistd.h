@@ -9,3 +9,4 @@ int dup2(int, int);
 int close(int);
 long read(int, void *, size_t);
 long write(int, const void *, size_t);
+int usleep(unsigned);

@@ -1,0 +1,224 @@
+/*
+ * A saved form, and the ways in which it is damaged.  Included by resave.c,
+ * after forms.h and chance.h.
+ */
+/* ---- A form, and its fields ----------------------------------------------------- */
+
+enum { FIELDS = 4 };
+
+static unsigned char good[MOST];  /* the form that was saved */
+static size_t good_length;
+static unsigned char bad[1 << 16];         /* the same, damaged */
+static size_t bad_length;
+
+static void keep_form(void)
+{
+    write_form();
+    memcpy(good, form, form_length);
+    good_length = form_length;
+}
+
+static char what[200];            /* is tried, in words */
+
+static void say_what(const char *words) { snprintf(what, sizeof what, "%s", words); }
+
+static void begin(const char *words)
+{
+    memcpy(bad, good, good_length);
+    bad_length = good_length;
+    say_what(words);
+}
+
+/* Where a field of the good form begins; of the one behind the last, the end. */
+static size_t field_at(int which)
+{
+    size_t at = 0;
+
+    while (which-- > 0)
+        at += HEAD + (size_t)word_at(good + at + 1);
+    return at;
+}
+
+static size_t field_length(int which) { return field_at(which + 1) - field_at(which) - HEAD; }
+
+/* A byte that is not in the memory. */
+static size_t place_outside_memory(void)
+{
+    size_t stored = field_at(1) + HEAD;
+    size_t at = (size_t)below((int)(good_length - field_length(1)));
+
+    return at < stored ? at : at + field_length(1);
+}
+
+/* Another byte: the least, the greatest, those beside it, the one that differs
+ * in the highest bit alone, or any. */
+static unsigned char other_than(unsigned char byte)
+{
+    int bytes[] = { 0x00, 0xFF, byte + 1, byte - 1, byte ^ 0x80, below(256) };
+    unsigned char other = (unsigned char)ONE_OF(bytes);
+
+    return other != byte ? other : byte ^ 1;
+}
+
+static void change_at(size_t at, int byte)
+{
+    size_t said = strlen(what);
+
+    bad[at] = (unsigned char)byte;
+    snprintf(what + said, sizeof what - said, ", byte %lu changed to %02Xh", (unsigned long)at, byte & 255);
+}
+
+/* Leaves out `less` bytes there, and puts `more` others in. */
+static void splice(size_t at, size_t less, const unsigned char *bytes, size_t more)
+{
+    memmove(bad + at + more, bad + at + less, bad_length - at - less);
+    if (more > 0)
+        memcpy(bad + at, bytes, more);
+    bad_length += more - less;
+}
+
+/* ---- Numbers of a form, just in their ranges and just out of them -------------- */
+
+static void change_pair(void)
+{
+    static const int kinds[] = { 0, 1, 2, 3, 3, 4, 255 };
+    static const int lengths[] = { 0, 0, 1, 5, 6, 6, 255 };
+    size_t at = HEAD + 2 * (size_t)below(SLOTS);
+
+    if (one_in(3))
+        change_at(at, ONE_OF(kinds));
+    else
+        change_at(at + 1, ONE_OF(lengths));
+}
+
+static void change_slot(void)
+{
+    static const int ends[OF_SLOT][4] = { { 15, 16, 31, 240 }, { 0, 1, 2, 3 }, { 0, 128, 254, 255 }, { 0, 1, 2, 3 } };
+    int slots = (int)field_length(2) / OF_SLOT;
+    int which = below(OF_SLOT);
+
+    if (slots > 0)
+        change_at(field_at(2) + HEAD + (size_t)(OF_SLOT * below(slots) + which), ONE_OF(ends[which]));
+}
+
+/* The pointer, or one bit of a register. */
+static void change_sensor(void)
+{
+    static const int pointers[] = { 0, 9, 9, 10, 10, 11, 16, 255 };
+    int sensors = (int)field_length(3) / OF_SENSOR;
+    size_t at = field_at(3) + HEAD;
+
+    if (sensors == 0)
+        return;
+    at += (size_t)(OF_SENSOR * below(sensors));
+    if (one_in(4)) {
+        change_at(at, ONE_OF(pointers));
+    } else {
+        at += (size_t)between(1, OF_SENSOR - 1);
+        change_at(at, bad[at] ^ 1 << below(8));
+    }
+}
+
+/* ---- Fields that are not as they should be ------------------------------------- */
+
+static void exchange_fields(void)
+{
+    static unsigned char first[MOST];
+    int which = below(FIELDS - 1);
+    size_t at = field_at(which), middle = field_at(which + 1), behind = field_at(which + 2);
+
+    memcpy(first, bad + at, middle - at);
+    memmove(bad + at, bad + middle, behind - middle);
+    memcpy(bad + at + behind - middle, first, middle - at);
+}
+
+/* Another field somewhere between the fields: one of a tag that is not known,
+ * or one of the four once more. */
+static void add_field(void)
+{
+    static const int tags[] = { 0, 5, 5, 6, 17, 255 };
+    unsigned char other[HEAD + 1] = { (unsigned char)ONE_OF(tags), 0, 0, 0 };
+    size_t at = field_at(below(FIELDS + 1));
+    int which = below(FIELDS);
+
+    if (one_in(2)) {
+        splice(at, 0, good + field_at(which), HEAD + field_length(which));
+    } else {
+        other[2] = (unsigned char)below(2);
+        splice(at, 0, other, HEAD + (size_t)other[2]);
+    }
+}
+
+static void drop_field(void)
+{
+    int which = below(FIELDS);
+
+    splice(field_at(which), field_at(which + 1) - field_at(which), NULL, 0);
+}
+
+/* A field that says it is longer or shorter, and mostly is. */
+static void resize_field(void)
+{
+    static const int steps[] = { 1, 1, 2, 4, 15, 16, 256, 512 };
+    static const unsigned char more[512];
+    int which = below(FIELDS), step = ONE_OF(steps);
+    int now = (int)field_length(which), grows = one_in(2) || now < step;
+    size_t at = field_at(which);
+
+    if (!one_in(4))
+        splice(field_at(which + 1) - (grows ? 0 : (size_t)step), grows ? 0 : (size_t)step, more, grows ? (size_t)step : 0);
+    now += grows ? step : -step;
+    bad[at + 1] = (unsigned char)(now >> 8);
+    bad[at + 2] = (unsigned char)now;
+}
+
+static void turn_length(void)     /* the low byte first */
+{
+    size_t at = field_at(below(FIELDS));
+    unsigned char high = bad[at + 1];
+
+    bad[at + 1] = bad[at + 2];
+    bad[at + 2] = high;
+}
+
+static void append(void)
+{
+    static const unsigned char more[] = { 0, 0, 0, 5, 0, 0, 255, 0 };
+
+    splice(bad_length, 0, more + below(4), (size_t)between(1, 4));
+}
+
+/* ---- One of them --------------------------------------------------------------- */
+
+static void damage_field(void)
+{
+    switch (below(7)) {
+    case 0: begin("two fields exchanged"); exchange_fields(); break;
+    case 1: begin("a field more"); add_field(); break;
+    case 2: begin("a field less"); drop_field(); break;
+    case 3: begin("the low byte of a length first"); turn_length(); break;
+    case 4: begin("bytes behind the end"); append(); break;
+    case 5: begin("a form that ends early"); bad_length -= (size_t)between(1, one_in(2) ? 20 : (int)good_length); break;
+    default: begin("a field of another length"); resize_field(); break;
+    }
+}
+
+static void damage_number(void)
+{
+    size_t at;
+
+    begin("a number changed");
+    switch (below(5)) {
+    case 0: change_pair(); break;
+    case 1: change_slot(); break;
+    case 2: change_sensor(); break;
+    case 3:
+        at = place_outside_memory();
+        change_at(at, other_than(bad[at]));
+        break;
+    default:
+        at = (size_t)below((int)good_length);
+        change_at(at, other_than(bad[at]));
+        break;
+    }
+}

@@ -1,0 +1,221 @@
+/*
+ * Saved forms (request P5, "Saving a bench overnight"): when a bench may be
+ * saved, a writer and a reader, over the second opinion's own model.  Written
+ * from the sentences of the request; no line of it comes from the crates.
+ * Included by keeper.c and resave.c.  The file wrongforms.txt replaces single
+ * lines of it: keep the two in step.
+ */
+#ifndef FORMS_H
+#define FORMS_H
+#include "model.h"
+
+enum { HEAD = 3, OF_SLOT = 4, OF_SENSOR = 15 };  /* bytes: tag and length; in tag 3; in tag 4 */
+enum { MOST = 4 * HEAD + SETUP + SLOTS * (SLOT_BYTES + OF_SLOT + OF_SENSOR) };
+enum { SAVED = 7 };               /* registers of a sensor that are saved */
+
+static const int saved[SAVED] = { 1, 2, 3, 4, 5, 8, 9 };
+static const int kept_bits[REGISTERS] = { [1] = 0x07CF, [2] = 0x1FFC, [3] = 0x1FFC, [4] = 0x1FFC,
+                                          [5] = 0xFFFF, [8] = 0x0003, [9] = 0x0001 };
+
+/* "unless every present slot is idle and in no write cycle" */
+static int quiet(void)
+{
+    for (int n = 0; n < SLOTS; n++) {
+        if (bus[n].kind == ABSENT)  /* whatever it does */
+            continue;
+        if (bus[n].doing != IDLE)
+            return 0;
+        if (bus[n].ticks_left > 0)
+            return 0;
+    }
+    return 1;
+}
+
+/* ---- Writing -------------------------------------------------------------- */
+
+static unsigned char form[MOST];  /* the last that was written */
+static size_t form_length;
+
+static void put(int byte) { form[form_length++] = (unsigned char)byte; }
+
+static void put_word(int word)    /* the high byte first */
+{
+    put(word >> 8);
+    put(word & 255);
+}
+
+static void put_head(int tag, int length)
+{
+    put(tag);
+    put_word(length);
+}
+
+static void put_slot(const struct slot *s)
+{
+    int blocks = 0;
+
+    for (int b = 0; b < BLOCKS; b++)
+        blocks |= s->is_protected[b] << b;
+    put(blocks);
+    put(s->half);
+    put(s->counter);
+    put(s->high_voltage);
+}
+
+static void put_sensor(const struct slot *s)
+{
+    put(s->pointer);
+    for (int i = 0; i < SAVED; i++)
+        put_word(s->reg[saved[i]]);
+}
+
+/* Slots of this kind, or a greater one. */
+static int slots_from(int kind)
+{
+    int many = 0;
+
+    for (int n = 0; n < SLOTS; n++)
+        many += bus[n].kind >= kind;
+    return many;
+}
+
+static void write_form(void)
+{
+    form_length = 0;
+    put_head(1, SETUP);
+    for (int n = 0; n < SLOTS; n++) {
+        put(bus[n].kind);
+        put(bus[n].length);       /* of an absent slot it is 0 */
+    }
+    put_head(2, SLOT_BYTES * slots_from(MEMORY));
+    for (int n = 0; n < SLOTS; n++)
+        for (int i = 0; bus[n].kind >= MEMORY && i < SLOT_BYTES; i++)
+            put(memory[SLOT_BYTES * n + i]);
+    put_head(3, OF_SLOT * slots_from(MEMORY));
+    for (int n = 0; n < SLOTS; n++)
+        if (bus[n].kind >= MEMORY)
+            put_slot(&bus[n]);
+    put_head(4, OF_SENSOR * slots_from(MEMORY_WITH_SENSOR));
+    for (int n = 0; n < SLOTS; n++)
+        if (bus[n].kind >= MEMORY_WITH_SENSOR)
+            put_sensor(&bus[n]);
+}
+
+/* ---- Reading -------------------------------------------------------------- */
+
+static const unsigned char *rest, *end;  /* what is still to read of a form */
+
+static int word_at(const unsigned char *at) { return 256 * at[0] + at[1]; }
+
+/* The contents of the next field; NULL if it is not of this tag and length. */
+static const unsigned char *field(int tag, int length)
+{
+    const unsigned char *contents = rest + HEAD;
+
+    if (end - rest < HEAD + length)
+        return NULL;
+    if (rest[0] != tag)
+        return NULL;
+    if (word_at(rest + 1) != length)
+        return NULL;
+    rest = contents + length;
+    return contents;
+}
+
+static int pair_in_range(int kind, int length)
+{
+    if (kind == ABSENT)
+        return length == 0;
+    return kind <= MEMORY_WITH_SENSOR && length >= 1 && length <= 5;
+}
+
+static int slot_in_range(const unsigned char *four)
+{
+    return four[0] <= 15 && four[1] <= 1 && four[3] <= 1;  /* any counter is */
+}
+
+static int sensor_in_range(const unsigned char *fifteen)
+{
+    if (fifteen[0] > 9)
+        return 0;
+    for (int i = 0; i < SAVED; i++)
+        if (word_at(fifteen + 1 + 2 * i) & ~kept_bits[saved[i]])
+            return 0;
+    return 1;
+}
+
+static void take_slot(struct slot *s, const unsigned char *four)
+{
+    for (int b = 0; b < BLOCKS; b++)
+        s->is_protected[b] = four[0] >> b & 1;
+    s->half = four[1];
+    s->counter = four[2];
+    s->high_voltage = four[3];
+}
+
+static void take_sensor(struct slot *s, const unsigned char *fifteen)
+{
+    s->pointer = fifteen[0];
+    for (int i = 0; i < SAVED; i++)
+        s->reg[saved[i]] = word_at(fifteen + 1 + 2 * i);
+}
+
+/* "What was saved reads back the same, the rest as fresh, absent slots' bytes
+ * untouched." */
+static void restore(const unsigned char *pairs, const unsigned char *bytes, const unsigned char *fours, const unsigned char *fifteens)
+{
+    unsigned char before[sizeof memory];
+
+    memcpy(before, memory, sizeof memory);
+    setup(pairs);                 /* all fresh, but it fills the memory */
+    memcpy(memory, before, sizeof memory);
+    for (int n = 0; n < SLOTS; n++) {
+        if (bus[n].kind == ABSENT)
+            continue;
+        memcpy(memory + SLOT_BYTES * n, bytes, SLOT_BYTES);
+        bytes += SLOT_BYTES;
+        take_slot(&bus[n], fours);
+        fours += OF_SLOT;
+        if (bus[n].kind == MEMORY_WITH_SENSOR) {
+            take_sensor(&bus[n], fifteens);
+            fifteens += OF_SENSOR;
+        }
+    }
+}
+
+/* 1 if the form is accepted; the bench is then as it says.  Else 0, and the
+ * bench stays. */
+static int read_form(const unsigned char *bytes, size_t length)
+{
+    const unsigned char *pairs, *stored, *fours, *fifteens;
+    int present = 0, sensors = 0;
+
+    rest = bytes;
+    end = bytes + length;
+    pairs = field(1, SETUP);
+    if (pairs == NULL)
+        return 0;
+    for (int n = 0; n < SLOTS; n++) {
+        if (!pair_in_range(pairs[2 * n], pairs[2 * n + 1]))
+            return 0;
+        present += pairs[2 * n] != ABSENT;
+        sensors += pairs[2 * n] == MEMORY_WITH_SENSOR;
+    }
+    if ((stored = field(2, SLOT_BYTES * present)) == NULL)
+        return 0;
+    if ((fours = field(3, OF_SLOT * present)) == NULL)
+        return 0;
+    if ((fifteens = field(4, OF_SENSOR * sensors)) == NULL)
+        return 0;
+    if (rest != end)              /* bytes behind the end */
+        return 0;
+    for (int i = 0; i < present; i++)
+        if (!slot_in_range(fours + OF_SLOT * i))
+            return 0;
+    for (int i = 0; i < sensors; i++)
+        if (!sensor_in_range(fifteens + OF_SENSOR * i))
+            return 0;
+    restore(pairs, stored, fours, fifteens);
+    return 1;
+}
+#endif

@@ -1,0 +1,779 @@
+/*
+ * Makes benches, has the program `save` save them and the program `resume` go
+ * on with them, and judges what both say; tests/resave calls it.  Written from
+ * the sentences of request P5, on the second opinion's model and with a writer
+ * and a reader of its own (forms.h); no line of it comes from the crates.
+ *
+ *   resave COUNT TRIES SEED DIR SAVE RESUME [UNSEEN-SAVE UNSEEN-RESUME]
+ *       Cuts each of the scripts DIR/1.script to DIR/COUNT.script somewhere:
+ *       the command line SAVE saves what is before, RESUME goes on from there.
+ *       Also forms that are damaged, inputs that are cut, bad setups.
+ *       Then small benches: saved in every phase; their forms with every byte
+ *       changed to every other value, and cut at every length, some TRIES of
+ *       these, or all (0).
+ *
+ * The unseen ones are the same programs without a status of their own: most
+ * inputs then go to those.  A fault is told in a sentence, with status 1;
+ * DIR/input, DIR/said and DIR/told are what the program was given and what it
+ * wrote to standard output and standard error.  Else one line sums up.
+ */
+#include "forms.h"
+#include "chance.h"
+#include "damage.h"
+#include "program.h"
+
+enum { SEEN_OF = 19 };            /* one in so many goes to the ones with a status */
+enum { TALK_UP_TO = 60 };         /* records of a talk */
+
+static const char *saver[2], *resumer[2];  /* command lines: seen, unseen */
+static int number;                /* of the run in hand */
+static const char *program;       /* that is tried */
+static long tries, by_status[2][3];        /* of `save`, of `resume` */
+
+#define WRONG(...) \
+    (printf("resave: try %ld, run %d, %s, %s: ", tries, number, program, what), \
+     printf(__VA_ARGS__), putchar('\n'), exit(1))
+
+/* ---- What is to be said, by the rules alone --------------------------------- */
+
+static unsigned char want[1 << 20];
+static size_t want_length;
+
+static void expect(const char *line, size_t many)
+{
+    memcpy(want + want_length, line, many);
+    want_length += many;
+}
+
+static int expect_last(const char *line, int status)
+{
+    expect(line, strlen(line));
+    return status;
+}
+
+/* Has records played; their lines are expected. */
+static void expect_records(const unsigned char *records, size_t bytes)
+{
+    for (size_t at = 0; at + 4 <= bytes; at += 4) {
+        play(records + at);
+        expect((const char *)out, out_length);
+    }
+}
+
+/* What `save` owes to the input: the form in `want`, or nothing and a line for
+ * standard error.  Gives the status. */
+static int judge_save(const char **line)
+{
+    want_length = 0;
+    *line = "short\n";
+    if (length < SETUP)
+        return 2;
+    if (!setup(input)) {
+        *line = "R5\n";
+        return 2;
+    }
+    for (size_t at = SETUP; at + 4 <= length; at += 4)
+        play(input + at);
+    if ((length - SETUP) % 4 != 0)
+        return 2;
+    if (!quiet()) {
+        *line = "R8\n";
+        return 1;
+    }
+    *line = "";
+    write_form();
+    expect((const char *)form, form_length);
+    return 0;
+}
+
+/* The length that stands in front of the form. */
+static unsigned long announced(void) { return 65536UL * word_at(input) + word_at(input + 2); }
+
+/* What `resume` owes to the input, in `want`.  Gives the status. */
+static int judge_resume(void)
+{
+    size_t records;
+
+    want_length = 0;
+    if (length < 4)
+        return expect_last("short\n", 2);
+    if (announced() > 65535)
+        return expect_last("R10\n", 1);
+    records = 4 + announced();
+    if (length < records)
+        return expect_last("short\n", 2);
+    memset(memory, 0xFF, sizeof memory);
+    if (!read_form(input + 4, announced()))
+        return expect_last("R10\n", 1);
+    expect_records(input + records, length - records);
+    if ((length - records) % 4 != 0)
+        return expect_last("short\n", 2);
+    return 0;
+}
+
+/* ---- Trying the input -------------------------------------------------------- */
+
+static int is_seen(void) { return ++tries % SEEN_OF == 0 || saver[1] == NULL; }
+
+static void must_end(int is_seen, int status)
+{
+    if (!is_seen)
+        status = 0;
+    if (WIFSIGNALED(ended))
+        WRONG("it was ended by signal %d", WTERMSIG(ended));
+    if (WEXITSTATUS(ended) != status)
+        WRONG("status %d was to come, not %d", status, WEXITSTATUS(ended));
+}
+
+/* Where two runs of bytes first differ. */
+static size_t differs_at(const unsigned char *a, size_t many, const unsigned char *b, size_t others)
+{
+    size_t at = 0;
+
+    while (at < many && at < others && a[at] == b[at])
+        at++;
+    return at;
+}
+
+static void try_save(void)
+{
+    const char *line;
+    int seen = is_seen();
+    int status = judge_save(&line);
+    size_t many, at;
+    unsigned char *said, *told;
+
+    program = "save";
+    by_status[0][status]++;
+    run_program(saver[!seen], one_in(3) ? IN_PIECES : AS_FILE, 0, NULL);
+    told = read_file("told", &many);
+    if (strcmp((char *)told, line) != 0)
+        WRONG("standard error was to have \"%.*s\", not \"%.*s\"", (int)strcspn(line, "\n"), line, (int)strcspn((char *)told, "\n"), told);
+    said = read_file("said", &many);
+    at = differs_at(want, want_length, said, many);
+    if (at < want_length && at < many)
+        WRONG("byte %lu of the form was to be %02Xh, not %02Xh", (unsigned long)at, want[at], said[at]);
+    if (many != want_length)
+        WRONG("%lu bytes were to come, not %lu", (unsigned long)want_length, (unsigned long)many);
+    must_end(seen, status);
+    free(said);
+    free(told);
+}
+
+/* What `resume` must have said when so many bytes are given, and no end. */
+static size_t due(size_t given)
+{
+    size_t at = 0;
+
+    if (given < 4)
+        return 0;
+    if (announced() > 65535)
+        return strlen("R10\n");
+    if (given < 4 + announced())
+        return 0;
+    if (memcmp(want, "R10", 3) == 0)
+        return want_length;
+    for (size_t lines = (given - 4 - announced()) / 4; lines > 0; lines--)
+        at += strcspn((char *)want + at, "\n") + 1;
+    return at;
+}
+
+/* Where the records begin, or would. */
+static size_t form_end(void) { return length < 4 || announced() > 65535 ? 4 : 4 + announced(); }
+
+/* A talk is for inputs that bring the form and few records; the seen program
+ * has one wherever it can. */
+static enum way a_way(int seen)
+{
+    if ((seen || one_in(3)) && length >= form_end() && length - form_end() <= 4 * TALK_UP_TO)
+        return AS_TALK;
+    return one_in(3) ? IN_PIECES : AS_FILE;
+}
+
+/* Holds the lines that were said against those that were due. */
+static void compare_lines(const unsigned char *said, size_t many, const char *how)
+{
+    size_t at = differs_at(want, want_length, said, many);
+    long lines = 0;
+
+    if (at == want_length && at == many)
+        return;
+    while (at > 0 && want[at - 1] != '\n')
+        at--;
+    for (size_t i = 0; i < at; i++)
+        lines += want[i] == '\n';
+    want[want_length] = 0;
+    WRONG("line %ld was to be \"%.*s\", not \"%.*s\"%s", lines + 1, (int)strcspn((char *)want + at, "\n"), want + at,
+          (int)strcspn((char *)said + at, "\n"), said + at, how);
+}
+
+static void try_resume(void)
+{
+    static const char *const words[] = { "", ", read in pieces", ", in a talk" };
+    int seen = is_seen();
+    enum way way = a_way(seen && saver[1] != NULL);
+    int status = judge_resume();
+    size_t many, silent;
+    unsigned char *said;
+
+    program = "resume";
+    by_status[1][status]++;
+    silent = run_program(resumer[!seen], way, form_end(), due);
+    if (silent)
+        WRONG("what is due to the first %lu bytes did not come before more were given", (unsigned long)silent);
+    said = read_file("said", &many);
+    compare_lines(said, many, words[way]);
+    must_end(seen, status);
+    free(said);
+}
+
+/* ---- Records behind a form ---------------------------------------------------- */
+
+static unsigned char tail[1 << 19];
+static size_t tail_length;
+
+static void add(int kind, int slot, int value)
+{
+    unsigned char record[4] = { (unsigned char)kind, (unsigned char)slot, (unsigned char)(value >> 8), (unsigned char)value };
+
+    memcpy(tail + tail_length, record, 4);
+    tail_length += 4;
+}
+
+/* A start and these bytes, up to a negative one. */
+static void add_bytes(int first, int second, int third)
+{
+    int bytes[] = { first, second, third };
+
+    add(START, 0, 0);
+    for (int i = 0; i < 3 && bytes[i] >= 0; i++)
+        add(BYTE, 0, bytes[i]);
+}
+
+static void add_reads(int many)
+{
+    while (many-- > 0)
+        add(READ, 0, many > 0);
+    add(STOP, 0, 0);
+}
+
+/* Counter and half; of a sensor the pointer and the registers. */
+static void look_at(int n)
+{
+    add_bytes(0xA1 + 2 * n, -1, -1);
+    add_reads(1);
+    if (bus[n].kind != MEMORY_WITH_SENSOR)
+        return;
+    add_bytes(0x31 + 2 * n, -1, -1);
+    add_reads(2);
+    for (int i = 0; i < SAVED; i++) {
+        add_bytes(0x30 + 2 * n, saved[i], -1);
+        add_bytes(0x31 + 2 * n, -1, -1);
+        add_reads(2);
+    }
+}
+
+/* Both blocks of a half: whether they take a byte, which is then abandoned; and
+ * if asked for, all bytes of the half. */
+static void look_at_half(int n, int whole)
+{
+    add_bytes(0xA0 + 2 * n, 0x00, 0x5A);
+    add_bytes(0xA0 + 2 * n, 0x80, 0xA5);
+    add_bytes(0xA0 + 2 * n, 0x00, -1);
+    add_bytes(0xA1 + 2 * n, -1, -1);
+    add_reads(whole ? 256 : 1);
+}
+
+/* High voltage of one slot, when the others have none. */
+static void look_at_voltage(int chosen)
+{
+    for (int n = 0; n < SLOTS; n++)
+        if (n != chosen)
+            add(VOLTAGE, n, 0);
+    add_bytes(0x66, -1, -1);
+    add(STOP, 0, 0);
+}
+
+/* A look at all that a form holds, of the slots that are now present. */
+static void look(int whole)
+{
+    int chosen = below(SLOTS);
+
+    add_bytes(0x6D, -1, -1);
+    add(STOP, 0, 0);
+    for (int n = 0; n < SLOTS; n++)
+        if (bus[n].kind != ABSENT)
+            look_at(n);
+    for (int half = 0; half < 2; half++) {
+        add_bytes(half ? 0x6E : 0x6C, -1, -1);
+        add(STOP, 0, 0);
+        for (int n = 0; n < SLOTS; n++)
+            if (bus[n].kind != ABSENT)
+                look_at_half(n, whole);
+    }
+    while (slots_from(MEMORY) > 0 && bus[chosen].kind == ABSENT)
+        chosen = below(SLOTS);
+    look_at_voltage(chosen);
+}
+
+/* ---- Inputs made of a form and records ----------------------------------------- */
+
+static void put_up(unsigned long announced, const unsigned char *bytes, size_t many, size_t records)
+{
+    for (int i = 0; i < 4; i++)
+        input[i] = (unsigned char)(announced >> (24 - 8 * i));
+    memcpy(input + 4, bytes, many);
+    memcpy(input + 4 + many, tail, records);
+    length = 4 + many + records;
+}
+
+/* The damaged form, and some of the records. */
+static void try_bad(void)
+{
+    size_t most = tail_length / 4 < 2000 ? tail_length / 4 : 2000;
+    size_t records = one_in(4) ? 0 : 4 * (size_t)below((int)most + 1) + (one_in(6) ? (size_t)between(1, 3) : 0);
+
+    if (records > tail_length)
+        records = tail_length;
+    put_up(bad_length, bad, bad_length, records);
+    try_resume();
+}
+
+/* The good form, or nothing of it, announced with another length. */
+static void try_announced(unsigned long said, size_t many)
+{
+    snprintf(what, sizeof what, "%lu bytes announced as %lu", (unsigned long)many, said);
+    put_up(said, good, many, tail_length < 400 ? tail_length : 400);
+    try_resume();
+}
+
+static void try_length(void)
+{
+    size_t many = one_in(3) ? 0 : good_length;
+
+    switch (below(4)) {
+    case 0: try_announced(good_length + 1, many); break;
+    case 1: try_announced(good_length + 4, many); break;
+    case 2: try_announced(good_length - 1, many); break;
+    default: try_announced(good_length + (65536UL << below(16)), many); break;
+    }
+}
+
+/* The longest length that is not refused at once, with so many bytes. */
+static void try_longest(void)
+{
+    memset(bad, 0, sizeof bad);
+    memcpy(bad, good, good_length);
+    bad_length = 65535;
+    say_what("65535 bytes, the form at their front");
+    put_up(bad_length, bad, bad_length, 40);
+    try_resume();
+}
+
+/* The good form and its records, cut somewhere. */
+static void try_cut(void)
+{
+    put_up(good_length, good, good_length, tail_length);
+    switch (below(4)) {
+    case 0: length = (size_t)below(5); break;
+    case 1: length = 4 + (size_t)below((int)good_length); break;
+    case 2: length = 4 + good_length + (size_t)below((int)(tail_length < 40 ? tail_length + 1 : 40)); break;
+    default: length = (size_t)below((int)length); break;
+    }
+    snprintf(what, sizeof what, "cut after %lu bytes", (unsigned long)length);
+    try_resume();
+}
+
+/* ---- Runs, cut somewhere -------------------------------------------------------- */
+
+static unsigned char *script;
+static size_t script_length;
+
+/* The model has played the script up to there. */
+static void play_to(size_t at)
+{
+    setup(script);
+    for (size_t i = SETUP; i < at; i += 4)
+        play(script + i);
+}
+
+static size_t any_moment(void) { return SETUP + 4 * (size_t)below((int)(script_length - SETUP) / 4 + 1); }
+
+/* A moment at which the bench may be saved: the first from a chosen one on, or
+ * else the last before it. */
+static size_t quiet_moment(void)
+{
+    size_t chosen = any_moment(), last = SETUP;
+
+    setup(script);
+    for (size_t at = SETUP; ; at += 4) {
+        if (quiet())
+            last = at;
+        if (last >= chosen || at == script_length)
+            return last;
+        play(script + at);
+    }
+}
+
+static void try_saving(size_t many, const char *words)
+{
+    memcpy(input, script, many);
+    length = many;
+    snprintf(what, sizeof what, "%s %lu bytes of its script", words, (unsigned long)many);
+    try_save();
+}
+
+/* A pair with a kind or a length that is just or far out of its range. */
+static void try_bad_setup(void)
+{
+    static const int kinds[] = { 3, 3, 4, 128, 255 };
+    static const int lengths[] = { 0, 0, 6, 6, 255 };
+    unsigned char *pair = input + 2 * below(SLOTS);
+
+    memcpy(input, script, script_length);
+    if (one_in(2)) {
+        pair[0] = (unsigned char)ONE_OF(kinds);
+    } else {
+        pair[0] = (unsigned char)between(MEMORY, MEMORY_WITH_SENSOR);
+        pair[1] = (unsigned char)ONE_OF(lengths);
+    }
+    length = one_in(2) ? any_moment() + (size_t)below(4) : (size_t)between(SETUP - 1, SETUP + 5);
+    if (length > script_length)
+        length = script_length;
+    say_what("a bad setup");
+    try_save();
+}
+
+/* The records behind the moment, with a look at all before or behind them, as
+ * the unbroken run goes on with them: its lines are due. */
+static void try_unbroken(size_t moment)
+{
+    static unsigned char lines[1 << 20];
+    size_t many;
+    int before = one_in(3), whole = one_in(2);
+
+    tail_length = 0;
+    play_to(moment);
+    keep_form();
+    if (before)
+        look(whole);
+    memcpy(tail + tail_length, script + moment, script_length - moment);
+    tail_length += script_length - moment;
+    if (!before && one_in(2))
+        look(whole);
+    want_length = 0;
+    expect_records(tail, tail_length);
+    memcpy(lines, want, want_length);
+    many = want_length;
+    put_up(good_length, good, good_length, tail_length);
+    snprintf(what, sizeof what, "the run from byte %lu of its script on", (unsigned long)moment);
+    judge_resume();
+    if (many != want_length || memcmp(lines, want, many) != 0)
+        WRONG("the test is at odds with itself");
+    try_resume();
+}
+
+static void one_run(void)
+{
+    char name[40];
+    size_t moment;
+
+    snprintf(name, sizeof name, "%d.script", number);
+    script = read_file(name, &script_length);
+    moment = quiet_moment();
+    try_saving(moment, "a quiet bench,");
+    try_saving(any_moment(), "a bench,");
+    if (number % 2) {
+        try_saving((size_t)below((int)script_length), "a cut,");
+        try_bad_setup();
+    }
+    try_unbroken(moment);
+    for (int i = 0; i < 3; i++) {
+        damage_number();
+        try_bad();
+    }
+    damage_field();
+    try_bad();
+    if (number % 2)
+        try_length();
+    else
+        try_cut();
+    free(script);
+}
+
+/* ---- How much of what follows is tried ---------------------------------------------- */
+
+enum { ABOUT_ALL = 43000 };       /* changes of one byte, and cuts */
+static long every;                /* one in so many is tried */
+
+/* ---- A bench in every phase --------------------------------------------------------- */
+
+/* What happens last.  Bytes are in hex; w and m are the control bytes of a
+ * memory write and read of the slot, g and k of a sensor write and read; s start,
+ * p stop, o timeout, c power cycle, t tick, v and u high voltage on and off, r and
+ * n a read with ACK and NACK. */
+static const char *const endings[] = {
+    "", "s", "sFF", "sn", "sp", "so", "sc", "sw", "sw00", "sw005A", "sw00p", "sw005Ao", "sw005Ap", "sw005Apt", "sw005Aptt",
+    "sw005Apc", "sw005As", "sm", "smr", "smn", "smnp", "sm00", "s6C", "s6E", "s6E00", "s6Ep", "s6D", "s63", "s66",
+    "vs62", "vs6200", "vs620000", "vs62000000", "vs62u", "vs6200p", "vs620000p", "vs620000pt", "vs620000pst", "vs620000ptt",
+    "vs660000ptt", "sg", "sg0A", "sg01", "sg0107", "sg010700", "sg010700p", "sg01070000", "sk", "skr", "skrr", "skrrp", "sw005Apstt" };
+
+static void add_letter(char letter, int n)
+{
+    switch (letter) {
+    case 's': add(START, 0, 0); break;
+    case 'p': add(STOP, 0, 0); break;
+    case 'o': add(TIMEOUT, 0, 0); break;
+    case 'c': add(POWER, 0, 0); break;
+    case 't': add(TICK, 0, 0); break;
+    case 'v': add(VOLTAGE, n, 1); break;
+    case 'u': add(VOLTAGE, n, 0); break;
+    case 'r': add(READ, 0, 1); break;
+    case 'n': add(READ, 0, 0); break;
+    case 'w': add(BYTE, 0, 0xA0 + 2 * n); break;
+    case 'm': add(BYTE, 0, 0xA1 + 2 * n); break;
+    case 'g': add(BYTE, 0, 0x30 + 2 * n); break;
+    case 'k': add(BYTE, 0, 0x31 + 2 * n); break;
+    }
+}
+
+static void add_ending(const char *ending, int n)
+{
+    tail_length = 0;
+    for (; *ending != 0; ending++) {
+        char pair[3] = { ending[0], ending[1], 0 };
+
+        if (*ending >= 'a') {
+            add_letter(*ending, n);
+        } else {
+            add(BYTE, 0, (int)strtol(pair, NULL, 16));
+            ending++;
+        }
+    }
+}
+
+/* A sensor with a cycle of two ticks, and so many others. */
+static void try_ending(const char *ending, int others)
+{
+    int n = below(SLOTS);
+
+    memset(input, 0, SETUP);
+    for (int i = 0; i < SLOTS; i++)
+        if (i == n ? others >= 0 : others > 0) {
+            input[2 * i] = MEMORY_WITH_SENSOR;
+            input[2 * i + 1] = 2;
+        }
+    add_ending(ending, n);
+    memcpy(input + SETUP, tail, tail_length);
+    length = SETUP + tail_length;
+    snprintf(what, sizeof what, "%s, in the end \"%s\" on slot %d", others < 0 ? "no slot" : others ? "eight slots" : "one slot", ending, n);
+    try_save();
+}
+
+static void sweep_phases(void)
+{
+    for (int i = 0; i < (int)(sizeof endings / sizeof endings[0]); i++) {
+        try_ending(endings[i], 0);
+        if (every == 1 || one_in(4))
+            try_ending(endings[i], 1);
+        if (every == 1 || one_in(8))
+            try_ending(endings[i], -1);
+    }
+}
+
+/* ---- Every byte of small forms --------------------------------------------------- */
+
+
+/* A bench in any state that may be saved. */
+static void stir(const unsigned char pairs[SETUP])
+{
+    setup(pairs);
+    for (int n = 0; n < SLOTS; n++) {
+        struct slot *s = &bus[n];
+
+        if (s->kind == ABSENT)
+            continue;
+        for (int b = 0; b < BLOCKS; b++)
+            s->is_protected[b] = below(2);
+        s->half = below(2);
+        s->counter = below(256);
+        s->high_voltage = below(2);
+        for (int i = 0; i < SLOT_BYTES; i++)
+            memory[SLOT_BYTES * n + i] = (unsigned char)below(256);
+        if (s->kind != MEMORY_WITH_SENSOR)
+            continue;
+        s->pointer = below(REGISTERS);
+        for (int i = 0; i < SAVED; i++)
+            s->reg[saved[i]] = below(65536) & kept_bits[saved[i]];
+    }
+}
+
+/* Of the forms that the reader accepts each is the one that the writer gives. */
+static void must_be_the_form(void)
+{
+    if (!read_form(bad, bad_length))
+        return;
+    write_form();
+    if (form_length != bad_length || memcmp(form, bad, bad_length) != 0)
+        WRONG("the plain reader accepts what the plain writer would not write");
+}
+
+static void try_small(int is_tried)
+{
+    must_be_the_form();
+    if (!is_tried)
+        return;
+    put_up(bad_length, bad, bad_length, tail_length);
+    try_resume();
+}
+
+static int in_memory(size_t at) { return at >= field_at(1) + HEAD && at < field_at(2); }
+
+/* The next place; in the memory, where all are alike, few are taken. */
+static size_t next_place(size_t at)
+{
+    size_t next = at + (in_memory(at) ? (size_t)between(1, 99) : 1);
+
+    return in_memory(at) && !in_memory(next) ? field_at(2) : next;
+}
+
+/* Every byte changed to every other value. */
+static void sweep_values(void)
+{
+    for (size_t at = 0; at < good_length; at = next_place(at))
+        for (int value = 0; value < 256; value++) {
+            if (value == good[at])
+                continue;
+            begin("a small form");
+            change_at(at, value);
+            try_small(one_in((int)every));
+        }
+}
+
+/* Cut at every length: the form ends there, or the input does. */
+static void sweep_lengths(void)
+{
+    for (size_t at = 0; at < good_length; at++) {
+        begin("");
+        bad_length = at;
+        snprintf(what, sizeof what, "a small form that ends after %lu bytes", (unsigned long)at);
+        try_small(one_in((int)every));
+        if (!one_in((int)every))
+            continue;
+        put_up(good_length, good, at, 0);
+        snprintf(what, sizeof what, "a small form, the input cut after %lu bytes", (unsigned long)(4 + at));
+        try_resume();
+    }
+}
+
+/* The ends of every range of the sensor's form, and the heads of its fields. */
+static void sweep_ends(int n)
+{
+    static const int ends[][3] = { { 2, 0, 15 }, { 2, 0, 16 }, { 2, 1, 1 }, { 2, 1, 2 }, { 2, 2, 255 }, { 2, 3, 1 }, { 2, 3, 2 }, { 3, 0, 9 }, { 3, 0, 10 } };
+    const int pairs[][2] = { { 2 * n, 3 }, { 2 * n + 1, 0 }, { 2 * n + 1, 5 }, { 2 * n + 1, 6 }, { 2 * n + 2, 1 }, { 2 * n + 3, 1 } };
+
+    for (int i = 0; i < 9 + 6 + HEAD * FIELDS; i++) {
+        int head = i - 9 - 6;
+        size_t at = field_at(head / HEAD) + (size_t)head % HEAD;
+
+        begin("a small form");
+        if (i < 9)
+            change_at(field_at(ends[i][0]) + HEAD + (size_t)ends[i][1], ends[i][2]);
+        else if (head < 0)
+            change_at(HEAD + (size_t)pairs[i - 9][0], pairs[i - 9][1]);
+        else
+            change_at(at, good[at] + 1);
+        try_small(1);
+    }
+}
+
+/* The first bytes of an input. */
+static void sweep_first(void)
+{
+    for (size_t many = 0; many <= 5; many++) {
+        put_up(good_length, good, good_length, 0);
+        length = many;
+        snprintf(what, sizeof what, "the input cut after %lu bytes", (unsigned long)many);
+        try_resume();
+    }
+}
+
+static void sweep_announced(void)
+{
+    static const unsigned long lengths[] = { 0, 1, MOST + 1, 65534, 65535, 65536, 65537, 0x00FFFFFF, 0x01000000, 0x7FFFFFFF,
+                                             0x80000000, 0xFFFF0000, 0xFFFFFFFF };
+
+    for (int i = 0; i < (int)(sizeof lengths / sizeof lengths[0]); i++)
+        try_announced(lengths[i], good_length);
+    try_longest();
+}
+
+/* No slot; a sensor; a memory and a sensor. */
+static void sweep(long wanted)
+{
+    unsigned char pairs[3][SETUP] = { { 0 } };
+    int first = below(7), second = between(first + 1, 7);
+
+    pairs[1][2 * first] = pairs[2][2 * second] = MEMORY_WITH_SENSOR;
+    pairs[2][2 * first] = MEMORY;
+    pairs[1][2 * first + 1] = pairs[2][2 * first + 1] = pairs[2][2 * second + 1] = (unsigned char)between(1, 5);
+    every = wanted == 0 || wanted > ABOUT_ALL ? 1 : ABOUT_ALL / wanted;
+    number = 0;                   /* no run any more */
+    sweep_phases();
+    for (number = 0; number < 3; number++) {
+        stir(pairs[number]);
+        keep_form();
+        tail_length = 0;
+        look(1);
+        begin("a small form as it is");
+        try_small(1);
+        stir(pairs[number]);      /* what was tried has gone over the bench */
+        keep_form();
+        tail_length = 0;
+        look(0);
+        if (number == 1)
+            sweep_ends(first);
+        sweep_values();
+        sweep_lengths();
+    }
+    sweep_first();
+    sweep_announced();
+}
+
+/* ---- All of it --------------------------------------------------------------------- */
+
+static void sum_up(void)
+{
+    long *of_save = by_status[0], *of_resume = by_status[1];
+
+    printf("resave: %ld saves (%ld forms, %ld R8, %ld short or R5), %ld resumed (%ld whole, %ld R10, %ld short), all right\n",
+           of_save[0] + of_save[1] + of_save[2], of_save[0], of_save[1], of_save[2],
+           of_resume[0] + of_resume[1] + of_resume[2], of_resume[0], of_resume[1], of_resume[2]);
+}
+
+int main(int count, char **words)
+{
+    unsigned long long seed;
+
+    if (count != 7 && count != 9) {
+        fputs("usage: resave COUNT TRIES SEED DIR SAVE RESUME [UNSEEN-SAVE UNSEEN-RESUME]\n", stderr);
+        return 2;
+    }
+    seed = strtoull(words[3], NULL, 10) * 1000003ULL;
+    folder = words[4];
+    saver[0] = words[5];
+    resumer[0] = words[6];
+    if (count == 9) {
+        saver[1] = words[7];
+        resumer[1] = words[8];
+    }
+    signal(SIGPIPE, SIG_IGN);     /* a program that ends early */
+    for (number = 1; number <= atol(words[1]); number++) {
+        seed_with(seed + (unsigned)number);
+        one_run();
+    }
+    seed_with(seed);
+    sweep(atol(words[2]));
+    sum_up();
+    return 0;
+}
