@@ -10,6 +10,7 @@ ghost use Rattle.rules.specs.Refusals.{inRange};
 ghost use Rattle.capture.specs.Program.{Came, Ended, Served};
 use captures::Verdict;
 use libc::STDIN_FILENO;
+use libc::STDOUT_FILENO;
 use rules::Bus;
 
 // What goes from one piece to the next: the bus, the number of records so far, the verdict on them, and whether to go on.
@@ -87,10 +88,10 @@ fn serve(bus: Bus, mem: &mut [u8], out: &mut [u8]) -> usize
 fn main() {
     let mut mem = [0u8; 4096];
     let mut out = [0u8; 64];
-    let begun = opening::begin(&mut mem, &mut out);
+    let begun = opening::begin(STDOUT_FILENO, &mut mem, &mut out);
     if begun.on {
         let bus = begun.bus;
         let ended = serve(bus, &mut mem, &mut out);
-        opening::write(&out, ended);
+        opening::write(STDOUT_FILENO, &out, ended);
     }
 }

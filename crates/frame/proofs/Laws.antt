@@ -19,12 +19,13 @@ use Rattle.rules.specs.Modelled.{memoryBytes}
 use Rattle.rules.specs.Refusals.{inRange, goodPair, emptyBus, setupOf}
 use Rattle.rules.proofs.Range.Kept.{setup-in-range}
 use Rattle.records.specs.Records.{pairsOf}
+use Rattle.letters.specs.Decimal.{digit, decimalIn, decimal}
 use Rattle.letters.specs.Letters.{lineOf, digitsOf, shortLine, refusalLine}
 use Rattle.frame.specs.Frame.{badSetupLine, startingMemory, cutSetup, firstLine, goesOn, firstBus, beginOf, lastLine, finishOf}
 
 -- the line of a setup's answer, and whether there is one
 refusal-line : (ps : List Pair) → refusalLine (setupOf ps .answer) ≡ cond (allOf goodPair ps) [] badSetupLine
-unfolding setupOf refusalLine lineOf letterOf digitsOf refusalNumber
+unfolding setupOf refusalLine lineOf letterOf digitsOf refusalNumber decimal decimalIn digit
 refusal-line ps = by-test (allOf goodPair ps) (λ e. rw e) (λ e. rw e)
 
 refusal-none : (ps : List Pair) → eqb (length (refusalLine (setupOf ps .answer))) 0 ≡ allOf goodPair ps

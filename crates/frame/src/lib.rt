@@ -21,7 +21,7 @@ fn setup(bytes: &[u8]) -> Outcome
 }
 
 // Memory as it starts.
-fn fill(mem: &mut [u8])
+pub fn fill(mem: &mut [u8])
     ensures { λ _. ⌜ now (mem .exit) ≡ replicate (length (now (mem .entry))) 0xFF ⌝ }
 {
     let count = mem.len();

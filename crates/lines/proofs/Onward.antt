@@ -1,6 +1,6 @@
 -- What whoever goes on from a step needs of it: the bus is in range, what is to be written lies in the output, less than a record is held.
 -- Assumes nothing.
-use mathlib.Core.Path.{_≡_, sym, _∙_, ap}
+use mathlib.Core.Path.{_≡_, refl, sym, _∙_, ap}
 use mathlib.Core.Bool.{true}
 use mathlib.Core.List.{List}
 use Prim.Native.Nat.{ℕ, zero, suc, _+_, _*_, _/_, _<_, _≤_}
@@ -10,6 +10,7 @@ use lib.Seq.{length-take-le}
 use Rattle.rules.specs.declared.Bus.{Bus}
 use Rattle.rules.specs.Refusals.{inRange}
 use Rattle.rules.specs.Runs.{Bench}
+use Rattle.rules.proofs.Memory.Stored.{memory-length-next}
 use Rattle.rules.proofs.Range.Kept.{next-in-range}
 use Rattle.lines.specs.declared.Turned.{Turned}
 use Rattle.records.specs.Records.{recordAt}
@@ -17,10 +18,16 @@ use Rattle.lines.specs.Script.{recordsIn, leftOf, benchTo, linesTo}
 use Rattle.lines.specs.Steps.{runOf, turnOf}
 use Rattle.lines.proofs.Laws.{lines-length, left-length}
 
-bench-in-range : (x : Bench) (bs : List ℕ) (n : ℕ) → inRange (x .bus) ≡ true → inRange ((benchTo x bs n) .bus) ≡ true
+-- records keep a bus in range, and the memory's length
+pub bench-in-range : (x : Bench) (bs : List ℕ) (n : ℕ) → inRange (x .bus) ≡ true → inRange ((benchTo x bs n) .bus) ≡ true
 unfolding benchTo
 bench-in-range x bs zero h = h
 bench-in-range x bs (suc n) h = next-in-range (recordAt bs (4 * n)) (benchTo x bs n) (bench-in-range x bs n h)
+
+pub bench-length : (x : Bench) (bs : List ℕ) (n : ℕ) → length ((benchTo x bs n) .memory) ≡ length (x .memory)
+unfolding benchTo
+bench-length x bs zero = refl
+bench-length x bs (suc n) = memory-length-next (recordAt bs (4 * n)) (benchTo x bs n) ∙ bench-length x bs n
 
 pub turn-onward : (b : Bus) (m buf out : List ℕ) (held n : ℕ) (r : Turned) (s q o : List ℕ)
     → turnOf b m buf held n out ≡ (r, s, q, o) → (inRange b ≡ true) × (held + n ≤ length buf) × (length buf ≤ length out)

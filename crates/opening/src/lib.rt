@@ -1,4 +1,5 @@
-// How every program begins: the setup is read, and what `frame` puts at the front of the output is written; and how such a front is written.
+// How the programs that read a setup begin: it is read, and what `frame` puts at the front of the output is written; and how such a front is written.
+// Which output it goes to, a program says by its descriptor.
 ghost use mathlib.Core.Path.{_≡_};
 ghost use mathlib.Core.Bool.{true};
 ghost use Prim.Native.Nat.{_≤_};
@@ -8,17 +9,16 @@ ghost use Rattle.rules.specs.Refusals.{inRange};
 ghost use Rattle.opening.specs.Opened.{Opened};
 use frame::Begun;
 use libc::STDIN_FILENO;
-use libc::STDOUT_FILENO;
 
 // Writes the front of an output, as far as its end says.
-pub fn write(out: &[u8], end: usize)
+pub fn write(to: i32, out: &[u8], end: usize)
     requires { ⌜ end ≤ length (now out) ⌝ }
 {
-    io::write_all(STDOUT_FILENO, &out[..end]);
+    io::write_all(to, &out[..end]);
 }
 
 // Reads sixteen bytes, or as many as come, begins with them, and writes `short`, `R5` or nothing. Records may follow where the result says so.
-pub fn begin(mem: &mut [u8], out: &mut [u8]) -> Begun
+pub fn begin(to: i32, mem: &mut [u8], out: &mut [u8]) -> Begun
     requires { ⌜ (length (now mem) ≡ memoryBytes) × (6 ≤ length (now out)) ⌝ }
     ensures { λ r. ⌜ (inRange (r .bus) ≡ true) × Opened (now (out .entry)) r (now (mem .exit)) (now (out .exit)) ⌝ }
 {
@@ -26,6 +26,6 @@ pub fn begin(mem: &mut [u8], out: &mut [u8]) -> Begun
     let n = io::read_full(STDIN_FILENO, &mut pairs);
     let begun = frame::begin(&pairs[..n], mem, out);
     let end = begun.end;
-    write(out, end);
+    write(to, out, end);
     begun
 }

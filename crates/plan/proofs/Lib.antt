@@ -1,4 +1,3 @@
 pub mod Fits
 pub mod Laws
 pub mod Whole
-pub mod Onward

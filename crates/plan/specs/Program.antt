@@ -2,37 +2,15 @@
 -- came as setup, memory, slot and image are given, and then the reads of the records, with the last one, which brings nothing.
 -- Assumes nothing.
 use Prim.Native.Nat.{ℕ, _+_}
-use mathlib.Core.Bool.{Bool, true, cond}
-use mathlib.Core.List.{List, [], _∷_, _++_}
-use lib.Dec.{ltb}
+use mathlib.Core.Bool.{cond}
+use mathlib.Core.List.{List, [], _++_}
 use lib.ListN.{length, take, getD}
 use Rattle.rules.specs.declared.Bus.{Bus}
-use Rattle.rules.specs.Runs.{Bench}
 use Rattle.frame.specs.declared.Begun.{Begun}
 use Rattle.frame.specs.Frame.{beginOf}
-use Rattle.lines.specs.declared.Turned.{Turned}
-use Rattle.lines.specs.Steps.{turnOf}
-use Rattle.lines.specs.Program.{Read, readInto}
+use Rattle.lines.specs.Program.{Read}
+use Rattle.running.specs.Program.{Ran, turnsLeave, begun}
 use Rattle.plan.specs.Asked.{answerOf}
-
--- what the turns leave: the bench, the buffer, how many bytes of a record are held at its front, whether the last read brought something, and the
--- output
-pub record Ran : Type 0 where
-  pub bench : Bench
-  pub buf : List ℕ
-  pub held : ℕ
-  pub on : Bool
-  pub out : List ℕ
-
-unfoldable pub turnsLeave : Ran → List Read → Ran
-turnsLeave q [] = q
-turnsLeave q (r ∷ rs) =
-    let t : Turned × List ℕ × List ℕ × List ℕ =
-    turnOf (q .bench .bus) (q .bench .memory) (readInto (q .buf) (q .held) r) (q .held) (length (r .came)) (q .out) in
-    turnsLeave (record { bench = record { bus = t .0 .bus; memory = t .1 }; buf = t .2; held = t .0 .held; on = ltb 0 (length (r .came)); out = t .3 }) rs
-
-abbrev pub begun : Bench → List ℕ → List ℕ → Ran
-begun x buf out = record { bench = x; buf = buf; held = 0; on = true; out = out }
 
 -- what is written after a good setup
 unfoldable pub serveWrites : Bus → List ℕ → List ℕ → List ℕ → List Read → List ℕ → List ℕ → List ℕ

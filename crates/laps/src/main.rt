@@ -1,0 +1,153 @@
+// Laps for the benchmarks: a letter and a count on standard input, as `s 1000`, and so many savings (`s`) of a bench with eight slots of kind 2, restorings of its
+// form (`r`), or copies of as many bytes (`c`); then `done` on standard output. Each lap's result is the next lap's input: it counts one byte up, and `done` is
+// written only where that byte has counted the laps, so that no lap can be left out.
+ghost use mathlib.Core.Path.{_≡_};
+ghost use Prim.Native.Nat.{_≤_};
+ghost use lib.ListN.{length};
+use libc::STDERR_FILENO;
+use libc::STDIN_FILENO;
+use libc::STDOUT_FILENO;
+use rules::Bus;
+use rules::Pair;
+
+// Bytes of the bench's form.
+const FORM: usize = 4276;
+
+// The place in it of the first byte of memory: behind the head and the contents of the setup, and the memory's head.
+const FIRST: usize = 22;
+
+// The number that digits say, or that they are none: another byte, no byte, or a number above 999,999,999.
+enum Count {
+    Of(u64),
+    Wrong,
+}
+
+fn count_of(digits: &[u8]) -> Count {
+    let mut value = 0u64;
+    for i in 0..digits.len() {
+        let d = digits[i];
+        if d < b'0' {
+            return Count::Wrong;
+        }
+        if b'9' < d {
+            return Count::Wrong;
+        }
+        if 99999999 < value {
+            return Count::Wrong;
+        }
+        value = 10 * value + (d - b'0') as u64;
+    }
+    if digits.len() == 0 {
+        return Count::Wrong;
+    }
+    Count::Of(value)
+}
+
+// Where a line's text ends: before its line's end, if it has one.
+fn end_of(line: &[u8]) -> usize
+    ensures { λ r. ⌜ r ≤ length (now (line .entry)) ⌝ }
+{
+    let n = line.len();
+    if n == 0 {
+        return 0;
+    }
+    if line[n - 1] == b'\n' {
+        return n - 1;
+    }
+    n
+}
+
+// The count on a line: a letter and a blank stand before it.
+fn asked(line: &[u8]) -> Count {
+    let end = end_of(line);
+    if end < 3 {
+        return Count::Wrong;
+    }
+    if line[1] != b' ' {
+        return Count::Wrong;
+    }
+    count_of(&line[2..end])
+}
+
+// A byte counted up, round and round.
+fn up(b: u8) -> u8 {
+    std::num::wrapping_add_u8(b, 1)
+}
+
+// So many savings. The first byte of memory goes into the form, and from there, counted up, into the memory again.
+fn save_laps(bus: Bus, mem: &mut [u8], form: &mut [u8], count: u64) -> u8
+    requires { ⌜ (length (now mem) ≡ 4096) × (length (now form) ≡ 4276) ⌝ }
+{
+    for _ in 0..count {
+        saving::save(bus, mem, form);
+        mem[0] = up(form[FIRST]);
+    }
+    mem[0]
+}
+
+// So many restorings, the other way round.
+fn restore_laps(bus: Bus, mem: &mut [u8], form: &mut [u8], count: u64) -> u8
+    requires { ⌜ (length (now mem) ≡ 4096) × (length (now form) ≡ 4276) ⌝ }
+{
+    let mut at = bus;
+    for _ in 0..count {
+        let restored = restoring::restore(at, mem, form);
+        at = restored.bus;
+        form[FIRST] = up(mem[0]);
+    }
+    form[FIRST]
+}
+
+// So many copies of as many bytes.
+fn copy_laps(from: &mut [u8], to: &mut [u8], count: u64) -> u8
+    requires { ⌜ (length (now from) ≡ 4276) × (length (now to) ≡ 4276) ⌝ }
+{
+    for _ in 0..count {
+        bytes::copy(from, to);
+        from[FIRST] = up(to[FIRST]);
+    }
+    from[FIRST]
+}
+
+// The laps that a letter asks for, from a bench whose form has been saved once; the byte that has counted them, from FFh on.
+fn run(letter: u8, count: u64) -> u8 {
+    let made = fresh::setup([Pair { kind: 2, length: 5 }; 8]);
+    let bus = made.bus;
+    let mut mem = [0xFFu8; 4096];
+    let mut form = [0u8; FORM];
+    saving::save(bus, &mem, &mut form);
+    if letter == b's' {
+        return save_laps(bus, &mut mem, &mut form, count);
+    }
+    if letter == b'r' {
+        return restore_laps(bus, &mut mem, &mut form, count);
+    }
+    let mut to = [0u8; FORM];
+    copy_laps(&mut form, &mut to, count)
+}
+
+// The laps run, and `done`, or that they were not all run.
+fn serve(letter: u8, count: u64) {
+    let last = run(letter, count);
+    if last == ((count % 256 + 255) % 256) as u8 {
+        io::write_all(STDOUT_FILENO, b"done\n");
+    } else {
+        io::write_all(STDERR_FILENO, b"laps: a lap was lost\n");
+    }
+}
+
+fn main() {
+    let mut line = [0u8; 64];
+    let n = io::read_full(STDIN_FILENO, &mut line);
+    let letter = line[0];
+    if let Count::Of(count) = asked(&line[..n]) {
+        if (letter == b's') | (letter == b'r') | (letter == b'c') {
+            serve(letter, count);
+            return;
+        }
+    }
+    io::write_all(
+        STDERR_FILENO,
+        b"laps: say s, r or c, a blank and a count, as in: s 1000\n",
+    );
+}

@@ -1,0 +1,31 @@
+-- What is written lies in the output.
+-- Assumes nothing.
+use native.Mathlib.Omega.{arith}
+use borrow.Author.Needs.{needs}
+use Rattle.save.proofs.Laws.{answer-onward}
+use Rattle.save.proofs.serve.Statement.{statement}
+use Rattle.save.proofs.serve.Tie as tie
+
+pub serve-spec : {M : Type 1} → statement M
+serve-spec =
+    tie.close
+    (tie.spec
+    (λ c κs. search needs)
+    (λ c. search needs)
+    (λ c κs. search needs)
+    (λ c κs. search needs)
+    (λ c. search needs)
+    (λ c. search needs)
+    (λ c.
+    let a = c .before .before .answer in
+    let ran = c .before .before .before .before .before .before .before .before .before .run-records in (
+      omega (arith, answer-onward _ _ _ _ _ (a .ensures) (omega arith)),
+      record {
+        lines = _;
+        going = ran .result;
+        stored = ran .last .1 .0;
+        left = ran .last .1 .1 .0;
+        ended = ran .ensures;
+        answered = a .ensures;
+      },
+    )))
