@@ -169,11 +169,18 @@ function show_memory(i,   page, j, v, any, digits, text, shown) {
   if (!shown) print "  memory: FFh in every byte"
 }
 function show_slot(i) {
-  if (!kind[i]) { print "slot " i ": absent"; return }
   print "slot " i ": " kind_words(kind[i]) ", write cycle of " plural(ticks[i], "tick")
   print "  " protection_words(protection[i]) ", half " half[i] ", counter " hex(counter[i], 2) ", high voltage " (voltage[i] ? "on" : "off")
   if (kind[i] == 2) show_sensor(i)
   show_memory(i)
+}
+function show_slots(   i, last) {
+  for (i = 0; i < 8; i++) {
+    if (kind[i]) { show_slot(i); continue }
+    for (last = i; last < 7 && !kind[last + 1]; last++) ;
+    print (last > i ? "slots " i (last > i + 1 ? " to " : " and ") last : "slot " i) ": absent"
+    i = last
+  }
 }
 
 BEGIN {
@@ -190,5 +197,5 @@ END {
   if (departure != "") { print departure; exit 1 }
   if (mode == "setup") for (i = 0; i < 8; i++) printf "%d %d%s", kind[i], ticks[i], i < 7 ? " " : "\n"
   if (mode == "sum") print sum()
-  if (mode == "show") for (i = 0; i < 8; i++) show_slot(i)
+  if (mode == "show") show_slots()
 }
