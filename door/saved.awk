@@ -174,11 +174,12 @@ function show_slot(i) {
   if (kind[i] == 2) show_sensor(i)
   show_memory(i)
 }
-function show_slots(   i, last) {
+function show_slots(   i, last, which) {
   for (i = 0; i < 8; i++) {
     if (kind[i]) { show_slot(i); continue }
     for (last = i; last < 7 && !kind[last + 1]; last++) ;
-    print (last > i ? "slots " i (last > i + 1 ? " to " : " and ") last : "slot " i) ": absent"
+    which = last > i ? "slots " i (last > i + 1 ? " to " : " and ") last : "slot " i
+    print which ": absent"
     i = last
   }
 }
@@ -189,7 +190,7 @@ BEGIN {
   split("configuration high low critical temperature resolution timeout", name, " ")
   split("1999 8188 8188 8188 65535 3 1", kept, " ")      # 07CFh, 1FFCh three times, FFFFh, 0003h, 0001h
 }
-{ for (i = 1; i <= NF; i++) b[nbytes++] = $i }
+{ for (i = 1; i <= NF; i++) b[nbytes++] = $i + 0 }
 END {
   nbytes += 0; at = 0; size += 0; present = 0; sensors = 0
   read_form()
