@@ -18,6 +18,7 @@ use Rattle.rules.specs.declared.Refusal.the-variants.{MemoryLength, WrongForm}
 use Rattle.rules.specs.declared.Sensor.{Sensor}
 use Rattle.rules.specs.declared.Slot.{Slot}
 use Rattle.rules.specs.Modelled.{slotCount, slotBytes, memoryBytes, absent, sensing}
+use Rattle.rules.specs.Events.{refusalNumber, valueOf}
 use Rattle.rules.specs.Fresh.{absentSlot}
 use Rattle.rules.specs.Sensor.{registerOf}
 use Rattle.rules.specs.Refusals.{goodLength, wrongLength, sensorInRange, slotInRange, inRange}
@@ -37,6 +38,11 @@ refused-memory c n f h = rw (ne-eqb (length n) memoryBytes h)
 pub refused-form : (c : Bus) (n f : List ℕ) → length n ≡ memoryBytes → (accepted f n ≡ true → ⊥) → restoreOf c n f ≡ (record { bus = c; answer = answer.Refused WrongForm }, n)
 unfolding restoreOf wrongLength
 refused-form c n f l h = by-test (accepted f n) (λ e. absurd (h e)) (λ e. rw (eq-eqb (length n) memoryBytes l, e))
+
+-- the number that is answered: 1, then 10; and 0 where the form is read
+pub reading-number : (c : Bus) (n f : List ℕ) → valueOf (restoreOf c n f .0 .answer) ≡ cond (wrongLength n) 1 (cond (not (accepted f n)) 10 0)
+unfolding restoreOf valueOf refusalNumber
+reading-number c n f = by-test (wrongLength n) (λ e. rw e) (λ e. by-test (accepted f n) (λ a. rw (e, a)) (λ a. rw (e, a)))
 
 -- slot k as it is restored, and where its share of the field in row t stands
 abbrev pub slotIn : List ℕ → ℕ → Slot
