@@ -155,8 +155,8 @@ same-bench x c q =
     let f = formOf (x .bus) (x .memory) in
     let back : ReadsBack (x .bus) (x .memory) (x .memory) = reads-back (x .bus) (x .memory) (x .memory) (calm-typed x c) (c .ranged) (c .sized) (c .sized) in
     let bytes : memoryIn f (x .memory) ≡ x .memory
-        = parts-ext slotBytes slotCount (memoryIn f (x .memory)) (x .memory) (length-read f (x .memory) ∙ c .sized) (c .sized)
-        (λ k h. by-test (absent (getD (x .bus .slots) k absentSlot)) (back .untouched k h) (back .present k h)) in
+    = parts-ext slotBytes slotCount (memoryIn f (x .memory)) (x .memory) (length-read f (x .memory) ∙ c .sized) (c .sized)
+    (λ k h. by-test (absent (getD (x .bus .slots) k absentSlot)) (back .untouched k h) (back .present k h)) in
     λ i. record { bus = same-bus x c q i; memory = bytes i }
 
 -- From setup, after any run of events:
