@@ -1,17 +1,18 @@
 -- The longest form fits the program's output.
 -- Assumes nothing.
-use mathlib.Core.Path.{_≡_, refl, sym}
+use mathlib.Core.Path.{_≡_}
 use mathlib.Core.List.{List}
 use Prim.Native.Nat.{ℕ, zero, suc, _*_, _≤_}
+use native.Mathlib.Nat.{mul-suc}
 use native.Mathlib.Omega.{arith}
 use lib.Dec.{eqb}
 use lib.ListN.{length, getD}
 use Rattle.lists.specs.Tests.{by-test}
 use Rattle.rules.specs.declared.Bus.{Bus}
 use Rattle.rules.specs.declared.Slot.{Slot}
-use Rattle.rules.specs.Modelled.{memoryBytes}
+use Rattle.rules.specs.Modelled.{slotCount, memoryBytes}
 use Rattle.rules.specs.Fresh.{absentSlot}
-use Rattle.saved.specs.Form.{setupField, memoryField, stateField, sensorField, fields, fieldCount, fieldAt, formOf}
+use Rattle.saved.specs.Form.{setupField, memoryField, stateField, sensorField, fields, fieldAt, formOf}
 use Rattle.saved.specs.Reading.{sizeIn, offset, begins}
 use Rattle.saved.proofs.Places.{length-formOf}
 use Rattle.save.specs.Asked.{longestForm}
@@ -31,28 +32,14 @@ share-most (suc (suc zero)) s = by-test (eqb (s .kind) 0) (λ e. rw e (omega ari
 share-most (suc (suc (suc zero))) s = by-test (eqb (s .kind) 2) (λ e. rw e (omega arith)) (λ e. rw e (omega arith))
 share-most (suc (suc (suc (suc t)))) s = omega arith
 
-offset-two : (k : ℕ) (ss : List Slot) → offset 0 k ss ≤ 2 * k
+-- so many slots have that many times as much at most
+offset-most : (t : ℕ) (ss : List Slot) (k : ℕ) → offset t k ss ≤ most t * k
 unfolding offset
-offset-two zero ss = omega arith
-offset-two (suc k) ss = omega (arith, offset-two k ss, share-most 0 (getD ss k absentSlot))
-
-offset-memory : (k : ℕ) (ss : List Slot) → offset 1 k ss ≤ 512 * k
-unfolding offset
-offset-memory zero ss = omega arith
-offset-memory (suc k) ss = omega (arith, offset-memory k ss, share-most 1 (getD ss k absentSlot))
-
-offset-state : (k : ℕ) (ss : List Slot) → offset 2 k ss ≤ 4 * k
-unfolding offset
-offset-state zero ss = omega arith
-offset-state (suc k) ss = omega (arith, offset-state k ss, share-most 2 (getD ss k absentSlot))
-
-offset-sensor : (k : ℕ) (ss : List Slot) → offset 3 k ss ≤ 15 * k
-unfolding offset
-offset-sensor zero ss = omega arith
-offset-sensor (suc k) ss = omega (arith, offset-sensor k ss, share-most 3 (getD ss k absentSlot))
+offset-most t ss zero = omega arith
+offset-most t ss (suc k) = rw (mul-suc (most t) k) (omega (arith, offset-most t ss k, share-most t (getD ss k absentSlot)))
 
 pub form-fits : (b : Bus) (m : List ℕ) → length m ≡ memoryBytes → length (formOf b m) ≤ longestForm
 unfolding begins
 form-fits b m l =
     let ss : List Slot = b .slots in
-    omega (arith, length-formOf b m l, offset-two 8 ss, offset-memory 8 ss, offset-state 8 ss, offset-sensor 8 ss)
+    omega (arith, length-formOf b m l, offset-most 0 ss slotCount, offset-most 1 ss slotCount, offset-most 2 ss slotCount, offset-most 3 ss slotCount)

@@ -27,7 +27,7 @@ use Rattle.frame.proofs.Laws.{first-length, written}
 use Rattle.lines.specs.Script.{recordsIn, benchTo, begunAt}
 use Rattle.lines.specs.Program.{Read, inputOf}
 use Rattle.lines.proofs.Onward.{bench-in-range, bench-length}
-use Rattle.running.specs.Program.{Ran, turnsLeave, begun}
+use Rattle.running.specs.Program.{Ran, begun}
 use Rattle.running.proofs.Whole.{turns-left}
 use Rattle.saved.specs.declared.Saved.the-variants.{Refused}
 use Rattle.saved.specs.Form.{formOf}
