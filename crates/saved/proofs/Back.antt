@@ -64,7 +64,7 @@ module _ (b : Bus) (m : List ℕ) (typed : Typed b) (ranged : inRange b ≡ true
   read-stage (suc t) l k h =
       let f = formOf b m in
       let p : place t k (readTo t f) ≡ place t k ss
-          = same-place (readTo t f) ss t k (omega arith) (λ u g j i. ap (sizeIn u) (read-stage t (omega arith) j i) ∙ stage-size t u (slot j) g) in
+      = same-place (readTo t f) ss t k (omega arith) (λ u g j i. ap (sizeIn u) (read-stage t (omega arith) j i) ∙ stage-size t u (slot j) g) in
       read-at t k f h
       ∙ ap₂ (fieldAt t .reads f) p (read-stage t (omega arith) k h)
       ∙ stage-next (slot k) (part slotBytes k m) f (place t k ss) t l (in-range k h) (four-blocks k h) (λ j g. share-at ss m sized t k j l h g)

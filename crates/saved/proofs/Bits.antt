@@ -37,7 +37,7 @@ length-bits zero v = refl
 length-bits (suc n) v = ap suc (length-bits n (v / 2))
 
 -- n bits make a number below 2 to the n: so four are at most 15
-bit-small : (b : Bool) → cond b 1 0 ≤ 1
+pub bit-small : (b : Bool) → cond b 1 0 ≤ 1
 bit-small true = omega arith
 bit-small false = omega arith
 

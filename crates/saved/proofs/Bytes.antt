@@ -76,4 +76,3 @@ pub part-read : (f n : List ℕ) (k : ℕ) → length n ≡ memoryBytes → begi
     ≡ cond (absent (getD (busIn f .slots) k absentSlot)) (part slotBytes k n) (take slotBytes (drop (place memoryRow k (busIn f .slots)) f))
 unfolding memoryIn
 part-read f n k l h g = part-stored f (busIn f .slots) n l slotCount k g (omega arith) (λ j i. whole-in f (busIn f .slots) j h i)
-

@@ -5,7 +5,7 @@ use Prim.Native.Nat.{ℕ, zero, suc, _+_, _/_, _%_, _^_, _≤_, _<_}
 use native.Mathlib.Nat.{add-zero}
 use native.Mathlib.Omega.{arith}
 use mathlib.Core.Path.{_≡_, refl, sym, _∙_, ap}
-use mathlib.Core.Bool.{Bool, true, false, not, cond}
+use mathlib.Core.Bool.{true, false, not, cond}
 use mathlib.Core.List.{List, [], _++_}
 use lib.ListN.{length, getD, length-append, drop-of-length-le, List·getD-append}
 use borrow.Author.Tests.{eq-eqb, ne-eqb, leb-true}
@@ -18,13 +18,14 @@ use Rattle.rules.specs.declared.Refusal.the-variants.{MemoryLength, WrongForm}
 use Rattle.rules.specs.declared.Sensor.{Sensor}
 use Rattle.rules.specs.declared.Slot.{Slot}
 use Rattle.rules.specs.Modelled.{slotCount, slotBytes, memoryBytes, absent, sensing}
+use Rattle.rules.specs.Events.{refusalNumber, valueOf}
 use Rattle.rules.specs.Fresh.{absentSlot}
 use Rattle.rules.specs.Sensor.{registerOf}
 use Rattle.rules.specs.Refusals.{goodLength, wrongLength, sensorInRange, slotInRange, inRange}
 use Rattle.rules.proofs.Range.Kept.{InRange, facts}
 use Rattle.saved.specs.Form.{wordOf, bitsOf, setupField, memoryField, stateBytes, stateField, registersTo, sensorBytes, sensorField, fields, fieldCount, fieldAt, shareOf, formTo, formOf}
 use Rattle.saved.specs.Reading.{sizeIn, offset, begins, place, busIn, memoryIn, restored, accepted, restoreOf}
-use Rattle.saved.proofs.Bits.{bits-small}
+use Rattle.saved.proofs.Bits.{bit-small, bits-small}
 use Rattle.saved.proofs.Places.{tag-at, high-at, low-at, share-at, share-within, same-place, begins-by-kinds}
 use Rattle.saved.proofs.Stages.{resolution-small, timeout-small, length-zero}
 use Rattle.saved.proofs.Once.{typed-read, accepted-in-range, written-again, length-restored, accepted-length}
@@ -37,6 +38,11 @@ refused-memory c n f h = rw (ne-eqb (length n) memoryBytes h)
 pub refused-form : (c : Bus) (n f : List ℕ) → length n ≡ memoryBytes → (accepted f n ≡ true → ⊥) → restoreOf c n f ≡ (record { bus = c; answer = answer.Refused WrongForm }, n)
 unfolding restoreOf wrongLength
 refused-form c n f l h = by-test (accepted f n) (λ e. absurd (h e)) (λ e. rw (eq-eqb (length n) memoryBytes l, e))
+
+-- the number that is answered: 1, then 10; and 0 where the form is read
+pub reading-number : (c : Bus) (n f : List ℕ) → valueOf (restoreOf c n f .0 .answer) ≡ cond (wrongLength n) 1 (cond (not (accepted f n)) 10 0)
+unfolding restoreOf valueOf refusalNumber
+reading-number c n f = by-test (wrongLength n) (λ e. rw e) (λ e. by-test (accepted f n) (λ a. rw (e, a)) (λ a. rw (e, a)))
 
 -- slot k as it is restored, and where its share of the field in row t stands
 abbrev pub slotIn : List ℕ → ℕ → Slot
@@ -76,10 +82,6 @@ tags (suc zero) h = refl
 tags (suc (suc zero)) h = refl
 tags (suc (suc (suc zero))) h = refl
 tags (suc (suc (suc (suc t)))) h = absurd (omega arith)
-
-bit-small : (v : Bool) → cond v 1 0 ≤ 1
-bit-small true = omega arith
-bit-small false = omega arith
 
 good-length : (s : Slot) → InRange s → absent s ≡ false → goodLength (s .length) ≡ true
 unfolding absent
@@ -129,29 +131,18 @@ module _ (f n : List ℕ) (accepts : accepted f n ≡ true) (sized : length n �
   unfolding sizeIn shareOf fieldAt fields setupField
   length-in k h = byte-in 0 k 1 (omega arith) h (omega arith)
 
+  share-in : (t k size : ℕ) (own : List ℕ) → t < fieldCount → k < slotCount → sizeIn t (slotIn f k) ≡ size → shareOf t (slotIn f k) (part slotBytes k bytes) ≡ own
+      → (j : ℕ) → j < size → getD f (placeIn f t k + j) 0 ≡ getD own j 0
+  share-in t k size own h l e o j g = byte-in t k j h l (rw e g) ∙ ap (λ (x : List ℕ). getD x j 0) o
+
   state-in : (k : ℕ) → k < slotCount → absent (slotIn f k) ≡ false → (j : ℕ) → j < 4 → getD f (placeIn f 2 k + j) 0 ≡ getD (stateBytes (slotIn f k)) j 0
-  state-in k h a j l = by-cond
-    where
-      size : sizeIn 2 (slotIn f k) ≡ 4
-      size = unfold sizeIn fieldAt fields stateField absent in rw a
+  unfolding sizeIn shareOf fieldAt fields stateField absent
+  state-in k h a = share-in 2 k 4 (stateBytes (slotIn f k)) (omega arith) h (rw a) (rw a)
 
-      share : shareOf 2 (slotIn f k) (part slotBytes k (memoryIn f n)) ≡ stateBytes (slotIn f k)
-      share = unfold shareOf fieldAt fields stateField in rw a
-
-      by-cond : getD f (placeIn f 2 k + j) 0 ≡ getD (stateBytes (slotIn f k)) j 0
-      by-cond = byte-in 2 k j (omega arith) h (rw size l) ∙ ap (λ (x : List ℕ). getD x j 0) share
-
-  sensor-in : (k : ℕ) → k < slotCount → sensing (slotIn f k) ≡ true → (j : ℕ) → j < 15 → getD f (placeIn f 3 k + j) 0 ≡ getD (sensorBytes ((slotIn f k) .sensor)) j 0
-  sensor-in k h a j l = by-cond
-    where
-      size : sizeIn 3 (slotIn f k) ≡ 15
-      size = unfold sizeIn fieldAt fields sensorField sensing in rw a
-
-      share : shareOf 3 (slotIn f k) (part slotBytes k (memoryIn f n)) ≡ sensorBytes ((slotIn f k) .sensor)
-      share = unfold shareOf fieldAt fields sensorField in rw a
-
-      by-cond : getD f (placeIn f 3 k + j) 0 ≡ getD (sensorBytes ((slotIn f k) .sensor)) j 0
-      by-cond = byte-in 3 k j (omega arith) h (rw size l) ∙ ap (λ (x : List ℕ). getD x j 0) share
+  sensor-in : (k : ℕ) → k < slotCount → sensing (slotIn f k) ≡ true
+      → (j : ℕ) → j < 15 → getD f (placeIn f 3 k + j) 0 ≡ getD (sensorBytes ((slotIn f k) .sensor)) j 0
+  unfolding sizeIn shareOf fieldAt fields sensorField sensing
+  sensor-in k h a = share-in 3 k 15 (sensorBytes ((slotIn f k) .sensor)) (omega arith) h (rw a) (rw a)
 
   four-bits : (k : ℕ) → k < slotCount → bitsOf ((slotIn f k) .protection) ≤ 15
   four-bits k h =

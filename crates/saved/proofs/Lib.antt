@@ -3,6 +3,7 @@ pub mod Places
 pub mod Bits
 pub mod Stages
 pub mod Bytes
+pub mod Saves
 pub mod Back
 pub mod Once
 pub mod OneForm

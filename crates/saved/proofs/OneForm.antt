@@ -4,7 +4,7 @@
 use Prim.Native.Nat.{ℕ, _≤_}
 use native.Mathlib.Omega.{arith}
 use mathlib.Core.Path.{_≡_, refl, sym, _∙_, ap, ap₂, subst}
-use mathlib.Core.Bool.{true, false, false≢true, cond, _&&_}
+use mathlib.Core.Bool.{true, false, cond, _&&_}
 use mathlib.Core.List.{List, [], _∷_, map}
 use lib.Dec.{eqb, leb}
 use lib.ListN.{length, getD}
@@ -16,8 +16,7 @@ use Rattle.lists.specs.Tests.{cond-cases, by-test, and-left, and-right}
 use Rattle.rules.specs.declared.Bus.{Bus}
 use Rattle.rules.specs.declared.Event.{Event}
 use Rattle.rules.specs.declared.Pair.{Pair}
-use Rattle.rules.specs.declared.Phase.{Phase}
-use Rattle.rules.specs.declared.Phase.the-variants.{Idle, Control, Deaf, MemoryCounter, MemoryData, MemoryRead, HalfSelected, CommandAddress, CommandData, CommandStop, SensorPointer, SensorHigh, SensorLow, SensorReadHigh, SensorReadLow}
+use Rattle.rules.specs.declared.Phase.the-variants.{Idle}
 use Rattle.rules.specs.declared.Slot.{Slot}
 use Rattle.rules.specs.Modelled.{slotCount, slotBytes, memoryBytes, absent, sensing}
 use Rattle.rules.specs.Open.{open-fields}
@@ -32,11 +31,12 @@ use Rattle.runs.proofs.FromSetup.Reached.{Reach, none, some, rests, slot-reach,
 use Rattle.runs.proofs.FromSetup.Together as together
 use Rattle.runs.proofs.TwoClerks.Demand3.{begun, setup-ready, setup-number}
 use Rattle.saved.specs.Form.{formOf}
-use Rattle.saved.specs.Saving.{isIdle, quiet, allQuiet}
+use Rattle.saved.specs.Saving.{quiet, allQuiet}
 use Rattle.saved.specs.Reading.{busIn, memoryIn, restored, accepted}
 use Rattle.saved.specs.Rested.{rested, restedBus, Typed}
 use Rattle.runs.proofs.FromSetup.Plain.{FourBlocks, slot-blocks, setup-blocks, Plain, next-plain, setup-plain}
 use Rattle.saved.proofs.Bytes.{length-read}
+use Rattle.saved.proofs.Saves.{quiet-idle}
 use Rattle.saved.proofs.Back.{ReadsBack, reads-back}
 use Rattle.saved.proofs.Once.{accepted-in-range, length-restored, restored-rested, typed-read}
 
@@ -120,34 +120,15 @@ restored-calm f n a l = record {
     ranges = every-all slotInRange (busIn f .slots) (unfold inRange in accepted-in-range f n a)
 
 -- A slot that is quiet, and as a run leaves it, is what a form keeps of it.
-idle-phase : (p : Phase) → isIdle p ≡ true → p ≡ Idle
-unfolding isIdle
-idle-phase Idle e = refl
-idle-phase Control e = absurd (false≢true e)
-idle-phase Deaf e = absurd (false≢true e)
-idle-phase MemoryCounter e = absurd (false≢true e)
-idle-phase MemoryData e = absurd (false≢true e)
-idle-phase MemoryRead e = absurd (false≢true e)
-idle-phase HalfSelected e = absurd (false≢true e)
-idle-phase CommandAddress e = absurd (false≢true e)
-idle-phase CommandData e = absurd (false≢true e)
-idle-phase CommandStop e = absurd (false≢true e)
-idle-phase SensorPointer e = absurd (false≢true e)
-idle-phase SensorHigh e = absurd (false≢true e)
-idle-phase SensorLow e = absurd (false≢true e)
-idle-phase SensorReadHigh e = absurd (false≢true e)
-idle-phase SensorReadLow e = absurd (false≢true e)
-
 own-registers : (s : Slot) → Plain s → cond (sensing s) (s .sensor) freshSensor ≡ s .sensor
 own-registers s h = by-test (sensing s) (λ e. rw e) (λ e. rw e (sym (h e)))
 
 reach-rested : (s : Slot) → quiet s ≡ true → Reach s → Plain s → rested s ≡ s
-unfolding rested quiet
+unfolding rested
 reach-rested s q h p = cond-cases (λ (r : Slot). r ≡ s) (absent s) (λ a. sym (absent-reach s a h))
     (λ a.
-    let i : (isIdle (s .phase) && eqb (s .left) 0) ≡ true = rw a at q in
-    ap (atRest (s .kind) (s .length) (s .half) (s .counter) (s .protection) (s .voltage)) (own-registers s p)
-    ∙ sym (together.one-form s h (idle-phase (s .phase) (and-left (isIdle (s .phase)) (eqb (s .left) 0) i)) (eqb-true (s .left) 0 (and-right (isIdle (s .phase)) (eqb (s .left) 0) i))))
+    let i : (s .phase ≡ Idle) × (s .left ≡ 0) = quiet-idle s a q in
+    ap (atRest (s .kind) (s .length) (s .half) (s .counter) (s .protection) (s .voltage)) (own-registers s p) ∙ sym (together.one-form s h (i .0) (i .1)))
   where
     absent-reach : (s : Slot) → absent s ≡ true → Reach s → s ≡ absentSlot
     absent-reach s a (none e) = e
@@ -174,8 +155,8 @@ same-bench x c q =
     let f = formOf (x .bus) (x .memory) in
     let back : ReadsBack (x .bus) (x .memory) (x .memory) = reads-back (x .bus) (x .memory) (x .memory) (calm-typed x c) (c .ranged) (c .sized) (c .sized) in
     let bytes : memoryIn f (x .memory) ≡ x .memory
-        = parts-ext slotBytes slotCount (memoryIn f (x .memory)) (x .memory) (length-read f (x .memory) ∙ c .sized) (c .sized)
-        (λ k h. by-test (absent (getD (x .bus .slots) k absentSlot)) (back .untouched k h) (back .present k h)) in
+    = parts-ext slotBytes slotCount (memoryIn f (x .memory)) (x .memory) (length-read f (x .memory) ∙ c .sized) (c .sized)
+    (λ k h. by-test (absent (getD (x .bus .slots) k absentSlot)) (back .untouched k h) (back .present k h)) in
     λ i. record { bus = same-bus x c q i; memory = bytes i }
 
 -- From setup, after any run of events:

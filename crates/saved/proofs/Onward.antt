@@ -40,7 +40,7 @@ use Rattle.saved.specs.Saving.{allQuiet}
 use Rattle.saved.specs.Reading.{restored}
 use Rattle.saved.proofs.Bytes.{length-read}
 use Rattle.saved.proofs.Back.{reads-back}
-use Rattle.saved.proofs.OneForm.{Calm, calm-typed, setup-calm, after-calm, same-bus}
+use Rattle.saved.proofs.OneForm.{Calm, calm-typed, setup-calm, after-calm, same-bus, Lived, lived-calm}
 
 -- two benches with the same bus, of which every present slot has the same bytes, and with memories of the same length
 pub record Alike (x y : Bench) : Type 0 where
@@ -160,3 +160,8 @@ pub goes-on-from-setup : (ps : List Pair) (m n : List ℕ) (before es : List Eve
     → allQuiet ((after before (begun ps m)) .bus) ≡ true
     → GoesOn (after before (begun ps m)) (restored (formOf ((after before (begun ps m)) .bus) ((after before (begun ps m)) .memory)) n) es
 goes-on-from-setup ps m n before es l w v q = goes-on (after before (begun ps m)) n es (after-calm before (begun ps m) (setup-calm ps m l w)) q v
+
+-- and so behind any alternation of events and restores:
+pub goes-on-lived : (x : Bench) (n : List ℕ) (es : List Event) → Lived x → allQuiet (x .bus) ≡ true → length n ≡ memoryBytes
+    → GoesOn x (restored (formOf (x .bus) (x .memory)) n) es
+goes-on-lived x n es h q l = goes-on x n es (lived-calm x h) q l

@@ -1,13 +1,13 @@
 -- Where everything stands in a form: how long it is, where each field begins, where each slot's share of it stands, and that these go by the slots'
 -- kinds alone.
 -- Assumes nothing.
-use Prim.Native.Nat.{ℕ, zero, suc, _+_, _/_, _%_, _≤_, _<_}
-use native.Mathlib.Nat.{add-zero, add-assoc, zero-add}
+use Prim.Native.Nat.{ℕ, zero, suc, _+_, _*_, _/_, _%_, _≤_, _<_}
+use native.Mathlib.Nat.{add-zero, add-assoc, zero-add, mul-suc}
 use native.Mathlib.Omega.{arith}
 use borrow.Author.Tests.{eqb-true, eqb-false}
 use mathlib.Core.Path.{_≡_, refl, sym, _∙_, ap, ap₂}
 use mathlib.Core.Bool.{false}
-use mathlib.Core.List.{List, _∷_, _++_}
+use mathlib.Core.List.{List, [], _∷_, _++_}
 use lib.Dec.{eqb}
 use lib.ListN.{length, getD, take, drop, length-append, length-take, length-drop, length-replicate, List·getD-append}
 use lib.Seq.{getD-append-add, getD-take, getD-drop, ext-getD}
@@ -172,6 +172,36 @@ module _ (ss : List Slot) (m : List ℕ) (sized : length m ≡ memoryBytes) wher
 pub length-formOf : (b : Bus) (m : List ℕ) → length m ≡ memoryBytes → length (formOf b m) ≡ begins fieldCount (b .slots)
 unfolding formOf
 length-formOf b m l = length-form (b .slots) m l fieldCount
+
+-- How long things can get: a pair 2 bytes, a memory 512, a state 4, a sensor 15; so a form has at most 4,276, and every length fits in its two bytes.
+abbrev pub mostIn : ℕ → ℕ
+mostIn t = getD (2 ∷ slotBytes ∷ 4 ∷ 15 ∷ []) t 2
+
+pub size-most : (t : ℕ) (s : Slot) → sizeIn t s ≤ mostIn t
+unfolding sizeIn fieldAt fields setupField memoryField stateField sensorField
+size-most zero s = omega arith
+size-most (suc zero) s = by-test (eqb (s .kind) 0) (λ e. rw e (omega arith)) (λ e. rw e (omega arith))
+size-most (suc (suc zero)) s = by-test (eqb (s .kind) 0) (λ e. rw e (omega arith)) (λ e. rw e (omega arith))
+size-most (suc (suc (suc zero))) s = by-test (eqb (s .kind) 2) (λ e. rw e (omega arith)) (λ e. rw e (omega arith))
+size-most (suc (suc (suc (suc t)))) s = omega arith
+
+pub offset-most : (t k : ℕ) (ss : List Slot) → offset t k ss ≤ mostIn t * k
+unfolding offset
+offset-most t zero ss = omega arith
+offset-most t (suc k) ss =
+    let h = offset-most t k ss in
+    let s : sizeIn t (getD ss k absentSlot) ≤ mostIn t = size-most t (getD ss k absentSlot) in
+    let m : mostIn t * suc k ≡ mostIn t * k + mostIn t = mul-suc (mostIn t) k in
+    omega arith
+
+pub length-most : (ss : List Slot) → begins fieldCount ss ≤ 4276
+unfolding begins
+length-most ss =
+    let a : offset 0 slotCount ss ≤ 16 = offset-most 0 slotCount ss in
+    let b : offset 1 slotCount ss ≤ 4096 = offset-most 1 slotCount ss in
+    let c : offset 2 slotCount ss ≤ 32 = offset-most 2 slotCount ss in
+    let d : offset 3 slotCount ss ≤ 120 = offset-most 3 slotCount ss in
+    omega arith
 
 -- Places go by sizes alone: slots with as many bytes in the fields up to row t have their shares at the same places there.
 module _ (ss rs : List Slot) where

@@ -85,9 +85,9 @@ module _ (s : Slot) (p f : List ℕ) (at : ℕ) where
   state-back x a l h =
       let g : (j : ℕ) → j < 4 → getD f (at + j) 0 ≡ getD (stateBytes s) j 0 = rw a at h in
       let b : bitsIn 4 (getD f at 0) ≡ s .protection
-          = ap (bitsIn 4) (ap (λ (n : ℕ). getD f n 0) (sym (add-zero at)) ∙ g 0 (omega arith))
-          ∙ ap (λ (n : ℕ). bitsIn n (bitsOf (s .protection))) (sym l)
-          ∙ bits-back (s .protection) in
+      = ap (bitsIn 4) (ap (λ (n : ℕ). getD f n 0) (sym (add-zero at)) ∙ g 0 (omega arith))
+      ∙ ap (λ (n : ℕ). bitsIn n (bitsOf (s .protection))) (sym l)
+      ∙ bits-back (s .protection) in
       let v : eqb (getD f (at + 3) 0) 1 ≡ s .voltage = ap (λ (n : ℕ). eqb n 1) (g 3 (omega arith)) ∙ voltage-back (s .voltage) in
       λ i. inHalf (g 1 (omega arith) i) (atCounter (g 2 (omega arith) i) (withVoltage (v i) (expecting (b i) (protecting (b i) x))))
 
@@ -97,7 +97,7 @@ module _ (s : Slot) (p f : List ℕ) (at : ℕ) where
       let x = s .sensor in
       let g : (j : ℕ) → j < 15 → getD f (at + j) 0 ≡ getD (sensorBytes x) j 0 = rw a at h in
       let up : (j : ℕ) → suc j < 15 → getD f (at + j + 1) 0 ≡ getD (sensorBytes x) (suc j) 0
-          = λ j l. ap (λ (n : ℕ). getD f n 0) (add-assoc at j 1 ∙ ap (λ (n : ℕ). at + n) (add-one j)) ∙ g (suc j) l in
+      = λ j l. ap (λ (n : ℕ). getD f n 0) (add-assoc at j 1 ∙ ap (λ (n : ℕ). at + n) (add-one j)) ∙ g (suc j) l in
       let res : x .resolution % 256 ≡ x .resolution = let e = resolution-small x r in omega arith in
       let tim : x .timeout % 256 ≡ x .timeout = let e = timeout-small x r in omega arith in
       λ i. record {

@@ -45,5 +45,5 @@ unfolding verdictLine
 short = refl
 
 pub bad-setup : verdictLine (Refused WrongSetup) ≡ 0x52 ∷ 0x35 ∷ 0x0A ∷ []
-unfolding verdictLine lineOf digitsOf letterOf refusalNumber
+unfolding verdictLine lineOf digitsOf letterOf refusalNumber decimal decimalIn digit
 bad-setup = refl

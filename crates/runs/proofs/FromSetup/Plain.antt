@@ -56,7 +56,7 @@ four-coming h l (byClear b e p a f g) = ap length g
 pub slot-blocks : (n : ℕ) (a : Act) (s : Slot) → FourBlocks s → FourBlocks (slotNext n a s)
 slot-blocks n a s h =
     let p : length ((slotNext n a s) .protection) ≡ 4
-        = ap length (protection-next n a s) ∙ cond-cases (λ (l : List Bool). length l ≡ 4) (finishes a s && not (absent s)) (λ e. h .comes) (λ e. h .stands) in
+    = ap length (protection-next n a s) ∙ cond-cases (λ (l : List Bool). length l ≡ 4) (finishes a s && not (absent s)) (λ e. h .comes) (λ e. h .stands) in
     record { stands = p; comes = four-coming h p (coming-next n a s) }
 
 pub fresh-blocks : (kind long : ℕ) → FourBlocks (freshSlot kind long)
@@ -222,7 +222,7 @@ taken-plain e x u w h =
     let m : k < length ss = rw (length-mapFrom (λ n s. slotNext n a s) 0 ss) at l in
     let s = getD ss k absentSlot in
     let same : e .slot .0 ≡ k → s .kind ≡ kindAt (kindsOf (x .bus)) (e .slot)
-        = λ i. sym (kind-of (x .bus) k) ∙ ap (λ (j : ℕ). getD (kindsOf (x .bus)) j 0) (sym i) ∙ unfold kindAt in refl in
+    = λ i. sym (kind-of (x .bus) k) ∙ ap (λ (j : ℕ). getD (kindsOf (x .bus)) j 0) (sym i) ∙ unfold kindAt in refl in
     subst Plain (sym (mapFrom-at (λ n s. slotNext n a s) 0 ss k absentSlot m ∙ ap (λ (j : ℕ). slotNext j a s) (zero-add k)))
     (slot-plain k a s (passes-fitting e _ k s u w same) (every-at Plain k ss absentSlot m h)))
 

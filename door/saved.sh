@@ -1,0 +1,63 @@
+# shellcheck shell=bash
+# What ./plungerhen save, show and resume have in common; sourced, not run. Who sources it has set `here`, this folder, and `called`.
+# shellcheck disable=SC2154    # these two
+say() { printf '%s: %s\n' "$called" "${*//[[:cntrl:]]/?}" >&2; }
+die() { say "$@"; exit 2; }
+
+# words COUNT WHAT WORD...: the files that are named, in `files`
+words() {
+    local count=$1 what=$2
+    shift 2
+    files=()
+    while [ $# -gt 0 ]; do
+        case $1 in
+        -h | --help) exec "$here/../plungerhen" help ;;
+        --) shift; files+=("$@"); break ;;
+        -?*) die "there is no option '$1'" ;;
+        *) files+=("$1"); shift ;;
+        esac
+    done
+    [ ${#files[@]} -eq "$count" ] || die "$what is wanted, and $(plural ${#files[@]} file) given (./plungerhen help says more)"
+}
+plural() { if [ "$1" -eq 1 ]; then printf '1 %s is' "$2"; else printf '%s %ss are' "$1" "$2"; fi; }
+
+# readable FILE: ends with a sentence if it is not
+readable() {
+    [ -e "$1" ] || die "there is no file '$1'"
+    [ ! -d "$1" ] || die "'$1' is a folder"
+    [ -f "$1" ] || die "'$1' is no plain file"
+    [ -r "$1" ] || die "'$1' is not readable"
+}
+
+# A folder for what is made on the way, and a file beside its place: both go at the end.
+work='' aside=''
+trap 'rm -rf -- ${work:+"$work"} ${aside:+"$aside"}' EXIT
+workplace() { work=$(mktemp -d) || die "there is no place for what is made on the way"; }
+
+# ---- a file that is said to hold a form: `saved FILE` sees that it does, by the word of the proved program `resume` (./run resume), or of the
+# command line that the environment variable RESUME names. That program's word counts; where it refuses, the place is looked for here
+# (saved.awk), and where the two do not agree one of them is wrong. Then $work/form is the form with its length before it, as the program reads it.
+resume() { if [ -n "${RESUME:-}" ]; then eval "$RESUME"; else "$here/../run" resume; fi; }
+# telling MODE FILE: what saved.awk says of it
+telling() { od -An -v -tu1 -N65536 <"$2" | awk -f "$here/saved.awk" -v mode="$1" -v size="$(wc -c <"$2")"; }
+
+saved() {
+    local size said status departs
+    readable "$1"
+    workplace
+    size=$(wc -c <"$1")
+    [ "$size" -le 65535 ] || size=65536      # the program takes no form that long, and does not read it
+    # shellcheck disable=SC2059    # the bytes are escapes
+    { printf "$(printf '\\%03o' 0 $((size / 65536)) $((size / 256 % 256)) $((size % 256)))"; head -c "$size" <"$1"; } >"$work/form"
+    said=$(resume <"$work/form")
+    status=$?
+    departs=$(telling departs "$1") || die "'$1' could not be read (awk failed)"
+    case $said,$status,$departs in
+    ,0,) ;;
+    R10,*,?*) say "'$1' is refused (10): $departs"; exit 1 ;;
+    ,0,*) die "THE TWO READERS DIFFER: the program resume accepts '$1', but it departs: $departs" ;;
+    R10,*) die "THE TWO READERS DIFFER: the program resume refuses '$1' (10), and no place is found where it departs" ;;
+    ,*) die "the program resume could not be built or run" ;;
+    *) die "the program resume gave something that is no verdict on '$1': $said" ;;
+    esac
+}

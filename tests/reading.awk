@@ -1,0 +1,74 @@
+# A case file (cases/README.md) read into a plan, for tests/case, door/save and door/resume. The words are those of words.awk, which is read before this.
+#
+# One row a line, fields parted by tabs:
+#   I  number of events, number of events not compared, all bytes for the program as octal escapes
+#   C  0, a line to show as it is (comment or setup)
+#   S  line number, its text, "setup", the setup's answer
+#   E  line number, its text, the event in words, the answer (? not compared, "nothing" no line at all),
+#      and with a line's last event the comment that stands behind it, if any
+# or, alone, B: line number, what is wrong there.
+#
+#   strict  1: every line wants its answers
+#   bench   empty, or the sixteen numbers of a saved bench's setup, from which the case is played: the case's own setup must be the same or not
+#           there, and row I has the records alone
+
+function row(text) { rows[++nrows] = text }
+
+function setupline(left,   i) {
+  if (nevents) bad("setup comes before the first event")
+  setupwords(left)
+  for (i = 0; i < 8; i++) if ((i in kind) && !(i in named_at)) named_at[i] = NR
+  last_setup = NR
+  if (bench != "" && (cut || arrow)) bad("from a saved bench, the setup is whole and not refused")
+  if (cut && !arrow) bad("a setup of fewer than 16 numbers is cut short: write -> short")
+  row("C\t0\t" $0)
+  if (arrow) {
+    if (setupanswer != "") bad("the setup has its answer already")
+    if (nwant != 1 || (want[1] != "R5" && want[1] != "short")) bad("a setup is answered R5 or short, or has no arrow")
+    setupanswer = want[1]
+    row("S\t" NR "\t" left "\tsetup\t" setupanswer)
+  }
+}
+
+# The setup that the case tells against that of the bench it is played from.
+function slot_words(k, ticks) { return k ? (k == 1 ? "memory" : k == 2 ? "sensor" : "of kind " k ",") " " ticks : "absent" }
+function same_bench(   i, saved, here, there) {
+  split(bench, saved, " ")
+  for (i = 0; i < 8; i++) {
+    here = slot_words(kind[i], size[i]); there = slot_words(saved[2 * i + 1] + 0, saved[2 * i + 2])
+    if (here == there) continue
+    NR = (i in named_at) ? named_at[i] : last_setup
+    bad("slot " i " is \"" here "\" in this case, and \"" there "\" in the saved bench")
+  }
+}
+
+{
+  if (!parted()) { if ($0 ~ /[^ ]/) row("C\t0\t" $0); next }
+  if (arrow && right == "") bad("nothing stands after the arrow (if no line is to come, write: nothing)")
+  if (right != "nothing") answer_list(right, "^(R[1-6]|short)$", "R2 to R5, short, nothing")
+  lines++
+  if (left ~ /^(slot|setup)( |$)/) { setupline(left); next }
+  if (left ~ /^memory( |$)/) bad("a case begins with FFh in every byte; a file that tells the memory is a capture (./plungerhen capture)")
+
+  if (form == "setup" && cut && !nevents) bad("the setup is cut short; no event can follow it")
+  if (setupanswer == "short") bad("the setup is to be cut short; no event can follow it")
+  if (strict && !arrow) bad("no expected answer: -> is missing")
+  event_list(left)
+  if (setupanswer == "R5" && right != "nothing") bad("after a refused setup no event is answered: write -> nothing")
+  if (right == "nothing" && setupanswer != "R5") bad("only after a refused setup is nothing answered")
+  if (!arrow) loose += nline
+  else if (right != "nothing") match_list()
+  for (i = 1; i <= nline; i++) {
+    nevents++
+    answer = !arrow ? "?" : right == "nothing" ? "nothing" : due[i]
+    row("E\t" NR "\t" left "\t" told[i] "\t" answer (i == nline && note != "" ? "\t   " note : ""))
+  }
+}
+
+END {
+  if (wrong) exit
+  if (!lines) { NR = NR ? NR : 1; bad("neither setup nor event in this file"); exit }
+  if (bench != "" && form != "") same_bench()
+  printf "I\t%d\t%d\t%s\n", nevents, loose, (bench == "" ? setupbytes() : "") input
+  for (i = 1; i <= nrows; i++) print rows[i]
+}
