@@ -37,7 +37,7 @@ unfoldable pub descriptorOf : Bool → ℤ
 descriptorOf true = pos 1
 descriptorOf false = pos 2
 
--- bytes of the longest form, that of eight slots of kind 2 (proofs/Fits.form-fits): four heads of 3, and in them 16, 4,096, 32 and 120
+-- bytes of the longest form, that of eight slots of kind 2 (`saved` shows that none is longer: proofs/Places.length-most): four heads of 3, and in them 16, 4,096, 32 and 120
 abbrev pub longestForm : ℕ
 longestForm = 4276
 
