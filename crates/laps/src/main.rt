@@ -1,6 +1,6 @@
 // Laps for the benchmarks: a letter and a count on standard input, as `s 1000`, and so many savings (`s`) of a bench with eight slots of kind 2, restorings of its
-// form (`r`), or copies of as many bytes (`c`); then `done` on standard output. Each lap's result is the next lap's input: it counts one byte up, and `done` is
-// written only where that byte has counted the laps, so that no lap can be left out.
+// form (`r`), or copies of as many bytes (`c`); then `done` on standard output. So that the compiler leaves no lap out, each lap's result is the next one's input:
+// it counts one byte up, and `done` is written only where that byte has counted the laps, and out of the room that they have filled.
 ghost use mathlib.Core.Path.{_≡_};
 ghost use Prim.Native.Nat.{_≤_};
 ghost use lib.ListN.{length};
@@ -109,31 +109,39 @@ fn copy_laps(from: &mut [u8], to: &mut [u8], count: u64) -> u8
     from[FIRST]
 }
 
-// The laps that a letter asks for, from a bench whose form has been saved once; the byte that has counted them, from FFh on.
-fn run(letter: u8, count: u64) -> u8 {
+// The end of some laps: where the byte has counted them, from FFh on, `done` is put into the room that they have filled, and written out of it. Whoever writes
+// may look at all of a room, so the laps have to fill all of it.
+fn finish(last: u8, count: u64, room: &mut [u8])
+    requires { ⌜ 5 ≤ length (now room) ⌝ }
+{
+    if last != ((count % 256 + 255) % 256) as u8 {
+        io::write_all(STDERR_FILENO, b"laps: a lap was lost\n");
+        return;
+    }
+    bytes::copy(b"done\n", room);
+    io::write_all(STDOUT_FILENO, &room[..5]);
+}
+
+// The laps that a letter asks for, from a bench whose form has been saved once.
+fn run(letter: u8, count: u64) {
     let made = fresh::setup([Pair { kind: 2, length: 5 }; 8]);
     let bus = made.bus;
     let mut mem = [0xFFu8; 4096];
     let mut form = [0u8; FORM];
     saving::save(bus, &mem, &mut form);
     if letter == b's' {
-        return save_laps(bus, &mut mem, &mut form, count);
+        let last = save_laps(bus, &mut mem, &mut form, count);
+        finish(last, count, &mut form);
+        return;
     }
     if letter == b'r' {
-        return restore_laps(bus, &mut mem, &mut form, count);
+        let last = restore_laps(bus, &mut mem, &mut form, count);
+        finish(last, count, &mut mem);
+        return;
     }
     let mut to = [0u8; FORM];
-    copy_laps(&mut form, &mut to, count)
-}
-
-// The laps run, and `done`, or that they were not all run.
-fn serve(letter: u8, count: u64) {
-    let last = run(letter, count);
-    if last == ((count % 256 + 255) % 256) as u8 {
-        io::write_all(STDOUT_FILENO, b"done\n");
-    } else {
-        io::write_all(STDERR_FILENO, b"laps: a lap was lost\n");
-    }
+    let last = copy_laps(&mut form, &mut to, count);
+    finish(last, count, &mut to);
 }
 
 fn main() {
@@ -142,7 +150,7 @@ fn main() {
     let letter = line[0];
     if let Count::Of(count) = asked(&line[..n]) {
         if (letter == b's') | (letter == b'r') | (letter == b'c') {
-            serve(letter, count);
+            run(letter, count);
             return;
         }
     }

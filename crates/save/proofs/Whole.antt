@@ -27,16 +27,16 @@ use Rattle.frame.proofs.Laws.{first-length, written}
 use Rattle.lines.specs.Script.{recordsIn, benchTo, begunAt}
 use Rattle.lines.specs.Program.{Read, inputOf}
 use Rattle.lines.proofs.Onward.{bench-in-range, bench-length}
-use Rattle.running.specs.Program.{Ran, turnsLeave, begun}
+use Rattle.running.specs.Program.{Ran, begun}
 use Rattle.running.proofs.Whole.{turns-left}
 use Rattle.saved.specs.declared.Saved.the-variants.{Refused}
 use Rattle.saved.specs.Form.{formOf}
 use Rattle.saved.specs.Saving.{allQuiet, saveOf}
 use Rattle.saved.proofs.Back.{saves-form}
+use Rattle.saved.proofs.Places.{length-formOf, length-most}
 use Rattle.save.specs.declared.Answered.{Answered}
 use Rattle.save.specs.Asked.{onOutput, onErrors, longestForm, busyLine, benchText, endText, savedAnswer, answerOf, answerTo, writtenFor}
 use Rattle.save.specs.Program.{Served, fronted, serveWrites, saveWrites}
-use Rattle.save.proofs.Fits.{form-fits}
 
 -- a bench in range with its whole memory: it is saved, or refused with 8
 saved-busy : (b : Bus) (m out : List ℕ) → length m ≡ memoryBytes → inRange b ≡ true → allQuiet b ≡ false → saveOf b m out ≡ (Refused Busy, out)
@@ -51,7 +51,7 @@ answer-text x left out r l room =
     let form : List ℕ = formOf (x .bus) (x .memory) in
     by-test (eqb left 0)
     (λ z. by-test (allQuiet (x .bus))
-    (λ q. rw (z, q, saves-form (x .bus) (x .memory) out l r q (omega (arith, form-fits (x .bus) (x .memory) l))) (ap onOutput (take-append-seam form (drop (length form) out))))
+    (λ q. rw (z, q, saves-form (x .bus) (x .memory) out l r q (omega (arith, length-formOf (x .bus) (x .memory) l, length-most (x .bus .slots)))) (ap onOutput (take-append-seam form (drop (length form) out))))
     (λ q. rw (z, q, saved-busy (x .bus) (x .memory) out l r q) (ap onErrors (written out busyLine (omega arith)))))
     (λ z. rw z (ap onErrors (written out shortLine (omega arith))))
 

@@ -1,9 +1,10 @@
 -- The save program: what it writes for what it reads.
 -- Assumes nothing.
 use Prim.Native.Nat.{ℕ, _%_}
-use mathlib.Core.Bool.{true, false, cond}
+use mathlib.Core.Bool.{Bool, true, false, cond}
 use mathlib.Core.List.{List, [], _∷_}
 use lib.Dec.{eqb, ltb}
+use lib.IntN.{ℤ, pos}
 use lib.ListN.{length, drop}
 use lib.Seq.{sets}
 use Rattle.lists.specs.Each.{allOf}
@@ -31,7 +32,12 @@ onOutput bs = record { output = bs; errors = [] }
 abbrev pub onErrors : List ℕ → Written
 onErrors bs = record { output = []; errors = bs }
 
--- bytes of the longest form, that of eight slots of kind 2 (proofs/Fits.form-fits): four heads of 3, and in them 16, 4,096, 32 and 120
+-- the descriptors of the two: where a form goes, and where a line does
+unfoldable pub descriptorOf : Bool → ℤ
+descriptorOf true = pos 1
+descriptorOf false = pos 2
+
+-- bytes of the longest form, that of eight slots of kind 2 (`saved` shows that none is longer: proofs/Places.length-most): four heads of 3, and in them 16, 4,096, 32 and 120
 abbrev pub longestForm : ℕ
 longestForm = 4276
 

@@ -7,7 +7,7 @@ ghost use Prim.Native.Nat.{_≤_};
 ghost use lib.ListN.{length};
 ghost use Rattle.rules.specs.Modelled.{memoryBytes};
 ghost use Rattle.rules.specs.Refusals.{inRange};
-ghost use Rattle.save.specs.Asked.{longestForm, answerOf};
+ghost use Rattle.save.specs.Asked.{descriptorOf, longestForm, answerOf};
 ghost use Rattle.save.specs.Program.{Served};
 use libc::STDERR_FILENO;
 use libc::STDOUT_FILENO;
@@ -56,7 +56,9 @@ fn serve(bus: Bus, mem: &mut [u8], out: &mut [u8]) -> Answered
 }
 
 // Where an answer goes.
-fn descriptor(form: bool) -> i32 {
+fn descriptor(form: bool) -> i32
+    ensures { λ r. ⌜ r ≡ descriptorOf form ⌝ }
+{
     if form { STDOUT_FILENO } else { STDERR_FILENO }
 }
 
