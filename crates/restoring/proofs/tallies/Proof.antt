@@ -3,7 +3,7 @@
 use Prim.Native.Nat.{ℕ, _+_, _-_, _≤_}
 use borrow.Author.Needs.{needs}
 use lib.ListN.{length}
-use mathlib.Core.Path.{_≡_, refl, _∙_}
+use mathlib.Core.Path.{_≡_, refl}
 use native.Mathlib.Omega.{arith}
 use Rattle.restoring.proofs.Laws.{fields-none, fields-step, tallies-not, tallies-all}
 use Rattle.restoring.proofs.tallies.Statement.{statement}
@@ -25,8 +25,8 @@ tallies-spec =
     Inv-loop
     μ-loop
     (λ c κs. search needs)
-    (λ c. tallies-not _ _ _ (c .before .begins .ensures) (c .if1 .taken))
-    (λ c. (omega arith, c .if1 .left ∙ c .before .begins .ensures, fields-none _ _))
+    (λ c. tallies-not _ _ _ (c .before .begins .ensures) (λ z. omega (arith, c .if1 .taken, z)))
+    (λ c. (omega arith, omega (arith, c .if1 .left, c .before .begins .ensures), fields-none _ _))
     (λ c κs. let l = c .before .loop in (omega arith, l .inv .1))
     (λ c κs. let l = c .before .before .loop in (omega arith, l .inv .1))
     (λ c. search needs)
