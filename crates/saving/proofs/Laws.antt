@@ -74,9 +74,13 @@ module _ (t i n : ℕ) (ss : List Slot) (d : Slot) (m : List ℕ) (h : i < lengt
   -- and its room
   pub share-room : length m ≡ memoryBytes → i < slotCount
       → length (shares t i ss m) + length (shareOf t (getD ss i d) (take n (drop (slotBytes * i) m))) ≤ length (shares t slotCount ss m)
-  share-room l g = omega (arith,
+  share-room l g = omega (
+    arith,
     sym (length-append (shares t i ss m) (shareOf t (getD ss i d) (take n (drop (slotBytes * i) m)))) ∙ ap length (sym next-share),
-    length-shares ss m l t (i + 1) (omega arith), length-shares ss m l t slotCount (omega arith), offset-up ss t (i + 1) slotCount (omega arith))
+    length-shares ss m l t (i + 1) (omega arith),
+    length-shares ss m l t slotCount (omega arith),
+    offset-up ss t (i + 1) slotCount (omega arith),
+  )
 
 -- a field: its tag, its length, the shares
 pub field-put : (t tag count at one two end : ℕ) (ss : List Slot) (m out o p q : List ℕ) → length m ≡ memoryBytes → tag ≡ fieldAt t .tag → count ≡ offset t slotCount ss

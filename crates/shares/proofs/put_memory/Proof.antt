@@ -19,7 +19,7 @@ put-memory-spec =
     (λ c. omega (arith, room-as _ _ _ _ (memory-share _ _ (c .if1 .left)) (c .before .before .before .before .pre)))
     (λ c κs. search needs)
     (λ c. search needs)
-    (λ c. 
+    (λ c.
     let f = c .before .before .before .before in
     let a = f .before .before .before .before .args in
     let h = room-as _ _ _ _ (memory-share (a .s) (a .memory .now) (f .if1 .left)) (f .before .before .before .before .pre) in
