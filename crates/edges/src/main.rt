@@ -1,6 +1,7 @@
 // A bench for what no script can reach: it reads tries, hands in the states and memories that they ask for, and writes each command with what
 // came of it. `stdin` says what a line may hold, and `stdout` has what document 01 asks for.
 ghost use Prim.Native.Nat.{_≤_};
+use rules::Answer;
 use rules::BlockNo;
 use rules::Bus;
 use rules::Event;
@@ -8,6 +9,7 @@ use rules::Outcome;
 use rules::Pair;
 use rules::Slot;
 use rules::SlotNo;
+use saved::Saved;
 use tries::Bench;
 
 fn least(a: usize, b: usize) -> usize
@@ -50,6 +52,66 @@ fn check(pairs: [Pair; 8], mem: &[u8], length: usize, t: [u32; 38]) {
     told::verdict(checking::check(pairs, &mem[..end], &records[..n]));
 }
 
+// A bench with the first `length` bytes, saved into the first `room` bytes of the shelf.
+fn saved(slots: [Slot; 8], mem: &[u8], length: usize, shelf: &mut [u8], room: usize) -> Saved {
+    let end = least(length, mem.len());
+    let n = least(room, shelf.len());
+    saving::save(Bus { slots }, &mem[..end], &mut shelf[..n])
+}
+
+// The form's length or the refusal.
+fn tell(s: Saved) {
+    match s {
+        Saved::Form(n) => told::kept(n),
+        Saved::Refused(r) => told::answer(Answer::Refused(r)),
+    }
+}
+
+// A saving, and what came of it.
+fn save(b: Bench, mem: &[u8; 8192], shelf: &mut [u8; 8192], room: u32) {
+    let slots = b.slots;
+    let old = *shelf;
+    tell(saved(slots, mem, b.length, shelf, room as usize));
+    told::changed(!check::same(&old, shelf));
+}
+
+// The first `size` bytes of the shelf as a form, read into the bus with the first `length` bytes.
+fn restored(slots: [Slot; 8], mem: &mut [u8], length: usize, shelf: &[u8], size: usize) -> Outcome {
+    let end = least(length, mem.len());
+    let n = least(size, shelf.len());
+    restoring::restore(Bus { slots }, &mut mem[..end], &shelf[..n])
+}
+
+// A restore, and what came of it.
+fn restore(b: Bench, mem: &mut [u8; 8192], shelf: &[u8; 8192], size: u32) -> Bench {
+    let was = b.slots;
+    let old = *mem;
+    let out = restored(was, mem, b.length, shelf, size as usize);
+    told::came(out, was, &old, mem);
+    let bus = out.bus;
+    let slots = bus.slots;
+    let mut next = b;
+    next.slots = slots;
+    next
+}
+
+// One byte on the shelf is made another.
+fn put(shelf: &mut [u8; 8192], v: u32, n: u32, i: u32) {
+    shelf[(512 * (n % 16) + i % 512) as usize] = (v % 256) as u8;
+}
+
+// What is done with the shelf.
+fn shelve(b: Bench, mem: &mut [u8; 8192], shelf: &mut [u8; 8192], t: [u32; 38]) -> Bench {
+    match t[0] {
+        names::RESTORE => return restore(b, mem, shelf, t[1]),
+        names::SAVE => save(b, mem, shelf, t[1]),
+        names::FORM => told::at(shelf, t[1], t[2]),
+        names::PUT => put(shelf, t[1], t[2], t[3]),
+        _ => {}
+    }
+    b
+}
+
 // What looks, and leaves all as it is.
 fn look(b: Bench, mem: &[u8; 8192], t: [u32; 38]) {
     let pairs = b.pairs;
@@ -64,17 +126,19 @@ fn look(b: Bench, mem: &[u8; 8192], t: [u32; 38]) {
 }
 
 // A command, if it is understood.
-fn run(b: Bench, mem: &mut [u8; 8192], t: [u32; 38]) -> Bench {
+fn run(b: Bench, mem: &mut [u8; 8192], shelf: &mut [u8; 8192], t: [u32; 38]) -> Bench {
     if (names::EVENT <= t[0]) & (t[0] <= names::TEMPERATURE) {
         return act(b, mem, t);
     }
     look(b, mem, t);
-    tries::change(b, t)
+    let next = shelve(b, mem, shelf, t);
+    tries::change(next, t)
 }
 
 // The first command of a line begins anew, unless it is `then`. A proved loop has to end, so it counts down from a number that no input uses up.
 fn main() {
     let mut mem = [0u8; 8192];
+    let mut shelf = [0u8; 8192];
     let mut b = tries::anew([Pair { kind: 0, length: 0 }; 8], &mut mem);
     let mut end: u8 = 0;
     let mut turns = u64::MAX;
@@ -84,8 +148,9 @@ fn main() {
         if (end != b';') & (t[0] != names::MISSING) {
             let pairs = b.pairs;
             b = tries::anew(pairs, &mut mem);
+            handed::fill(&mut shelf);
         }
-        b = run(b, &mut mem, t);
+        b = run(b, &mut mem, &mut shelf, t);
         end = s.end;
         if end == 0 {
             return;

@@ -5,32 +5,23 @@ use mathlib.Core.List.{List}
 use Prim.Native.Nat.{ℕ, zero, suc, _+_, _*_, _≤_, _<_}
 use native.Mathlib.Numerals.{add-one}
 use native.Mathlib.Omega.{arith}
-use lib.Dec.{eqb}
 use lib.ListN.{length, getD}
 use Rattle.lists.specs.Each.{getD-any}
-use Rattle.lists.specs.Tests.{cond-cases}
 use Rattle.rules.specs.declared.Slot.{Slot}
 use Rattle.rules.specs.Modelled.{slotCount, slotBytes}
 use Rattle.rules.specs.Fresh.{absentSlot}
-use Rattle.saved.specs.Form.{fieldAt, fields, setupField, memoryField, stateField, sensorField}
+use Rattle.saved.specs.Form.{fieldAt}
 use Rattle.saved.specs.Reading.{sizeIn, offset, begins}
+use Rattle.saved.proofs.Places.{size-most, most-all}
 
 -- a slot has at most its 512 bytes in a field
-pub size-small : (t kind : ℕ) → fieldAt t .size kind ≤ slotBytes
-unfolding fieldAt fields setupField memoryField stateField sensorField
-size-small zero kind = omega arith
-size-small (suc zero) kind = cond-cases (λ (n : ℕ). n ≤ slotBytes) (eqb kind 0) (λ e. omega arith) (λ e. omega arith)
-size-small (suc (suc zero)) kind = cond-cases (λ (n : ℕ). n ≤ slotBytes) (eqb kind 0) (λ e. omega arith) (λ e. omega arith)
-size-small (suc (suc (suc zero))) kind = cond-cases (λ (n : ℕ). n ≤ slotBytes) (eqb kind 2) (λ e. omega arith) (λ e. omega arith)
-size-small (suc (suc (suc (suc t)))) kind = omega arith
-
 pub size-fits : (t kind n : ℕ) → n ≡ fieldAt t .size kind → n ≤ slotBytes
-size-fits t kind n e = rw e (size-small t kind)
+size-fits t kind n e = omega (arith, size-most t kind, most-all t)
 
 pub offset-small : (t k : ℕ) (ss : List Slot) → offset t k ss ≤ slotBytes * k
 unfolding offset sizeIn
 offset-small t zero ss = omega arith
-offset-small t (suc k) ss = omega (arith, offset-small t k ss, size-small t ((getD ss k absentSlot) .kind))
+offset-small t (suc k) ss = omega (arith, offset-small t k ss, size-fits t ((getD ss k absentSlot) .kind) (fieldAt t .size ((getD ss k absentSlot) .kind)) refl)
 
 pub begins-small : (t : ℕ) (ss : List Slot) → begins t ss ≤ 4099 * t
 unfolding begins

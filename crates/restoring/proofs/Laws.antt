@@ -3,7 +3,7 @@
 use mathlib.Core.Path.{_≡_, refl, sym, _∙_, ap, ap₂}
 use mathlib.Core.Bool.{Bool, true, false, not, _&&_}
 use mathlib.Core.List.{List, [], _∷_, _++_}
-use Prim.Native.Nat.{ℕ, zero, suc, _+_, _-_, _*_, _≤_, _<_}
+use Prim.Native.Nat.{ℕ, suc, _+_, _-_, _*_, _≤_, _<_}
 use native.Mathlib.Nat.{add-zero}
 use native.Mathlib.Numerals.{add-one}
 use native.Mathlib.Omega.{arith}
@@ -14,7 +14,7 @@ use lib.Seq.{sets, sets-eq, length-sets, take-at}
 use Rattle.lists.specs.Each.{mapTo, mapTo-step, allOf, getD-any}
 use Rattle.lists.specs.Same.{stands}
 use Rattle.lists.specs.Stores.{pasted}
-use Rattle.lists.specs.Tests.{cond-cases, by-test, and-left, and-right}
+use Rattle.lists.specs.Tests.{by-test, and-left, and-right}
 use Rattle.letters.proofs.Laws.{Put, put-on}
 use Rattle.rules.specs.declared.Answer.the-variants as answer
 use Rattle.rules.specs.declared.Bus.{Bus}
@@ -24,9 +24,9 @@ use Rattle.rules.specs.declared.Slot.{Slot}
 use Rattle.rules.specs.Modelled.{slotCount, slotBytes, memoryBytes, absent}
 use Rattle.rules.specs.Fresh.{absentSlot}
 use Rattle.rules.specs.Refusals.{wrongLength, slotInRange, inRange}
-use Rattle.saved.specs.Form.{wordOf, setupField, memoryField, stateField, sensorField, fields, fieldCount, fieldAt, shareOf, formOf}
+use Rattle.saved.specs.Form.{wordOf, memoryField, fields, fieldCount, fieldAt, shareOf, formOf}
 use Rattle.saved.specs.Reading.{sizeIn, offset, begins, place, memoryRow, busIn, storedTo, memoryIn, accepted, restoreOf}
-use Rattle.saved.proofs.Places.{length-share, share-within, begins-up}
+use Rattle.saved.proofs.Places.{length-share, share-within, begins-up, size-most, most-other}
 use Rattle.places.proofs.Laws.{size-fits, offset-small, begins-small}
 use Rattle.restoring.specs.Tallied.{shareTallies, sharesTally, fieldTallies, fieldsTally, tallies}
 use Rattle.restoring.proofs.Tally.{share-any, tallies-same}
@@ -100,14 +100,7 @@ pub share-length : (t : ℕ) (s : Slot) → (t ≡ memoryRow → ⊥) → length
 share-length t s h = ap length (share-any t s [] (replicate slotBytes 0) h) ∙ length-share t s (replicate slotBytes 0) (length-replicate {A = ℕ} slotBytes 0)
 
 pub share-short : (t : ℕ) (s : Slot) → (t ≡ memoryRow → ⊥) → length (shareOf t s []) ≤ 15
-share-short t s h = rw (share-length t s h) (go t h)
-  where
-    go : (t : ℕ) → (t ≡ memoryRow → ⊥) → sizeIn t s ≤ 15
-    go zero h = unfold sizeIn fieldAt fields setupField in omega arith
-    go (suc zero) h = absurd (h refl)
-    go (suc (suc zero)) h = unfold sizeIn fieldAt fields stateField in cond-cases (λ (n : ℕ). n ≤ 15) (eqb (s .kind) 0) (λ e. omega arith) (λ e. omega arith)
-    go (suc (suc (suc zero))) h = unfold sizeIn fieldAt fields sensorField in cond-cases (λ (n : ℕ). n ≤ 15) (eqb (s .kind) 2) (λ e. omega arith) (λ e. omega arith)
-    go (suc (suc (suc (suc t)))) h = unfold sizeIn fieldAt fields setupField in omega arith
+share-short t s h = unfold sizeIn in omega (arith, share-length t s h, size-most t (s .kind), most-other t h)
 
 -- what was put at the front of a room, taken from it
 pub front-put : (room x o : List ℕ) (n : ℕ) → length x ≤ length room → Put room 0 x n o → take n o ≡ x

@@ -177,20 +177,35 @@ length-formOf b m l = length-form (b .slots) m l fieldCount
 abbrev pub mostIn : ℕ → ℕ
 mostIn t = getD (2 ∷ slotBytes ∷ 4 ∷ 15 ∷ []) t 2
 
-pub size-most : (t : ℕ) (s : Slot) → sizeIn t s ≤ mostIn t
-unfolding sizeIn fieldAt fields setupField memoryField stateField sensorField
-size-most zero s = omega arith
-size-most (suc zero) s = by-test (eqb (s .kind) 0) (λ e. rw e (omega arith)) (λ e. rw e (omega arith))
-size-most (suc (suc zero)) s = by-test (eqb (s .kind) 0) (λ e. rw e (omega arith)) (λ e. rw e (omega arith))
-size-most (suc (suc (suc zero))) s = by-test (eqb (s .kind) 2) (λ e. rw e (omega arith)) (λ e. rw e (omega arith))
-size-most (suc (suc (suc (suc t)))) s = omega arith
+pub size-most : (t kind : ℕ) → fieldAt t .size kind ≤ mostIn t
+unfolding fieldAt fields setupField memoryField stateField sensorField
+size-most zero kind = omega arith
+size-most (suc zero) kind = by-test (eqb kind 0) (λ e. rw e (omega arith)) (λ e. rw e (omega arith))
+size-most (suc (suc zero)) kind = by-test (eqb kind 0) (λ e. rw e (omega arith)) (λ e. rw e (omega arith))
+size-most (suc (suc (suc zero))) kind = by-test (eqb kind 2) (λ e. rw e (omega arith)) (λ e. rw e (omega arith))
+size-most (suc (suc (suc (suc t)))) kind = omega arith
+
+-- the most is a slot's memory, and of the other fields a sensor
+pub most-all : (t : ℕ) → mostIn t ≤ slotBytes
+most-all zero = omega arith
+most-all (suc zero) = omega arith
+most-all (suc (suc zero)) = omega arith
+most-all (suc (suc (suc zero))) = omega arith
+most-all (suc (suc (suc (suc t)))) = omega arith
+
+pub most-other : (t : ℕ) → (t ≡ memoryRow → ⊥) → mostIn t ≤ 15
+most-other zero h = omega arith
+most-other (suc zero) h = absurd (h refl)
+most-other (suc (suc zero)) h = omega arith
+most-other (suc (suc (suc zero))) h = omega arith
+most-other (suc (suc (suc (suc t)))) h = omega arith
 
 pub offset-most : (t k : ℕ) (ss : List Slot) → offset t k ss ≤ mostIn t * k
-unfolding offset
+unfolding offset sizeIn
 offset-most t zero ss = omega arith
 offset-most t (suc k) ss =
     let h = offset-most t k ss in
-    let s : sizeIn t (getD ss k absentSlot) ≤ mostIn t = size-most t (getD ss k absentSlot) in
+    let s : fieldAt t .size ((getD ss k absentSlot) .kind) ≤ mostIn t = size-most t ((getD ss k absentSlot) .kind) in
     let m : mostIn t * suc k ≡ mostIn t * k + mostIn t = mul-suc (mostIn t) k in
     omega arith
 

@@ -98,6 +98,9 @@ fn line(l: [u8; 4]) {
             word(names::REFUSED);
             sign(b' ');
             sign(l[1]);
+            if l[2] != b'\n' {
+                sign(l[2]);
+            }
         }
     }
 }
@@ -150,6 +153,21 @@ pub fn came(out: Outcome, was: [Slot; 8], old: &[u8; 8192], mem: &[u8; 8192]) {
     let bus = out.bus;
     let now = bus.slots;
     changes(was, now, !check::same(old, mem));
+}
+
+// What came of a saving: how long the form is, and whether the buffer is another.
+pub fn kept(length: usize) {
+    sign(b':');
+    count(length);
+    word(names::BYTES);
+}
+
+pub fn changed(is: bool) {
+    sign(b',');
+    if !is {
+        word(names::NO_SLOT);
+    }
+    word(names::CHANGED);
 }
 
 // A block: how long the part is, its first byte and its last.

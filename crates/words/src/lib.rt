@@ -137,23 +137,46 @@ pub fn bytes(t: [u32; 38]) -> usize
 }
 
 // How many numbers each command takes, in the order of `names::ALL`; 99 for what is none, and for those that take more or fewer.
-const COUNTS: [usize; 18] = [0, 16, 1, 99, 1, 2, 2, 99, 3, 0, 1, 1, 0, 0, 0, 2, 1, 2];
+const COUNTS: [usize; 22] = [
+    0,
+    16,
+    1,
+    99,
+    1,
+    2,
+    2,
+    99,
+    1,
+    1,
+    2,
+    3,
+    3,
+    0,
+    1,
+    1,
+    0,
+    0,
+    0,
+    2,
+    1,
+    2,
+];
 
 fn count(t: [u32; 38]) -> usize {
     if t[0] == names::CHECK {
         return bytes(t);
     }
     let n = (t[0] % names::WORD) as usize;
-    if n < 18 { COUNTS[n] } else { 99 }
+    if n < 22 { COUNTS[n] } else { 99 }
 }
 
 // How large its last number may be.
 fn most(verb: u32) -> u32 {
     match verb {
         names::SETUP | names::BLOCK | names::CHECK => 255,
-        names::MEMORY => 8192,
+        names::MEMORY | names::SAVE | names::RESTORE => 8192,
         names::SHOW => 7,
-        names::AT => 511,
+        names::AT | names::FORM | names::PUT => 511,
         _ => 65535,
     }
 }
