@@ -16,6 +16,9 @@ const FORM: usize = 4276;
 // The place in it of the first byte of memory: behind the head and the contents of the setup, and the memory's head.
 const FIRST: usize = 22;
 
+// And that of slot 0's counter: behind the contents of the memory, the head of the states, and two of their bytes.
+const COUNTER: usize = 4123;
+
 // The number that digits say, or that they are none: another byte, no byte, or a number above 999,999,999.
 enum Count {
     Of(u64),
@@ -74,13 +77,27 @@ fn up(b: u8) -> u8 {
     std::num::wrapping_add_u8(b, 1)
 }
 
-// So many savings. The first byte of memory goes into the form, and from there, counted up, into the memory again.
+// The counter of slot 0, and a bus with another.
+fn counter_of(bus: Bus) -> u8 {
+    let slots = bus.slots;
+    slots[0].counter
+}
+
+fn counted(bus: Bus, counter: u8) -> Bus {
+    let mut slots = bus.slots;
+    slots[0].counter = counter;
+    Bus { slots }
+}
+
+// So many savings. The first byte of memory and a counter go into the form, and from there, counted up, into memory and bus again.
 fn save_laps(bus: Bus, mem: &mut [u8], form: &mut [u8], count: u64) -> u8
     requires { ⌜ (length (now mem) ≡ 4096) × (length (now form) ≡ 4276) ⌝ }
 {
+    let mut at = bus;
     for _ in 0..count {
-        saving::save(bus, mem, form);
+        saving::save(at, mem, form);
         mem[0] = up(form[FIRST]);
+        at = counted(at, up(form[COUNTER]));
     }
     mem[0]
 }
@@ -94,6 +111,7 @@ fn restore_laps(bus: Bus, mem: &mut [u8], form: &mut [u8], count: u64) -> u8
         let restored = restoring::restore(at, mem, form);
         at = restored.bus;
         form[FIRST] = up(mem[0]);
+        form[COUNTER] = up(counter_of(at));
     }
     form[FIRST]
 }

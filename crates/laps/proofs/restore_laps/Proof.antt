@@ -2,8 +2,9 @@
 -- Assumes nothing.
 use mathlib.Core.Path.{_≡_}
 use Prim.Native.Nat.{_≤_, _-_}
+use native.Mathlib.Omega.{arith}
 use borrow.Author.Needs.{needs}
-use lib.ListN.{length}
+use lib.ListN.{length, length-set}
 use Rattle.laps.proofs.restore_laps.Statement.{statement}
 use Rattle.laps.proofs.restore_laps.Tie as tie
 
@@ -27,6 +28,15 @@ up-requires c κs = search needs
 
 slice-write-form : tie.Need-slice-write-form Inv-loop μ-loop
 slice-write-form c = search needs
+
+counter-of-requires : tie.Need-counter-of-requires Inv-loop μ-loop
+counter-of-requires c κs = search needs
+
+up-requires-2 : tie.Need-up-requires-2 Inv-loop μ-loop
+up-requires-2 c κs = search needs
+
+slice-write-form-2 : tie.Need-slice-write-form-2 Inv-loop μ-loop
+slice-write-form-2 c = simp length-set (omega arith)
 
 add-counter : tie.Need-add-counter Inv-loop μ-loop
 add-counter c = search needs
@@ -60,6 +70,9 @@ restore-laps-spec =
     slice-read-up
     up-requires
     slice-write-form
+    counter-of-requires
+    up-requires-2
+    slice-write-form-2
     add-counter
     loop-less
     loop-again

@@ -8,10 +8,10 @@ use Rattle.laps.proofs.save_laps.Statement.{statement}
 use Rattle.laps.proofs.save_laps.Tie as tie
 
 abbrev Inv-loop : tie.InvT-loop
-Inv-loop bus mem₀ form₀ count counter₀ mem form counter = (counter ≤ count) × (length mem ≡ 4096) × (length form ≡ 4276)
+Inv-loop mem₀ form₀ count at₀ counter₀ mem form at counter = (counter ≤ count) × (length mem ≡ 4096) × (length form ≡ 4276)
 
 abbrev μ-loop : tie.MeasureT-loop
-μ-loop bus mem₀ form₀ count counter₀ mem form counter = count - counter
+μ-loop mem₀ form₀ count at₀ counter₀ mem form at counter = count - counter
 
 loop-holds : tie.Need-loop-holds Inv-loop μ-loop
 loop-holds c = search needs
@@ -27,6 +27,15 @@ up-requires c κs = search needs
 
 slice-write-mem : tie.Need-slice-write-mem Inv-loop μ-loop
 slice-write-mem c = search needs
+
+slice-read-up-2 : tie.Need-slice-read-up-2 Inv-loop μ-loop
+slice-read-up-2 c = search needs
+
+up-requires-2 : tie.Need-up-requires-2 Inv-loop μ-loop
+up-requires-2 c κs = search needs
+
+counted-requires : tie.Need-counted-requires Inv-loop μ-loop
+counted-requires c κs = search needs
 
 add-counter : tie.Need-add-counter Inv-loop μ-loop
 add-counter c = search needs
@@ -60,6 +69,9 @@ save-laps-spec =
     slice-read-up
     up-requires
     slice-write-mem
+    slice-read-up-2
+    up-requires-2
+    counted-requires
     add-counter
     loop-less
     loop-again
