@@ -34,14 +34,14 @@ bitsIn zero v = []
 bitsIn (suc n) v = eqb (v % 2) 1 ∷ bitsIn n (v / 2)
 
 -- A field of the form: its tag; how many bytes a slot of each kind has in it; what these are, of a slot with its 512 bytes; and a slot with what the
--- bytes from a place on say of it. (That memory is no part of the slot: Reading.memoryIn.)
+-- bytes from a place on say of it. (A slot's memory is no part of the slot: what is read of it is Reading.memoryIn.)
 pub record Field : Type 0 where
   pub tag : ℕ
   pub size : ℕ → ℕ
   pub writes : Slot → List ℕ → List ℕ
   pub reads : List ℕ → ℕ → Slot → Slot
 
--- "1 the eight setup pairs, an absent slot's length as 0"
+-- "1 the eight setup pairs, an absent slot's length as 0" (as a state in range has it: row 6)
 unfoldable pub setupField : Field
 setupField = record {
   tag = 1;
