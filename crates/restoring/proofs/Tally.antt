@@ -2,12 +2,11 @@
 -- form's own bytes as their memory.
 -- Assumes nothing.
 use mathlib.Core.Path.{_≡_, refl, sym, _∙_, ap, ap₂}
-use mathlib.Core.Bool.{Bool, true, false, false≢true, cond, _&&_, _||_}
-use mathlib.Core.List.{List, [], _∷_, _++_}
+use mathlib.Core.Bool.{Bool, true, cond, _&&_}
+use mathlib.Core.List.{List, [], _∷_}
 use Prim.Native.Nat.{ℕ, zero, suc, _+_, _≤_, _<_}
-use native.Mathlib.Nat.{add-assoc, zero-add}
 use native.Mathlib.Omega.{arith}
-use borrow.Author.Tests.{eqb-true, eqb-false, eq-eqb, ne-eqb}
+use borrow.Author.Tests.{eqb-true, eqb-false}
 use lib.Dec.{eqb}
 use lib.ListN.{length, getD, take, drop}
 use Rattle.lists.specs.Parts.{part}
@@ -18,7 +17,7 @@ use Rattle.rules.specs.Modelled.{slotCount, slotBytes, memoryBytes, absent}
 use Rattle.rules.specs.Fresh.{absentSlot}
 use Rattle.saved.specs.Form.{wordOf, setupField, memoryField, stateField, sensorField, fields, fieldCount, fieldAt, shareOf, shares, fieldBytes, formTo}
 use Rattle.saved.specs.Reading.{sizeIn, offset, begins, place, memoryRow, storedTo}
-use Rattle.saved.proofs.Places.{length-shares, length-field, length-form, share-within, offset-up, begins-up}
+use Rattle.saved.proofs.Places.{length-shares, length-form, share-within, begins-up}
 use Rattle.saved.proofs.Bytes.{length-stored, part-stored, whole-in}
 use Rattle.restoring.specs.Tallied.{shareTallies, sharesTally, fieldTallies, fieldsTally, tallies}
 

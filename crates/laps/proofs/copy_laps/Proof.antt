@@ -13,57 +13,21 @@ Inv-loop from₀ to₀ count counter₀ from to counter = (counter ≤ count) ×
 abbrev μ-loop : tie.MeasureT-loop
 μ-loop from₀ to₀ count counter₀ from to counter = count - counter
 
-loop-holds : tie.Need-loop-holds Inv-loop μ-loop
-loop-holds c = search needs
-
-copy-requires : tie.Need-copy-requires Inv-loop μ-loop
-copy-requires c κs = search needs
-
-slice-read-up : tie.Need-slice-read-up Inv-loop μ-loop
-slice-read-up c = search needs
-
-up-requires : tie.Need-up-requires Inv-loop μ-loop
-up-requires c κs = search needs
-
-slice-write-from : tie.Need-slice-write-from Inv-loop μ-loop
-slice-write-from c = search needs
-
-add-counter : tie.Need-add-counter Inv-loop μ-loop
-add-counter c = search needs
-
-loop-less : tie.Need-loop-less Inv-loop μ-loop
-loop-less c = search needs
-
-loop-again : tie.Need-loop-again Inv-loop μ-loop
-loop-again c = search needs
-
-slice-read-result : tie.Need-slice-read-result Inv-loop μ-loop
-slice-read-result c = search needs
-
-same-length : tie.Need-same-length Inv-loop μ-loop
-same-length c = search needs
-
-same-length-2 : tie.Need-same-length-2 Inv-loop μ-loop
-same-length-2 c = search needs
-
-returns : tie.Need-returns Inv-loop μ-loop
-returns c = search needs
-
 pub copy-laps-spec : {M : Type 1} → statement M
 copy-laps-spec =
     tie.close
     (tie.spec
     Inv-loop
     μ-loop
-    loop-holds
-    copy-requires
-    slice-read-up
-    up-requires
-    slice-write-from
-    add-counter
-    loop-less
-    loop-again
-    slice-read-result
-    same-length
-    same-length-2
-    returns)
+    (λ c. search needs)
+    (λ c κs. search needs)
+    (λ c. search needs)
+    (λ c κs. search needs)
+    (λ c. search needs)
+    (λ c. search needs)
+    (λ c. search needs)
+    (λ c. search needs)
+    (λ c. search needs)
+    (λ c. search needs)
+    (λ c. search needs)
+    (λ c. search needs))

@@ -1,13 +1,13 @@
 -- One field more at each turn.
 -- Assumes nothing.
-use Prim.Native.Nat.{ℕ, _+_, _-_, _*_, _≤_}
-use borrow.Author.Needs.{needs}
-use mathlib.Core.Path.{_≡_, sym, _∙_, ap}
+use mathlib.Core.Path.{_≡_}
+use Prim.Native.Nat.{_-_, _≤_}
 use native.Mathlib.Omega.{arith}
+use borrow.Author.Needs.{needs}
+use Rattle.saved.specs.Reading.{begins}
 use Rattle.places.proofs.Laws.{offset-small, begins-small, begins-none, begins-step}
 use Rattle.places.proofs.begins.Statement.{statement}
 use Rattle.places.proofs.begins.Tie as tie
-use Rattle.saved.specs.Reading.{begins}
 
 abbrev Inv-loop : tie.InvT-loop
 Inv-loop t slots at₀ u₀ at u = (u ≤ t) × (t ≤ 4) × (at ≡ begins u slots)

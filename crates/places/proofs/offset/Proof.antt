@@ -1,14 +1,14 @@
 -- One slot more at each turn.
 -- Assumes nothing.
-use Prim.Native.Nat.{ℕ, _+_, _-_, _*_, _≤_}
-use borrow.Author.Needs.{needs}
-use mathlib.Core.Path.{_≡_, sym, _∙_, ap}
+use mathlib.Core.Path.{_≡_}
+use Prim.Native.Nat.{_-_, _≤_}
 use native.Mathlib.Omega.{arith}
+use borrow.Author.Needs.{needs}
+use Rattle.rules.proofs.Past.{noSlot}
+use Rattle.saved.specs.Reading.{offset}
 use Rattle.places.proofs.Laws.{size-fits, offset-small, offset-none, offset-step}
 use Rattle.places.proofs.offset.Statement.{statement}
 use Rattle.places.proofs.offset.Tie as tie
-use Rattle.rules.proofs.Past.{noSlot}
-use Rattle.saved.specs.Reading.{offset}
 
 abbrev Inv-loop : tie.InvT-loop
 Inv-loop t k slots n₀ i₀ n i = (i ≤ k) × (k ≤ 8) × (n ≡ offset t i slots)

@@ -1,12 +1,12 @@
 -- Tag and length, put into a room and compared.
 -- Assumes nothing.
-use borrow.Author.Needs.{needs}
 use native.Mathlib.Omega.{arith}
+use borrow.Author.Needs.{needs}
+use Rattle.saved.specs.Form.{wordOf}
 use Rattle.places.proofs.Laws.{offset-small}
 use Rattle.restoring.proofs.Laws.{head-fits, head-by}
 use Rattle.restoring.proofs.head_tallies.Statement.{statement}
 use Rattle.restoring.proofs.head_tallies.Tie as tie
-use Rattle.saved.specs.Form.{wordOf}
 
 pub head-tallies-spec : {M : Type 1} → statement M
 unfolding wordOf

@@ -1,18 +1,18 @@
 -- One slot more at each turn.
 -- Assumes nothing.
-use Prim.Native.Nat.{ℕ, _+_, _-_, _*_, _≤_, _<_}
+use mathlib.Core.Path.{_≡_, _∙_, ap}
+use Prim.Native.Nat.{ℕ, _+_, _-_, _≤_, _<_}
+use native.Mathlib.Omega.{arith}
 use borrow.Author.Needs.{needs}
 use lib.ListN.{length, getD, length-set}
-use mathlib.Core.Path.{_≡_, refl, sym, _∙_, ap}
-use native.Mathlib.Omega.{arith}
 use Rattle.lists.specs.Each.{mapTo, mapTo-none, mapTo-full}
+use Rattle.rules.proofs.Past.{noSlot}
+use Rattle.saved.specs.Form.{fieldAt}
+use Rattle.saved.specs.Reading.{place, readField}
 use Rattle.places.proofs.Laws.{begins-small, size-fits}
 use Rattle.restoring.proofs.Laws.{readBy, place-first, place-step, place-small, read-step}
 use Rattle.restoring.proofs.read_field.Statement.{statement}
 use Rattle.restoring.proofs.read_field.Tie as tie
-use Rattle.rules.proofs.Past.{noSlot}
-use Rattle.saved.specs.Form.{fieldAt}
-use Rattle.saved.specs.Reading.{place, readField}
 
 abbrev Inv-loop : tie.InvT-loop
 Inv-loop t form slots at₀ all₀ i₀ at all i = (i ≤ 8) × (length slots ≡ 8) × (t < 4) × (at ≡ place t i slots) × (length all ≡ 8) × (all ≡ mapTo (readBy t form slots) 0 i slots)

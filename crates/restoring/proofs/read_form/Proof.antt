@@ -1,15 +1,15 @@
 -- One field more at each turn.
 -- Assumes nothing.
-use Prim.Native.Nat.{ℕ, _+_, _-_, _*_, _≤_, _<_}
-use borrow.Author.Needs.{needs}
-use mathlib.Core.Path.{_≡_, refl, sym, _∙_, ap}
+use mathlib.Core.Path.{_≡_, _∙_, ap}
+use Prim.Native.Nat.{ℕ, _-_, _≤_}
 use native.Mathlib.Numerals.{add-one}
 use native.Mathlib.Omega.{arith}
+use borrow.Author.Needs.{needs}
+use Rattle.rules.specs.declared.Bus.{Bus}
+use Rattle.rules.specs.Refusals.{emptyBus}
+use Rattle.saved.specs.Reading.{readField, readTo, busIn}
 use Rattle.restoring.proofs.read_form.Statement.{statement}
 use Rattle.restoring.proofs.read_form.Tie as tie
-use Rattle.rules.specs.Refusals.{emptyBus}
-use Rattle.rules.specs.declared.Bus.{Bus}
-use Rattle.saved.specs.Reading.{readField, readTo, busIn}
 
 abbrev Inv-loop : tie.InvT-loop
 Inv-loop form bus₀ t₀ bus t = (t ≤ 4) × (bus ≡ record { slots = readTo t form })

@@ -1,9 +1,6 @@
 -- The slots, read.
 -- Assumes nothing.
-use mathlib.Core.Path.{ap}
-use mathlib.Core.List.{List}
 use borrow.Author.Needs.{needs}
-use Rattle.rules.specs.declared.Bus.{Bus}
 use Rattle.restoring.proofs.read_row.Statement.{statement}
 use Rattle.restoring.proofs.read_row.Tie as tie
 

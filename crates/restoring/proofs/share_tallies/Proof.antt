@@ -1,12 +1,12 @@
 -- Memory, or the share put into a room and compared.
 -- Assumes nothing.
+use native.Mathlib.Omega.{arith}
 use borrow.Author.Needs.{needs}
 use borrow.Author.Tests.{eq-eqb}
-use native.Mathlib.Omega.{arith}
+use Rattle.restoring.specs.Tallied.{shareTallies}
 use Rattle.restoring.proofs.Laws.{share-short, room-sized, taken-sized, share-by}
 use Rattle.restoring.proofs.share_tallies.Statement.{statement}
 use Rattle.restoring.proofs.share_tallies.Tie as tie
-use Rattle.restoring.specs.Tallied.{shareTallies}
 
 pub share-tallies-spec : {M : Type 1} → statement M
 unfolding shareTallies

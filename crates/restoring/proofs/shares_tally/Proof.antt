@@ -1,18 +1,18 @@
 -- One share more at each turn.
 -- Assumes nothing.
-use Prim.Native.Nat.{ℕ, _+_, _-_, _*_, _≤_, _<_}
+use mathlib.Core.Path.{_≡_, refl, _∙_, ap}
+use Prim.Native.Nat.{ℕ, _+_, _-_, _≤_, _<_}
+use native.Mathlib.Omega.{arith}
 use borrow.Author.Needs.{needs}
 use lib.ListN.{length}
-use mathlib.Core.Path.{_≡_, refl, sym, _∙_, ap}
-use native.Mathlib.Omega.{arith}
-use Rattle.places.proofs.Laws.{begins-small, size-fits}
-use Rattle.restoring.proofs.Laws.{place-first, place-step, place-small, share-inside, tally-none, tally-step}
-use Rattle.restoring.proofs.shares_tally.Statement.{statement}
-use Rattle.restoring.proofs.shares_tally.Tie as tie
-use Rattle.restoring.specs.Tallied.{sharesTally}
 use Rattle.rules.proofs.Past.{noSlot}
 use Rattle.saved.specs.Form.{fieldCount}
 use Rattle.saved.specs.Reading.{sizeIn, begins, place}
+use Rattle.places.proofs.Laws.{begins-small, size-fits}
+use Rattle.restoring.specs.Tallied.{sharesTally}
+use Rattle.restoring.proofs.Laws.{place-first, place-step, place-small, share-inside, tally-none, tally-step}
+use Rattle.restoring.proofs.shares_tally.Statement.{statement}
+use Rattle.restoring.proofs.shares_tally.Tie as tie
 
 abbrev Inv-loop : tie.InvT-loop
 Inv-loop t form slots at₀ ok₀ i₀ at ok i = (i ≤ 8) × (length slots ≡ 8) × (t < 4) × (length form ≡ begins fieldCount slots) × (at ≡ place t i slots) × (ok ≡ sharesTally t i slots form)

@@ -1,10 +1,10 @@
 -- One byte more at each turn.
 -- Assumes nothing.
-use Prim.Native.Nat.{ℕ, _+_, _-_, _*_, _≤_, _<_}
+use mathlib.Core.Path.{_≡_, refl, sym, _∙_}
+use Prim.Native.Nat.{_+_, _-_, _≤_}
+use native.Mathlib.Omega.{arith}
 use borrow.Author.Needs.{needs}
 use lib.ListN.{length, take, drop}
-use mathlib.Core.Path.{_≡_, refl, sym, _∙_, ap}
-use native.Mathlib.Omega.{arith}
 use Rattle.lists.specs.Same.{same, stands-step, stands-start, stands-end}
 use Rattle.restoring.proofs.stands.Statement.{statement}
 use Rattle.restoring.proofs.stands.Tie as tie

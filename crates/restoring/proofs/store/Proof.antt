@@ -1,19 +1,19 @@
 -- One slot more at each turn.
 -- Assumes nothing.
-use Prim.Native.Nat.{ℕ, _+_, _-_, _*_, _≤_, _<_}
+use mathlib.Core.Path.{_≡_, sym, _∙_, ap}
+use Prim.Native.Nat.{ℕ, _+_, _-_, _≤_, _<_}
+use native.Mathlib.Omega.{arith}
 use borrow.Author.Needs.{needs}
 use lib.ListN.{length, length-take, length-drop}
-use mathlib.Core.Path.{_≡_, refl, sym, _∙_, ap}
-use native.Mathlib.Omega.{arith}
+use Rattle.rules.specs.Modelled.{memoryBytes}
+use Rattle.rules.proofs.Past.{noSlot}
+use Rattle.saved.specs.Form.{fieldCount}
+use Rattle.saved.specs.Reading.{begins, place, memoryRow, storedTo}
 use Rattle.saved.proofs.Bytes.{length-stored}
 use Rattle.places.proofs.Laws.{begins-small, size-fits}
 use Rattle.restoring.proofs.Laws.{place-first, place-step, place-small, share-inside, stored-none, stored-turn}
 use Rattle.restoring.proofs.store.Statement.{statement}
 use Rattle.restoring.proofs.store.Tie as tie
-use Rattle.rules.proofs.Past.{noSlot}
-use Rattle.rules.specs.Modelled.{memoryBytes}
-use Rattle.saved.specs.Form.{fieldCount}
-use Rattle.saved.specs.Reading.{begins, place, memoryRow, storedTo}
 
 abbrev Inv-loop : tie.InvT-loop
 Inv-loop form memory₀ slots at₀ i₀ memory at i = (i ≤ 8) × (length slots ≡ 8) × (length form ≡ begins fieldCount slots) × (length memory₀ ≡ memoryBytes) × (length memory ≡ memoryBytes) × (at ≡ place memoryRow i slots) × (memory ≡ storedTo i form slots memory₀)

@@ -1,16 +1,16 @@
 -- The length, then one field more at each turn.
 -- Assumes nothing.
-use Prim.Native.Nat.{ℕ, _+_, _-_, _≤_}
+use mathlib.Core.Path.{_≡_, refl}
+use Prim.Native.Nat.{_-_, _≤_}
+use native.Mathlib.Omega.{arith}
 use borrow.Author.Needs.{needs}
 use lib.ListN.{length}
-use mathlib.Core.Path.{_≡_, refl}
-use native.Mathlib.Omega.{arith}
+use Rattle.saved.specs.Form.{fieldCount}
+use Rattle.saved.specs.Reading.{begins}
+use Rattle.restoring.specs.Tallied.{fieldsTally}
 use Rattle.restoring.proofs.Laws.{fields-none, fields-step, tallies-not, tallies-all}
 use Rattle.restoring.proofs.tallies.Statement.{statement}
 use Rattle.restoring.proofs.tallies.Tie as tie
-use Rattle.restoring.specs.Tallied.{fieldsTally}
-use Rattle.saved.specs.Form.{fieldCount}
-use Rattle.saved.specs.Reading.{begins}
 
 abbrev Inv-loop : tie.InvT-loop
 Inv-loop slots form ok₀ t₀ ok t = (t ≤ 4) × (length form ≡ begins fieldCount slots) × (ok ≡ fieldsTally t slots form)

@@ -1,11 +1,11 @@
 -- Every slot passed is quiet, and those to come.
 -- Assumes nothing.
+use mathlib.Core.Path.{refl, sym, _∙_, _≡_}
+use mathlib.Core.Bool.{_&&_}
 use Prim.Native.Nat.{_≤_, _<_, _-_}
+use native.Mathlib.Omega.{arith}
 use borrow.Author.Needs.{needs}
 use lib.ListN.{length, drop}
-use mathlib.Core.Bool.{_&&_}
-use mathlib.Core.Path.{refl, sym, _∙_, _≡_}
-use native.Mathlib.Omega.{arith}
 use Rattle.lists.specs.Each.{allOf, allOf-step, allOf-none}
 use Rattle.rules.proofs.Past.{noSlot}
 use Rattle.saved.specs.Saving.{quiet}

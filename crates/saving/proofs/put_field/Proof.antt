@@ -1,9 +1,9 @@
 -- Tag, length and shares, one behind the other.
 -- Assumes nothing.
-use borrow.Author.Needs.{needs}
 use native.Mathlib.Omega.{arith}
-use Rattle.places.proofs.Laws.{offset-small}
+use borrow.Author.Needs.{needs}
 use Rattle.saved.specs.Form.{wordOf}
+use Rattle.places.proofs.Laws.{offset-small}
 use Rattle.saving.proofs.Laws.{field-put, field-room}
 use Rattle.saving.proofs.put_field.Statement.{statement}
 use Rattle.saving.proofs.put_field.Tie as tie

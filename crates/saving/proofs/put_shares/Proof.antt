@@ -1,13 +1,13 @@
 -- One share more at each turn.
 -- Assumes nothing.
-use Prim.Native.Nat.{ℕ, _+_, _-_, _*_, _≤_, _<_}
+use mathlib.Core.Path.{_≡_, refl, _∙_, ap}
+use Prim.Native.Nat.{_+_, _-_, _*_, _≤_}
+use native.Mathlib.Omega.{arith}
 use borrow.Author.Needs.{needs}
 use lib.ListN.{length}
 use lib.Seq.{sets, length-sets}
-use mathlib.Core.Path.{_≡_, refl, sym, _∙_, ap}
-use native.Mathlib.Omega.{arith}
-use Rattle.rules.proofs.Past.{noSlot}
 use Rattle.rules.specs.Modelled.{slotCount, memoryBytes}
+use Rattle.rules.proofs.Past.{noSlot}
 use Rattle.saved.specs.Form.{shares}
 use Rattle.saving.proofs.Laws.{shares-none, shares-step, share-room}
 use Rattle.saving.proofs.put_shares.Statement.{statement}

@@ -1,9 +1,9 @@
 -- The rows 1, 6, 8 and 9 in their order; then the form.
 -- Assumes nothing.
-use borrow.Author.Needs.{needs}
 use native.Mathlib.Omega.{arith}
-use Rattle.saved.proofs.Places.{length-form}
+use borrow.Author.Needs.{needs}
 use Rattle.saved.specs.Form.{fieldCount}
+use Rattle.saved.proofs.Places.{length-form}
 use Rattle.saving.proofs.Laws.{save-memory, save-state, save-busy, save-short, save-form}
 use Rattle.saving.proofs.save.Statement.{statement}
 use Rattle.saving.proofs.save.Tie as tie

@@ -1,7 +1,7 @@
 -- Bit by bit.
 -- Assumes nothing.
-use borrow.Author.Needs.{needs}
 use native.Mathlib.Omega.{arith}
+use borrow.Author.Needs.{needs}
 use Rattle.shares.proofs.Laws.{bits-by}
 use Rattle.shares.proofs.bits.Statement.{statement}
 use Rattle.shares.proofs.bits.Tie as tie

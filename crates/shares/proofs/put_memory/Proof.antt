@@ -1,8 +1,8 @@
 -- No bytes, or all of them copied.
 -- Assumes nothing.
-use borrow.Author.Needs.{needs}
 use mathlib.Core.Path.{refl}
 use native.Mathlib.Omega.{arith}
+use borrow.Author.Needs.{needs}
 use Rattle.lists.specs.Stores.{pasted}
 use Rattle.shares.proofs.Laws.{no-memory, memory-share, none-put, put-as, room-as}
 use Rattle.shares.proofs.put_memory.Statement.{statement}

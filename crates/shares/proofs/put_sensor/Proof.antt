@@ -1,7 +1,7 @@
 -- No bytes, or the pointer and the registers.
 -- Assumes nothing.
-use borrow.Author.Needs.{needs}
 use native.Mathlib.Omega.{arith}
+use borrow.Author.Needs.{needs}
 use Rattle.shares.proofs.Laws.{no-sensor, sensor-room, none-put, sensor-put}
 use Rattle.shares.proofs.put_sensor.Statement.{statement}
 use Rattle.shares.proofs.put_sensor.Tie as tie

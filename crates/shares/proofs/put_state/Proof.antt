@@ -1,7 +1,7 @@
 -- No bytes, or four of them.
 -- Assumes nothing.
-use borrow.Author.Needs.{needs}
 use native.Mathlib.Omega.{arith}
+use borrow.Author.Needs.{needs}
 use Rattle.shares.proofs.Laws.{no-state, state-share, none-put, room-as, state-put}
 use Rattle.shares.proofs.put_state.Statement.{statement}
 use Rattle.shares.proofs.put_state.Tie as tie
