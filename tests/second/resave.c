@@ -113,7 +113,25 @@ static int judge_resume(void)
 
 /* ---- Trying the input -------------------------------------------------------- */
 
-static int is_seen(void) { return ++tries % SEEN_OF == 0 || saver[1] == NULL; }
+/* How far it is, where a person looks on; the last line clears it. */
+static void tell_how_far(void)
+{
+    if (tries % 50 == 0 && isatty(2))
+        fprintf(stderr, "\r\033[Kresave: %ld tries", tries);
+}
+
+static void clear_how_far(void)
+{
+    if (isatty(2))
+        fputs("\r\033[K", stderr);
+}
+
+static int is_seen(void)
+{
+    tries++;
+    tell_how_far();
+    return tries % SEEN_OF == 0 || saver[1] == NULL;
+}
 
 static void must_end(int is_seen, int status)
 {
@@ -746,6 +764,7 @@ static void sum_up(void)
 {
     long *of_save = by_status[0], *of_resume = by_status[1];
 
+    clear_how_far();
     printf("resave: %ld saves (%ld forms, %ld R8, %ld short or R5), %ld resumed (%ld whole, %ld R10, %ld short), all right\n",
            of_save[0] + of_save[1] + of_save[2], of_save[0], of_save[1], of_save[2],
            of_resume[0] + of_resume[1] + of_resume[2], of_resume[0], of_resume[1], of_resume[2]);

@@ -10,3 +10,4 @@ int close(int);
 long read(int, void *, size_t);
 long write(int, const void *, size_t);
 int usleep(unsigned);
+int isatty(int);
