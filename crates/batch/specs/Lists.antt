@@ -1,0 +1,37 @@
+-- Request P6, lists of events: "Offer one call on a lent list of event records and a lent list of answers [..]. The list is a slice of records as it comes from the driver."
+-- Assumes nothing.
+use Prim.Native.Nat.{ℕ}
+use mathlib.Core.Bool.{Bool, cond}
+use mathlib.Core.List.{List, _++_}
+use lib.Dec.{ltb}
+use lib.ListN.{length, drop}
+use Rattle.rules.specs.declared.Answer.{Answer}
+use Rattle.rules.specs.declared.Answer.the-variants.{Nothing, Refused}
+use Rattle.rules.specs.declared.Bus.{Bus}
+use Rattle.rules.specs.declared.Event.{Event}
+use Rattle.rules.specs.declared.Outcome.{Outcome}
+use Rattle.rules.specs.declared.Refusal.the-variants.{TooShort}
+use Rattle.rules.specs.Runs.{Bench, after, answers}
+
+-- what a call leaves: what it gives back, the lent memory, and the lent answer places
+abbrev pub Left : Type 0
+Left = Outcome × List ℕ × List Answer
+
+-- "An answer list shorter than the event list"
+unfoldable pub tooFew : List Event → List Answer → Bool
+tooFew es places = ltb (length places) (length es)
+
+-- "is refusal 9, before every other check and with nothing changed."
+unfoldable pub notTaken : Bench → List Answer → Left
+notTaken x places = (record { bus = x .bus; answer = Refused TooShort }, x .memory, places)
+
+-- "equal to the events given one by one in order, refused ones included. Answer places past the end of the events are unchanged."
+unfoldable pub taken : Bench → List Event → List Answer → Left
+taken x es places = (record { bus = after es x .bus; answer = Nothing }, after es x .memory, answers es x ++ drop (length es) places)
+
+-- the call
+unfoldable pub listed : Bench → List Event → List Answer → Left
+listed x es places = cond (tooFew es places) (notTaken x places) (taken x es places)
+
+unfoldable pub eventsOf : Bus → List ℕ → List Event → List Answer → Left
+eventsOf b m es places = listed (record { bus = b; memory = m }) es places

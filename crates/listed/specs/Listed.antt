@@ -1,0 +1,64 @@
+-- What the list program gives a list from, and what it writes for what is left of it: records as events, and answer places as lines.
+-- Assumes nothing.
+use Prim.Native.Nat.{ℕ, zero, suc, _*_}
+use mathlib.Core.Bool.{Bool, true, false, cond}
+use mathlib.Core.List.{List, [], _∷_, _++_}
+use lib.ListN.{length}
+use lib.Seq.{sets}
+use Rattle.rules.specs.declared.Answer.{Answer}
+use Rattle.rules.specs.declared.Answer.the-variants.{Nothing, Ack, Nack, Data, Refused}
+use Rattle.rules.specs.declared.Event.{Event}
+use Rattle.rules.specs.declared.Outcome.{Outcome}
+use Rattle.rules.specs.declared.Refusal.{Refusal}
+use Rattle.rules.specs.declared.Refusal.the-variants as refusal
+use Rattle.records.specs.Records.{recordAt}
+use Rattle.letters.specs.Letters.{lineOf}
+use Rattle.listed.specs.declared.Told.{Told}
+
+-- the first n records of some bytes
+unfoldable pub eventsIn : List ℕ → ℕ → List Event
+eventsIn bs zero = []
+eventsIn bs (suc n) = eventsIn bs n ++ recordAt bs (4 * n) ∷ []
+
+-- what a place holds before the list is given: an answer that no event gets, refusal 5 being a setup's alone
+abbrev pub blank : Answer
+blank = Refused refusal.WrongSetup
+
+unfoldable pub isSetups : Refusal → Bool
+isSetups refusal.WrongSetup = true
+isSetups refusal.MemoryLength = false
+isSetups refusal.UnknownKind = false
+isSetups refusal.WrongSlot = false
+isSetups refusal.WrongValue = false
+isSetups refusal.WrongState = false
+isSetups refusal.ProtectedPage = false
+isSetups refusal.Busy = false
+isSetups refusal.TooShort = false
+isSetups refusal.WrongForm = false
+
+unfoldable pub isBlank : Answer → Bool
+isBlank (Refused r) = isSetups r
+isBlank Nothing = false
+isBlank Ack = false
+isBlank Nack = false
+isBlank (Data b) = false
+
+-- "a line for each answer place, `.` for one that is unchanged"
+unfoldable pub placeLine : Answer → List ℕ
+placeLine a = cond (isBlank a) (0x2E ∷ 0x0A ∷ []) (lineOf a)
+
+unfoldable pub placeLines : List Answer → List ℕ
+placeLines [] = []
+placeLines (a ∷ places) = placeLine a ++ placeLines places
+
+-- "`R9` alone, or a line for each answer place"
+unfoldable pub listText : Answer → List Answer → List ℕ
+listText (Refused r) places = lineOf (Refused r)
+listText Nothing places = placeLines places
+listText Ack places = placeLines places
+listText Nack places = placeLines places
+listText (Data b) places = placeLines places
+
+-- what the code leaves for what a call gave and left: the bus, where the text ends, and the output
+unfoldable pub toldOf : Outcome → List Answer → List ℕ → Told × List ℕ
+toldOf o places out = (record { bus = o .bus; end = length (listText (o .answer) places) }, sets out 0 (listText (o .answer) places))
