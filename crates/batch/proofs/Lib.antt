@@ -1,3 +1,4 @@
+pub mod Lends
 pub mod Onward
 pub mod Relent
 pub mod Walks

@@ -64,7 +64,7 @@ use Rattle.rules.proofs.Outcome as D
 use Rattle.rules.proofs.Outcome.Laws as D′
 use Rattle.listed.proofs.Told as R
 use Rattle.listed.proofs.Told.Laws as R′
-use Rattle.lending.proofs.Lends as Lends
+use Rattle.batch.proofs.Lends as Lends
 use Rattle.batch.proofs.Walks.{typeOf, placed, order, span, free-all}
 use Rattle.batch.proofs.events as many
 use Rattle.batch.proofs.events.Symbol as many-def
