@@ -1,3 +1,5 @@
+pub mod Determined
 pub mod Onward
+pub mod Promise
 pub mod Relent
 pub mod Walks
