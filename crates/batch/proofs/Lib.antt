@@ -1,4 +1,5 @@
 pub mod Determined
+pub mod Lends
 pub mod Onward
 pub mod Promise
 pub mod Relent
