@@ -2,13 +2,42 @@
 // 65,535 answer places, which is as many as two bytes can ask for.
 ghost use mathlib.Core.Path.{_≡_};
 ghost use Prim.Native.Nat.{_+_, _*_, _≤_};
-ghost use lib.ListN.{length, take};
+ghost use lib.ListN.{length, take, replicate};
 ghost use lib.Seq.{sets};
-ghost use Rattle.listed.specs.Listed.{isSetups, isBlank, placeLine, placeLines, toldOf};
+ghost use Rattle.listed.specs.Listed.{blank, eventsFor, isBlank, isSetups, placeLine, placeLines, toldOf};
 use rules::Answer;
 use rules::Bus;
+use rules::Event;
 use rules::Outcome;
 use rules::Refusal;
+use rules::SlotNo;
+
+// The whole records of some bytes as events, at the front of the array; behind them stand events that no one is to give.
+pub fn events_in(records: &[u8]) -> [Event; 4096]
+    requires { ⌜ length (now records) ≤ 16384 ⌝ }
+    ensures { λ r. ⌜ r ≡ eventsFor (now (records .entry)) ⌝ }
+{
+    let none = Event {
+        kind: 0,
+        slot: SlotNo(0),
+        value: 0,
+    };
+    let mut all = [none; 4096];
+    let count = records.len() / 4;
+    for i in 0..count {
+        let e = records::record_at(records, 4 * i);
+        all[i] = e;
+    }
+    all
+}
+
+// Every place as it is before the list is given.
+pub fn unanswered() -> [Answer; 65535]
+    ensures { λ r. ⌜ r ≡ replicate 65535 blank ⌝ }
+{
+    let blank = Answer::Refused(Refusal::WrongSetup);
+    [blank; 65535]
+}
 
 // Whether a refusal is a setup's, which no event gets.
 fn is_setups(r: Refusal) -> bool
