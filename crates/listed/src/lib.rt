@@ -4,7 +4,7 @@ ghost use mathlib.Core.Path.{_≡_};
 ghost use Prim.Native.Nat.{_+_, _*_, _≤_};
 ghost use lib.ListN.{length, take, replicate};
 ghost use lib.Seq.{sets};
-ghost use Rattle.listed.specs.Listed.{blank, eventsFor, isBlank, isSetups, placeLine, placeLines, toldOf};
+ghost use Rattle.listed.specs.Listed.{blank, eventsFor, isBlank, isSetups, placeLine, placeLines, toldOf, tooManyText};
 use rules::Answer;
 use rules::Bus;
 use rules::Event;
@@ -103,4 +103,12 @@ pub fn put_list(done: Outcome, answers: [Answer; 65535], places: usize, out: &mu
     }
     let end = put_places(answers, places, out);
     Told { bus, end }
+}
+
+// The sentence for a list of too many records, put at the front of the output; the place after it.
+pub fn put_too_many(out: &mut [u8]) -> usize
+    requires { ⌜ 41 ≤ length (now out) ⌝ }
+    ensures { λ r. ⌜ (r ≡ 41) × (now (out .exit) ≡ sets (now (out .entry)) 0 tooManyText) ⌝ }
+{
+    bytes::copy(b"list: more than 4096 records in one list\n", out)
 }
