@@ -68,8 +68,8 @@ use Rattle.rules.proofs.Outcome.Laws as R′
 use Rattle.bus.proofs.Onward.{event-bench, event-answer}
 use Rattle.batch.specs.Lists.{standing, eventsOf}
 use Rattle.batch.proofs.Onward.{restOf, rest-more, rest-none, too-few, all-run, judged}
-use Rattle.batch.proofs.Relent.{Kept, lends-again, comes-back}
-use Rattle.batch.proofs.Walks.{typeOf, placed, tail, order, span, free-all}
+use Rattle.walks.proofs.Relent.{Kept, lends-again, comes-back}
+use Rattle.walks.proofs.Locals.{typeOf, placed, tail, order, span, free-all}
 use Rattle.batch.proofs.one as one
 use Rattle.batch.proofs.one.Symbol as one-def
 use Rattle.batch.proofs.one.Symbol.{name as #batch·one}
