@@ -17,7 +17,7 @@ use base.Fml.{Lft, Share, GName, Fml, ftrue, fat, flft, flent}
 use prog.Memory.{Memory}
 use prog.Routine.{Routine}
 use prog.Wp.{Heap, WpFn, Tables}
-use ghost.Atoms.{Atoms, sem}
+use ghost.Atoms.{Atoms}
 use contract.Monad.{Fun, fact}
 use contract.Running.{givenOf, tables, tablesOf}
 use types.Kit.{Given, ‵, raw, some, later, _⊛_, ⋆, _$_, _∵_, !, qed, by, move, keep, drop, use0, use1, use2, use3, split, join, pick, fsplit, fjoin, feqL, suffices, frame, await, done}
@@ -62,8 +62,8 @@ use Rattle.rules.proofs.Outcome as D
 use Rattle.rules.proofs.Outcome.Laws as D′
 use Rattle.salvo.proofs.Summed as R
 use Rattle.salvo.proofs.Summed.Laws as R′
-use Rattle.batch.proofs.Lends as Lends
-use Rattle.batch.proofs.Walks.{typeOf, placed, order, span, free-all}
+use Rattle.walks.proofs.Lends as Lends
+use Rattle.walks.proofs.Locals.{typeOf, placed, order, span, free-all}
 use Rattle.batch.proofs.events as many
 use Rattle.batch.proofs.events.Symbol as many-def
 use Rattle.batch.proofs.events.Symbol.{name as #many}

@@ -1,4 +1,4 @@
--- The front of a local array lent as a slice for the lifetime of a call, and the array whole again. It says nothing of the crate.
+-- The front of a local array lent as a slice for the lifetime of a call, and the array whole again.
 --     Rest                     the elements behind the first k, in memory
 --     lends-shr, shr-back      the first k are lent as a `&κ [T]`; after the end of κ the array is as it was
 --     lends-mut, mut-back      they are lent as a `&κ mut [T]`; after the end of κ the array has the slice's last elements in front
@@ -17,7 +17,7 @@ use base.Logic.{SProp, ent, sep, ex}
 use base.Fml.{Lft, GName, Fml, fsep, fat, fdead, flent}
 use prog.Wp.{Heap}
 use ghost.Atoms.{Atoms, sem}
-use types.Kit.{Given, ‵, raw, _⊛_, some, later, _$_, _∵_, !, qed, by, move, use1, use2, drop, rewrite, split, join, pick, fsplit, fjoin, fpick, fpack, feqL, feqI, await, updating, now as at-once, show, done}
+use types.Kit.{Given, ‵, _⊛_, some, later, _$_, _∵_, !, qed, by, use1, use2, drop, rewrite, split, pick, fsplit, fjoin, fpick, fpack, feqL, feqI, await, updating, now as at-once, show, done}
 use types.SemTy.{cells, Arr}
 use types.Share.{arr-parts}
 use types.Tokens.{lent-back}
