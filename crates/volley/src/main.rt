@@ -3,6 +3,7 @@
 // leaves no lap out, each lap's bus and memory are the next one's input, and `done` is written only where the answers of every lap come to the same sum as those of a first.
 ghost use mathlib.Core.Path.{_≡_};
 ghost use mathlib.Core.Bool.{true};
+ghost use Prim.Native.Nat.{_≤_};
 ghost use lib.ListN.{length};
 ghost use Rattle.rules.specs.Modelled.{memoryBytes};
 ghost use Rattle.rules.specs.Refusals.{inRange};
@@ -73,6 +74,16 @@ fn one_by_one_in_range(bus: Bus, mem: &mut [u8], list: [Event; 64]) -> Summed
     Summed { bus: at, sum }
 }
 
+// 1 where two sums are the same.
+fn same(a: u8, b: u8) -> u64
+    ensures { λ r. ⌜ r ≤ 1 ⌝ }
+{
+    if a == b {
+        return 1;
+    }
+    0
+}
+
 // So many laps of each way, and how many of them came to a sum.
 fn list_laps(bus: Bus, mem: &mut [u8], list: [Event; 64], sum: u8, count: u64) -> u64 {
     let answers = [Answer::Nothing; 64];
@@ -81,9 +92,7 @@ fn list_laps(bus: Bus, mem: &mut [u8], list: [Event; 64], sum: u8, count: u64) -
     for _ in 0..count {
         let lap = salvo::give(at, mem, list, answers);
         at = lap.bus;
-        if lap.sum == sum {
-            right += 1;
-        }
+        right += same(lap.sum, sum);
     }
     right
 }
@@ -94,9 +103,7 @@ fn one_laps(bus: Bus, mem: &mut [u8], list: [Event; 64], sum: u8, count: u64) ->
     for _ in 0..count {
         let lap = one_by_one(at, mem, list);
         at = lap.bus;
-        if lap.sum == sum {
-            right += 1;
-        }
+        right += same(lap.sum, sum);
     }
     right
 }
@@ -109,9 +116,7 @@ fn range_laps(bus: Bus, mem: &mut [u8], list: [Event; 64], sum: u8, count: u64) 
     for _ in 0..count {
         let lap = one_by_one_in_range(at, mem, list);
         at = lap.bus;
-        if lap.sum == sum {
-            right += 1;
-        }
+        right += same(lap.sum, sum);
     }
     right
 }
