@@ -77,7 +77,7 @@ static int list(void)
     got = take(records, 4 * ROOM + 4);
     if (got == 4 * ROOM + 4) {    /* a whole record more than there is room for */
         fputs("list: more than 4096 records in one list\n", stderr);
-        return 2;
+        return 2;  /* the sentence */
     }
     if (asked < 2 || got % 4 != 0)
         return last_line("short", 2);
