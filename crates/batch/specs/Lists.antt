@@ -1,9 +1,9 @@
 -- Request P6, lists of events: "Offer one call on a lent list of event records and a lent list of answers [..]. The list is a slice of records as it comes from the driver."
 -- Assumes nothing.
 use Prim.Native.Nat.{ℕ}
-use mathlib.Core.Bool.{Bool, cond}
+use mathlib.Core.Bool.{Bool, cond, _&&_}
 use mathlib.Core.List.{List, _++_}
-use lib.Dec.{ltb}
+use lib.Dec.{ltb, eqb}
 use lib.ListN.{length, drop}
 use Rattle.rules.specs.declared.Answer.{Answer}
 use Rattle.rules.specs.declared.Answer.the-variants.{Nothing, Refused}
@@ -11,6 +11,8 @@ use Rattle.rules.specs.declared.Bus.{Bus}
 use Rattle.rules.specs.declared.Event.{Event}
 use Rattle.rules.specs.declared.Outcome.{Outcome}
 use Rattle.rules.specs.declared.Refusal.the-variants.{TooShort}
+use Rattle.rules.specs.Modelled.{memoryBytes}
+use Rattle.rules.specs.Refusals.{inRange}
 use Rattle.rules.specs.Runs.{Bench, after, answers}
 
 -- what a call leaves: what it gives back, the lent memory, and the lent answer places
@@ -35,3 +37,7 @@ listed x es places = cond (tooFew es places) (notTaken x places) (taken x es pla
 
 unfoldable pub eventsOf : Bus → List ℕ → List Event → List Answer → Left
 eventsOf b m es places = listed (record { bus = b; memory = m }) es places
+
+-- neither row 1 nor row 6 refuses anything: what the code looks at once, for all events of a list
+unfoldable pub standing : Bus → ℕ → Bool
+standing b bytes = eqb bytes memoryBytes && inRange b
