@@ -1,3 +1,3 @@
+pub mod Determined
 pub mod Onward
-pub mod Relent
-pub mod Walks
+pub mod Promise

@@ -1,12 +1,11 @@
 -- What the walk over a list needs: what is left to do at event i, one event more, none left; and that memory and state go on standing.
 -- Assumes nothing.
-use mathlib.Core.Path.{_≡_, refl, sym, _∙_, ap, ap₂}
+use mathlib.Core.Path.{_≡_, sym, _∙_, ap, ap₂}
 use mathlib.Core.Bool.{true}
 use mathlib.Core.List.{List, [], _∷_, _++_, append-assoc, append-nil}
 use Prim.Native.Nat.{ℕ, suc, _+_, _<_, _≤_}
 use native.Mathlib.Nat.{le-antisymm}
 use native.Mathlib.Numerals.{add-one}
-use native.Mathlib.Omega.{arith}
 use borrow.Author.Tests.{eqb-true, lt-ltb, le-ltb}
 use lib.Dec.{eqb}
 use lib.ListN.{length, getD, set, take, drop, take-append-drop, drop-of-length-le}
@@ -59,16 +58,22 @@ rest-none es i x places upto over =
     ∙ ap (λ (ks : List Answer). (x, ks))
     (ap₂ (λ (ks : List Answer) (n : ℕ). ks ++ drop n places) (append-nil (take i places)) (le-antisymm over upto) ∙ take-append-drop i places)
 
--- the call, by its two cases
-module _ (b : Bus) (m : List ℕ) (es : List Event) (places : List Answer) where
-  pub events-short : length places < length es → eventsOf b m es places ≡ (record { bus = b; answer = Refused TooShort }, m, places)
-  unfolding eventsOf listed tooFew notTaken
-  events-short short = rw (lt-ltb (length places) (length es) short)
+-- ---- the call, by its two cases
+-- "An answer list shorter than the event list is refusal 9, before every other check and with nothing changed": whatever memory and state are
+pub too-few : (b : Bus) (m : List ℕ) (es : List Event) (places : List Answer) → length places < length es → eventsOf b m es places ≡ (record { bus = b; answer = Refused TooShort }, m, places)
+unfolding eventsOf listed tooFew notTaken
+too-few b m es places short = rw (lt-ltb (length places) (length es) short)
 
-  pub events-run : (x : Bench) (ks : List Answer) → length es ≤ length places → restOf 0 (record { bus = b; memory = m }) places es ≡ (x, ks)
-      → eventsOf b m es places ≡ (record { bus = x .bus; answer = Nothing }, x .memory, ks)
-  unfolding eventsOf listed tooFew taken restOf
-  events-run x ks enough e = rw (le-ltb (length places) (length es) enough) (ap (λ (z : Bench × List Answer). (record { bus = z .0 .bus; answer = Nothing }, z .0 .memory, z .1)) e)
+-- otherwise the call is not refused, whatever its events are
+pub enough : (b : Bus) (m : List ℕ) (es : List Event) (places : List Answer) → length es ≤ length places → eventsOf b m es places ≡ taken (record { bus = b; memory = m }) es places
+unfolding eventsOf listed tooFew
+enough b m es places l = rw (le-ltb (length places) (length es) l)
+
+-- and it leaves what is left from the first event on
+pub all-run : (b : Bus) (m : List ℕ) (es : List Event) (places : List Answer) (x : Bench) (ks : List Answer) → length es ≤ length places → restOf 0 (record { bus = b; memory = m }) places es ≡ (x, ks)
+    → eventsOf b m es places ≡ (record { bus = x .bus; answer = Nothing }, x .memory, ks)
+unfolding taken restOf
+all-run b m es places x ks l e = enough b m es places l ∙ ap (λ (z : Bench × List Answer). (record { bus = z .0 .bus; answer = Nothing }, z .0 .memory, z .1)) e
 
 -- memory and state stand: what is judged once
 pub judged : (b : Bus) (m : List ℕ) → standing b (length m) ≡ true → (inRange b ≡ true) × (length m ≡ memoryBytes)

@@ -4,7 +4,7 @@ use Prim.Native.Nat.{ℕ}
 use mathlib.Core.Bool.{Bool, cond, _&&_}
 use mathlib.Core.List.{List, _++_}
 use lib.Dec.{ltb, eqb}
-use lib.ListN.{length, drop}
+use lib.ListN.{length, take, drop}
 use Rattle.rules.specs.declared.Answer.{Answer}
 use Rattle.rules.specs.declared.Answer.the-variants.{Nothing, Refused}
 use Rattle.rules.specs.declared.Bus.{Bus}
@@ -37,6 +37,13 @@ listed x es places = cond (tooFew es places) (notTaken x places) (taken x es pla
 
 unfoldable pub eventsOf : Bus → List ℕ → List Event → List Answer → Left
 eventsOf b m es places = listed (record { bus = b; memory = m }) es places
+
+-- two calls, one after the other, on two parts of a list, with the answer places cut where the events are
+abbrev pub calledTwice : Bus → List ℕ → List Event → List Event → List Answer → Left
+calledTwice b m es fs places =
+    let first : Left = eventsOf b m es (take (length es) places) in
+    let second : Left = eventsOf (first .0 .bus) (first .1) fs (drop (length es) places) in
+    (second .0, second .1, first .2 ++ second .2)
 
 -- neither row 1 nor row 6 refuses anything: what the code looks at once, for all events of a list
 unfoldable pub standing : Bus → ℕ → Bool
