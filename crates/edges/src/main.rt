@@ -1,6 +1,7 @@
 // A bench for what no script can reach: it reads tries, hands in the states and memories that they ask for, and writes each command with what
 // came of it. `stdin` says what a line may hold, and `stdout` has what document 01 asks for.
 ghost use Prim.Native.Nat.{_≤_};
+ghost use lib.ListN.{length};
 use listed::Told;
 use rules::Answer;
 use rules::BlockNo;
@@ -113,20 +114,30 @@ fn shelve(b: Bench, mem: &mut [u8; 8192], shelf: &mut [u8; 8192], t: [u32; 38]) 
     b
 }
 
-// Records given as one list, with so many answer places, on the bus with the first `length` bytes; what then stands at the places is put at the front of the text.
+// Records given as one list, with so many answer places, on the bus with the first `size` bytes; what then stands at the places is put at the front of the text.
 fn given(
     slots: [Slot; 8],
     mem: &mut [u8],
-    length: usize,
+    size: usize,
     records: &[u8],
     places: usize,
     text: &mut [u8; 262140],
-) -> Told {
-    let end = least(length, mem.len());
+) -> Told
+    requires { ⌜ length (now records) ≤ 16384 ⌝ }
+{
+    let end = least(size, mem.len());
     let count = least(records.len() / 4, 4096);
     let list = listed::events_in(records);
     let answers = listed::unanswered();
-    lending::give(Bus { slots }, &mut mem[..end], list, count, answers, least(places, 65535), text)
+    lending::give(
+        Bus { slots },
+        &mut mem[..end],
+        list,
+        count,
+        answers,
+        least(places, 65535),
+        text,
+    )
 }
 
 // The front of the text.
