@@ -18,12 +18,12 @@ use Rattle.letters.specs.Decimal.{digit, decimalIn, decimal}
 use Rattle.letters.specs.Letters.{digitsOf, lineOf, shortLine}
 use Rattle.batch.specs.Lists.{tooFew, notTaken, taken, listed, eventsOf}
 use Rattle.listed.specs.declared.Told.{Told}
-use Rattle.listed.specs.Listed.{eventsIn, eventsFor, blank, listText, toldOf, tooManyText}
+use Rattle.listed.specs.Listed.{numberIn, eventsIn, eventsFor, blank, listText, toldOf, tooManyText}
 use Rattle.listed.proofs.Events.{events-front}
 use Rattle.listed.proofs.Places.{take-same, taken-lines, taken-most}
 use Rattle.lending.specs.Given.{givenOf}
 use Rattle.list.specs.declared.Answered.{Answered}
-use Rattle.list.specs.Asked.{placesIn, linesFor, tooMany, isCut, listFor, putFor, answeredBy, answerOf}
+use Rattle.list.specs.Asked.{linesFor, tooMany, isCut, listFor, putFor, answeredBy, answerOf}
 
 -- the text of a call on so many blank places
 list-text : (x : Bench) (es : List Event) (places : ℕ)
@@ -45,7 +45,7 @@ given-put x es places out r m o e =
 
 -- whole records, given as one list
 pub put-by : (x : Bench) (number rs out : List ℕ) (es : List Event) (ks : List Answer) (places : ℕ) (r : Told) (m o : List ℕ)
-    → es ≡ eventsFor rs → ks ≡ replicate 65535 blank → (places ≡ placesIn number) × (places ≤ 65535)
+    → es ≡ eventsFor rs → ks ≡ replicate 65535 blank → (places ≡ numberIn number) × (places ≤ 65535)
     → givenOf (x .bus) (x .memory) (take (length rs / 4) es) (take places ks) out ≡ (r, m, o) → putFor x number rs out ≡ (r .end, o)
 unfolding putFor
 put-by x number rs out es ks places r m o f g p e =
@@ -83,12 +83,12 @@ lines-most x es places h =
     cond-cases (λ (l : List ℕ). length l ≤ 262140) (ltb places (length es)) (λ _. omega arith)
     (λ k. let m : length es ≤ places = ltb-false places (length es) k in omega (arith, taken-most es x places m))
 
-pub list-most : (x : Bench) (number rs : List ℕ) → placesIn number ≤ 65535 → length (listFor x number rs) ≤ 262140
+pub list-most : (x : Bench) (number rs : List ℕ) → numberIn number ≤ 65535 → length (listFor x number rs) ≤ 262140
 unfolding listFor
 list-most x number rs h =
-    cond-cases (λ (l : List ℕ). length l ≤ 262140) (isCut number rs) (λ _. omega arith) (λ _. lines-most x (eventsIn rs (length rs / 4)) (placesIn number) h)
+    cond-cases (λ (l : List ℕ). length l ≤ 262140) (isCut number rs) (λ _. omega arith) (λ _. lines-most x (eventsIn rs (length rs / 4)) (numberIn number) h)
 
-pub answer-onward : (x : Bench) (number rs out o : List ℕ) (r : Answered) → answerOf x number rs out ≡ (r, o) → placesIn number ≤ 65535 → r .end ≤ 262140
+pub answer-onward : (x : Bench) (number rs out o : List ℕ) (r : Answered) → answerOf x number rs out ≡ (r, o) → numberIn number ≤ 65535 → r .end ≤ 262140
 unfolding answerOf answeredBy
 answer-onward x number rs out o r e h =
     let k : answerOf x number rs out .0 .end ≤ 262140 =

@@ -18,14 +18,14 @@ use Rattle.records.specs.Records.{pairsOf}
 use Rattle.records.proofs.Laws.{pairs-of}
 use Rattle.frame.specs.Frame.{startingMemory, cutSetup, firstLine, goesOn, firstBus, beginOf}
 use Rattle.frame.proofs.Laws.{first-length, written}
-use Rattle.listed.specs.Listed.{tooManyText}
+use Rattle.listed.specs.Listed.{numberIn, tooManyText}
 use Rattle.list.specs.declared.Answered.{Answered}
-use Rattle.list.specs.Asked.{onOutput, onErrors, placesIn, tooMany, listFor, endFor, begunAt, writtenFor, answeredBy, answerOf}
+use Rattle.list.specs.Asked.{onOutput, onErrors, tooMany, listFor, endFor, begunAt, writtenFor, answeredBy, answerOf}
 use Rattle.list.specs.Program.{Served, fronted, serveWrites, listWrites}
 use Rattle.list.proofs.Laws.{list-most}
 
 -- what is written after a good setup
-serve-ends : (x : Bench) (number rs out : List ℕ) → placesIn number ≤ 65535 → 262140 ≤ length out → serveWrites x number rs out ≡ endFor x number rs
+serve-ends : (x : Bench) (number rs out : List ℕ) → numberIn number ≤ 65535 → 262140 ≤ length out → serveWrites x number rs out ≡ endFor x number rs
 unfolding serveWrites answerOf answeredBy fronted endFor
 serve-ends x number rs out h room =
     by-test (tooMany rs)
@@ -69,7 +69,7 @@ records-read x number rs rest ended =
 -- ANY OTHER: the setup is whole; the number of places and the records are read, each as far as there is room or to the input's end; and what is written, and where, is
 -- `writtenFor` of it all
 pub writes-whole : (head number rs rest out : List ℕ) → length head ≡ 16
-    → (length number ≤ 2) × (length number < 2 → rs ++ rest ≡ []) → (length rs < 16388 → rest ≡ []) → placesIn number ≤ 65535 → 262140 ≤ length out
+    → (length number ≤ 2) × (length number < 2 → rs ++ rest ≡ []) → (length rs < 16388 → rest ≡ []) → numberIn number ≤ 65535 → 262140 ≤ length out
     → listWrites head number rs out ≡ writtenFor (head ++ (number ++ (rs ++ rest)))
 unfolding firstLine goesOn cutSetup firstBus writtenFor begunAt
 writes-whole head number rs rest out l n ended h room =

@@ -1,11 +1,11 @@
 -- The list program: what it writes for what it reads.
 -- Assumes nothing.
-use Prim.Native.Nat.{ℕ, _+_, _-_, _*_, _/_, _%_}
+use Prim.Native.Nat.{ℕ, _-_, _/_, _%_}
 use mathlib.Core.Bool.{Bool, true, false, not, cond, _||_}
 use mathlib.Core.List.{List, [], _∷_, _++_}
 use lib.Dec.{eqb, ltb}
 use lib.IntN.{ℤ, pos}
-use lib.ListN.{length, take, drop, getD}
+use lib.ListN.{length, take, drop}
 use lib.Seq.{sets}
 use Rattle.lists.specs.Each.{allOf}
 use Rattle.rules.specs.declared.Event.{Event}
@@ -15,7 +15,7 @@ use Rattle.rules.specs.Runs.{Bench, answers}
 use Rattle.records.specs.Records.{pairsOf}
 use Rattle.letters.specs.Letters.{shortLine}
 use Rattle.frame.specs.Frame.{badSetupLine, startingMemory}
-use Rattle.listed.specs.Listed.{eventsIn, answerLines, dotLines, tooManyText}
+use Rattle.listed.specs.Listed.{numberIn, eventsIn, answerLines, dotLines, tooManyText}
 use Rattle.list.specs.declared.Answered.{Answered}
 
 -- what is written on standard output, and on standard error
@@ -33,10 +33,6 @@ onErrors bs = record { output = []; errors = bs }
 unfoldable pub descriptorOf : Bool → ℤ
 descriptorOf true = pos 1
 descriptorOf false = pos 2
-
--- "two bytes number of answer places (high byte first)"
-unfoldable pub placesIn : List ℕ → ℕ
-placesIn number = 256 * getD number 0 0 + getD number 1 0
 
 -- "An answer list shorter than the event list is refusal 9": its line
 abbrev pub tooFewLine : List ℕ
@@ -56,7 +52,7 @@ isCut number rs = ltb (length number) 2 || not (eqb (length rs % 4) 0)
 
 -- what is written on standard output, of the bytes that came as the number of places and as records
 abbrev pub wholeFor : Bench → List ℕ → List ℕ → List ℕ
-wholeFor x number rs = linesFor x (eventsIn rs (length rs / 4)) (placesIn number)
+wholeFor x number rs = linesFor x (eventsIn rs (length rs / 4)) (numberIn number)
 
 unfoldable pub listFor : Bench → List ℕ → List ℕ → List ℕ
 listFor x number rs = cond (isCut number rs) shortLine (wholeFor x number rs)

@@ -9,14 +9,15 @@ use Rattle.rules.specs.declared.Bus.{Bus}
 use Rattle.rules.specs.Runs.{Bench}
 use Rattle.frame.specs.declared.Begun.{Begun}
 use Rattle.frame.specs.Frame.{beginOf}
+use Rattle.listed.specs.Listed.{numberIn}
 use Rattle.list.specs.declared.Answered.{Answered}
-use Rattle.list.specs.Asked.{Written, onOutput, onErrors, placesIn, answerOf}
+use Rattle.list.specs.Asked.{Written, onOutput, onErrors, answerOf}
 
 -- what the program's reads bring, as many bytes as there is room for, and the answer to it. The bytes that come no contract can say
 pub record Served (b : Bus) (m out : List ℕ) (r : Answered) (written : List ℕ) : Type 0 where
   pub number : List ℕ
   pub records : List ℕ
-  pub fits : (length number ≤ 2) × (length records ≤ 16388) × (placesIn number ≤ 65535)
+  pub fits : (length number ≤ 2) × (length records ≤ 16388) × (numberIn number ≤ 65535)
   pub answered : answerOf (record { bus = b; memory = m }) number records out ≡ (r, written)
 
 -- the front of the output, on the one or the other

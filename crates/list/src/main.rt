@@ -4,7 +4,8 @@
 ghost use mathlib.Core.Path.{_≡_};
 ghost use Prim.Native.Nat.{_≤_};
 ghost use lib.ListN.{length};
-ghost use Rattle.list.specs.Asked.{answerOf, descriptorOf, placesIn, putFor};
+ghost use Rattle.listed.specs.Listed.{numberIn};
+ghost use Rattle.list.specs.Asked.{answerOf, descriptorOf, putFor};
 ghost use Rattle.list.specs.Program.{Served};
 use libc::STDERR_FILENO;
 use libc::STDIN_FILENO;
@@ -27,14 +28,6 @@ fn room() -> [u8; 262140]
     [0; 262140]
 }
 
-// The number of answer places: two bytes, the high byte first.
-fn places_in(number: &[u8]) -> usize
-    requires { ⌜ 2 ≤ length (now number) ⌝ }
-    ensures { λ r. ⌜ (r ≡ placesIn (now (number .entry))) × (r ≤ 65535) ⌝ }
-{
-    256 * (number[0] as usize) + (number[1] as usize)
-}
-
 // Records that are whole, given as one list; where its lines, or its refusal's, end, which are then at the front of the output.
 fn given(bus: Bus, mem: &mut [u8], number: &[u8], records: &[u8], out: &mut [u8]) -> usize
     requires { ⌜ (2 ≤ length (now number)) × (length (now records) ≤ 16384) × (262140 ≤ length (now out)) ⌝ }
@@ -42,7 +35,7 @@ fn given(bus: Bus, mem: &mut [u8], number: &[u8], records: &[u8], out: &mut [u8]
 {
     let list = listed::events_in(records);
     let answers = listed::unanswered();
-    let places = places_in(number);
+    let places = listed::number_in(number);
     let count = records.len() / 4;
     let told = lending::give(bus, mem, list, count, answers, places, out);
     told.end
@@ -52,7 +45,7 @@ fn given(bus: Bus, mem: &mut [u8], number: &[u8], records: &[u8], out: &mut [u8]
 // what it is refused for. That two bytes say at most 65,535 is what bounds the lines.
 fn answer(bus: Bus, mem: &mut [u8], number: &[u8], records: &[u8], out: &mut [u8]) -> Answered
     requires { ⌜ (length (now records) ≤ 16388) × (262140 ≤ length (now out)) ⌝ }
-    ensures { λ r. ⌜ (placesIn (now (number .entry)) ≤ 65535) × (answerOf (record { bus = bus; memory = now (mem .entry) }) (now (number .entry)) (now (records .entry)) (now (out .entry)) ≡ (r, now (out .exit))) ⌝ }
+    ensures { λ r. ⌜ (numberIn (now (number .entry)) ≤ 65535) × (answerOf (record { bus = bus; memory = now (mem .entry) }) (now (number .entry)) (now (records .entry)) (now (out .entry)) ≡ (r, now (out .exit))) ⌝ }
 {
     if records.len() == TOO_MANY {
         let end = listed::put_too_many(out);

@@ -2,13 +2,13 @@
 -- Assumes nothing.
 use native.Mathlib.Omega.{arith}
 use borrow.Author.Needs.{needs}
-use Rattle.list.specs.Asked.{placesIn}
+use Rattle.listed.specs.Listed.{numberIn}
 use Rattle.list.proofs.Laws.{answer-many, answer-no-number, answer-short, answer-list}
 use Rattle.list.proofs.answer.Statement.{statement}
 use Rattle.list.proofs.answer.Tie as tie
 
 pub answer-spec : {M : Type 1} → statement M
-unfolding placesIn
+unfolding numberIn
 answer-spec =
     tie.close
     (tie.spec

@@ -15,4 +15,4 @@ given-spec =
     (λ c κs. search needs)
     (λ c. search needs)
     (λ c. search needs)
-    (λ c. put-by _ _ _ _ _ _ _ _ _ _ (c .before .before .before .before .before .before .before .before .before .events-in .ensures) (c .before .before .before .before .before .before .before .before .unanswered .ensures) (c .before .before .before .before .before .before .before .places-in .ensures) (c .before .before .before .before .give .ensures)))
+    (λ c. put-by _ _ _ _ _ _ _ _ _ _ (c .before .before .before .before .before .before .before .before .before .events-in .ensures) (c .before .before .before .before .before .before .before .before .unanswered .ensures) (c .before .before .before .before .before .before .before .number-in .ensures) (c .before .before .before .before .give .ensures)))

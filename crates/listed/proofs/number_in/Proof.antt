@@ -3,13 +3,13 @@
 use mathlib.Core.Path.{refl}
 use native.Mathlib.Omega.{arith}
 use borrow.Author.Needs.{needs}
-use Rattle.list.specs.Asked.{placesIn}
-use Rattle.list.proofs.places_in.Statement.{statement}
-use Rattle.list.proofs.places_in.Tie as tie
+use Rattle.listed.specs.Listed.{numberIn}
+use Rattle.listed.proofs.number_in.Statement.{statement}
+use Rattle.listed.proofs.number_in.Tie as tie
 
-pub places-in-spec : {M : Type 1} → statement M
-unfolding placesIn
-places-in-spec =
+pub number-in-spec : {M : Type 1} → statement M
+unfolding numberIn
+number-in-spec =
     tie.close
     (tie.spec
     (λ c. search needs)
