@@ -3,11 +3,13 @@
  * P6), in C, on the second opinion's model.  It stands in for the proved
  * programs where the tests of lists are tried themselves: tests/wronglists
  * plants the faults of wronglists.txt in it, line by line (keep them in step),
- * and sees that tests/lists or tests/relist finds each.
+ * and sees that tests/lists, tests/relist or the tries of edges find each.
  *
  *   giver list      a setup, the number of answer places, records to the end
  *   giver batches   a setup, then lists to the end, each with its number of
  *                   records in front, on the same bench
+ *   giver tries     tries of lists, as the program edges has them in its
+ *                   stdout; gives the same lines with answers of its own
  */
 #include "model.h"
 
@@ -47,14 +49,44 @@ static void show_answers(size_t places)
         puts(answers[i]);
 }
 
+static size_t lent = sizeof memory;  /* bytes of the memory that are lent */
+
+/* Whether the numbers that a try hands in are in their ranges. */
+static int in_range(void)
+{
+    for (int n = 0; n < SLOTS; n++) {
+        const struct slot *s = &bus[n];
+
+        if (s->kind < ABSENT || s->kind > MEMORY_WITH_SENSOR)
+            return 0;
+        if (s->kind == ABSENT ? s->length != 0 : s->length < 1 || s->length > 5)
+            return 0;
+        if (s->ticks_left > s->length || s->half > 1 || s->pointer >= REGISTERS)
+            return 0;
+    }
+    return 1;
+}
+
+/* The line of every event where memory or state is wrong, else none. */
+static const char *line_of_all(void)
+{
+    if (lent != sizeof memory)
+        return "R1";
+    if (!in_range())
+        return "R6";
+    return NULL;
+}
+
 /* The events one by one, each with its answer at its place.  0, or 9 if there
  * are fewer places than events. */
 static int events(const unsigned char *list, size_t count, size_t places)
 {
+    const char *all = line_of_all();
+
     if (places < count)
         return 9;
     for (size_t i = 0; i < count; i++) {
-        const char *line = play(list + 4 * i);
+        const char *line = all != NULL ? all : play(list + 4 * i);
 
         set_answer(i, line);
     }
@@ -114,12 +146,132 @@ static int batches(void)
     return 0;
 }
 
+/* ---- tries ------------------------------------------------------------------ */
+
+static unsigned char first_pairs[SETUP];  /* of the last setup */
+
+/* What a line begins with: the bus of the last setup, and a memory of which
+ * each byte tells its slot and block. */
+static void begin_anew(void)
+{
+    setup(first_pairs);
+    lent = sizeof memory;
+    for (int i = 0; i < (int)sizeof memory; i++)
+        memory[i] = (unsigned char)(i / 512 * 16 + i / 128 % 4 + (i % 128 == 127 ? 8 : i % 128 > 0 ? 4 : 0));
+}
+
+/* The numbers behind a command's name; those in hex end in h. */
+static int numbers_of(const char *text, int *to)
+{
+    int many = 0;
+
+    while (*text != 0) {
+        size_t size = strcspn(text, " ,");
+
+        if (size > 0 && text[0] >= '0' && text[0] <= 'F')
+            to[many++] = (int)strtol(text, NULL, text[size - 1] == 'h' ? 16 : 10);
+        text += size + (text[size] != 0);
+    }
+    return many;
+}
+
+/* A number of a slot by its name. */
+static void hand_in(struct slot *s, char initial, int value)
+{
+    switch (initial) {
+    case 'k': s->kind = value; break;
+    case 'h': s->half = value; break;
+    case 'p': s->pointer = value; break;
+    case 'l': s->ticks_left = value; break;
+    case 'L': s->length = value; break;
+    }
+}
+
+/* A list, the answers, and what it changed. */
+static void try_list(const int *numbers, int many)
+{
+    static struct slot was[SLOTS];
+    static unsigned char old[sizeof memory], records[64];
+    size_t places = (size_t)numbers[0];
+    int refused, changed = 0;
+
+    memcpy(was, bus, sizeof bus);
+    memcpy(old, memory, sizeof memory);
+    for (int i = 1; i < many; i++)
+        records[i - 1] = (unsigned char)numbers[i];
+    clear_answers(places);
+    refused = events(records, (size_t)(many - 1) / 4, places);
+    putchar(':');
+    if (refused)
+        printf(" R%d", refused);
+    else if (places == 0)
+        printf(" empty");
+    for (size_t i = 0; !refused && i < places; i++)
+        printf(" %s", answers[i]);
+    putchar(',');
+    for (int n = 0; n < SLOTS; n++)
+        if (bus[n].kind != ABSENT && memcmp(&was[n], &bus[n], sizeof bus[n]) != 0)
+            changed = printf(" %d", n);
+    if (memcmp(old, memory, sizeof memory) != 0)
+        changed = printf(" memory");
+    printf("%s changed", changed ? "" : " nothing");
+}
+
+static void one_try(const char *command)
+{
+    int numbers[64], many = numbers_of(command, numbers);
+
+    printf("%s", command);
+    command += command[0] == ' ';
+    if (memcmp(command, "setup", 5) == 0) {
+        for (int i = 0; i < SETUP; i++)
+            first_pairs[i] = (unsigned char)numbers[i];
+        printf(setup(first_pairs) ? ": taken" : ": refused 5");
+    } else if (memcmp(command, "memory", 6) == 0) {
+        lent = (size_t)numbers[0];
+    } else if (memcmp(command, "slot", 4) == 0) {
+        hand_in(&bus[numbers[0]], memcmp(command + 7, "length", 6) == 0 ? 'L' : command[7], numbers[1]);
+    } else if (memcmp(command, "list", 4) == 0) {
+        try_list(numbers, many);
+    } else if (memcmp(command, "at", 2) == 0) {
+        printf(": %02Xh", memory[512 * numbers[0] + numbers[1]]);
+    }
+}
+
+/* Lines of commands, parted by semicolons; what stands behind a colon is left
+ * out. */
+static int tries(void)
+{
+    static char text[1 << 16];
+    char *at = text;
+
+    take((unsigned char *)text, sizeof text - 1);
+    while (*at != 0) {
+        size_t size = strcspn(at, ";\n");
+        char end = at[size];
+
+        at[size] = 0;
+        at[strcspn(at, ":")] = 0;
+        if (at == text || at[-1] == '\n')
+            begin_anew();
+        one_try(at);
+        if (end != 0)
+            putchar(end);
+        at += size;
+        if (end != 0)
+            *at++ = end;
+    }
+    return 0;
+}
+
 int main(int count, char **words)
 {
     if (count == 2 && strcmp(words[1], "list") == 0)
         return list();
     if (count == 2 && strcmp(words[1], "batches") == 0)
         return batches();
-    fputs("usage: giver list | giver batches\n", stderr);
+    if (count == 2 && strcmp(words[1], "tries") == 0)
+        return tries();
+    fputs("usage: giver list | giver batches | giver tries\n", stderr);
     return 2;
 }

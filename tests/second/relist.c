@@ -264,7 +264,7 @@ static void spoil_setup(void)
         pair[0] = (unsigned char)between(MEMORY, MEMORY_WITH_SENSOR);
         pair[1] = (unsigned char)ONE_OF(lengths);
     }
-    strcat(what, ", a bad setup");
+    snprintf(what + strlen(what), sizeof what - strlen(what), ", a bad setup");
 }
 
 /* Lists of this script: as they should be, and one that is not. */
@@ -445,7 +445,7 @@ int main(int count, char **words)
         fputs("usage: relist COUNT SEED DIR SCRIPT LIST BATCHES [UNSEEN-LIST]\n", stderr);
         return 2;
     }
-    runs = atoi(words[1]);
+    runs = (int)atol(words[1]);
     seed = strtoull(words[2], NULL, 10) * 1000003ULL;
     folder = words[3];
     scripts = words[4];
