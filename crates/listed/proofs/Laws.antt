@@ -3,10 +3,10 @@
 use mathlib.Core.Path.{_≡_, refl, sym, _∙_, ap}
 use mathlib.Core.Bool.{true, false}
 use mathlib.Core.List.{List, [], _∷_, _++_, append-nil, append-assoc}
-use Prim.Native.Nat.{ℕ, _+_, _≤_, _<_}
+use Prim.Native.Nat.{ℕ, _+_, _*_, _≤_, _<_}
 use native.Mathlib.Numerals.{add-one}
 use native.Mathlib.Omega.{arith}
-use lib.ListN.{length, getD, take}
+use lib.ListN.{length, getD, take, length-append}
 use lib.Seq.{sets, take-suc}
 use denote.Enum.Declared.{tagOf}
 use types.Run.{OneOf, miss}
@@ -106,3 +106,17 @@ pub taken-by : (d : Outcome) (places : List Answer) (out o : List ℕ) (end : �
 unfolding toldOf
 taken-by d places out o end h p =
     rw (other-text (d .answer) places h, p .0, p .1)
+
+-- how long what is told can be
+lines-most : (places : List Answer) → length (placeLines places) ≤ 4 * length places
+unfolding placeLines
+lines-most [] = omega arith
+lines-most (a ∷ places) = rw (length-append (placeLine a) (placeLines places)) (omega (arith, place-length a, lines-most places))
+
+pub text-most : (a : Answer) (places : List Answer) → length (listText a places) ≤ 4 + 4 * length places
+unfolding listText
+text-most Nothing places = omega (arith, lines-most places)
+text-most Ack places = omega (arith, lines-most places)
+text-most Nack places = omega (arith, lines-most places)
+text-most (Data b) places = omega (arith, lines-most places)
+text-most (Refused r) places = omega (arith, line-length (Refused r))

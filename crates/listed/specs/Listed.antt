@@ -1,10 +1,10 @@
 -- What the list program gives a list from, and what it writes for what is left of it: records as events, and answer places as lines.
 -- Assumes nothing.
-use Prim.Native.Nat.{ℕ, zero, suc, _*_, _/_}
+use Prim.Native.Nat.{ℕ, zero, suc, _+_, _*_, _/_}
 use mathlib.Core.Bool.{Bool, true, false, cond}
 use mathlib.Core.List.{List, [], _∷_, _++_}
 use lib.IntN.{pos}
-use lib.ListN.{length, replicate}
+use lib.ListN.{length, getD, replicate}
 use lib.Seq.{sets}
 use Rattle.lists.specs.Each.{filled}
 use Rattle.rules.specs.declared.Answer.{Answer}
@@ -16,6 +16,10 @@ use Rattle.rules.specs.declared.Refusal.the-variants as refusal
 use Rattle.records.specs.Records.{recordAt}
 use Rattle.letters.specs.Letters.{lineOf}
 use Rattle.listed.specs.declared.Told.{Told}
+
+-- "two bytes [..] (high byte first)"
+unfoldable pub numberIn : List ℕ → ℕ
+numberIn bs = 256 * getD bs 0 0 + getD bs 1 0
 
 -- the first n records of some bytes
 unfoldable pub eventsIn : List ℕ → ℕ → List Event

@@ -4,13 +4,21 @@ ghost use mathlib.Core.Path.{_≡_};
 ghost use Prim.Native.Nat.{_+_, _*_, _≤_};
 ghost use lib.ListN.{length, take, replicate};
 ghost use lib.Seq.{sets};
-ghost use Rattle.listed.specs.Listed.{blank, eventsFor, isBlank, isSetups, placeLine, placeLines, toldOf, tooManyText};
+ghost use Rattle.listed.specs.Listed.{blank, eventsFor, isBlank, isSetups, numberIn, placeLine, placeLines, toldOf, tooManyText};
 use rules::Answer;
 use rules::Bus;
 use rules::Event;
 use rules::Outcome;
 use rules::Refusal;
 use rules::SlotNo;
+
+// A number of two bytes, the high byte first.
+pub fn number_in(bytes: &[u8]) -> usize
+    requires { ⌜ 2 ≤ length (now bytes) ⌝ }
+    ensures { λ r. ⌜ (r ≡ numberIn (now (bytes .entry))) × (r ≤ 65535) ⌝ }
+{
+    256 * (bytes[0] as usize) + (bytes[1] as usize)
+}
 
 // The whole records of some bytes as events, at the front of the array; behind them stand events that no one is to give.
 pub fn events_in(records: &[u8]) -> [Event; 4096]
