@@ -1,5 +1,5 @@
 # The words of the case files (cases/README.md): setup lines, events and answers, read into the script's bytes, and told from them.
-# Shared by tests/case (reading.awk), tests/plans, door/capture, door/save and door/resume, which put their own part behind this one; it does nothing by itself.
+# Shared by tests/case (reading.awk), tests/plans, tests/forms, tests/lists, door/capture, door/save and door/resume, which put their own part behind this one; it does nothing by itself.
 #
 #   parted()          the line in $0: `left` -> `right`, `arrow` where there is one, `note` the comment; 0 if that is all
 #   setupwords(line)  a line `slot ...` or `setup ...`

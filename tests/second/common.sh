@@ -1,6 +1,6 @@
 # shellcheck shell=bash
 # Shared by compare, fuzz, faults, replan, wrongplans, recapture, wrongcaptures,
-# resave and wrongforms; sourced, not run.
+# resave, wrongforms, relist and wronglists; sourced, not run.
 #
 # Finds the repository root (two folders up), builds the C programs (build.sh)
 # into a temporary folder that goes away at the end, and runs the two programs.

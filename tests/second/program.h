@@ -3,7 +3,8 @@
  * The input goes there as a file, through a pipe in odd pieces, or as a talk:
  * piece by piece, where what is due to one piece must have been said before the
  * next is given.  Files in `folder`: input, said (standard output), told
- * (standard error).  Included by recapture.c and resave.c, after chance.h.
+ * (standard error).  Included by recapture.c, resave.c and relist.c, after
+ * chance.h.
  */
 #include <fcntl.h>
 #include <sched.h>

@@ -1,3 +1,4 @@
 pub mod Determined
 pub mod Onward
 pub mod Promise
+pub mod Values

@@ -1,6 +1,8 @@
 // A bench for what no script can reach: it reads tries, hands in the states and memories that they ask for, and writes each command with what
 // came of it. `stdin` says what a line may hold, and `stdout` has what document 01 asks for.
 ghost use Prim.Native.Nat.{_≤_};
+ghost use lib.ListN.{length};
+use listed::Told;
 use rules::Answer;
 use rules::BlockNo;
 use rules::Bus;
@@ -112,6 +114,61 @@ fn shelve(b: Bench, mem: &mut [u8; 8192], shelf: &mut [u8; 8192], t: [u32; 38]) 
     b
 }
 
+// Records given as one list, with so many answer places, on the bus with the first `size` bytes; what then stands at the places is put at the front of the text.
+fn given(
+    slots: [Slot; 8],
+    mem: &mut [u8],
+    size: usize,
+    records: &[u8],
+    places: usize,
+    text: &mut [u8; 262140],
+) -> Told
+    requires { ⌜ length (now records) ≤ 16384 ⌝ }
+{
+    let end = least(size, mem.len());
+    let count = least(records.len() / 4, 4096);
+    let list = listed::events_in(records);
+    let answers = listed::unanswered();
+    lending::give(
+        Bus { slots },
+        &mut mem[..end],
+        list,
+        count,
+        answers,
+        least(places, 65535),
+        text,
+    )
+}
+
+// The front of the text.
+fn lines(text: &[u8], end: usize) {
+    let n = least(end, text.len());
+    told::lines(&text[..n]);
+}
+
+// A list, with a text for what stands at its places, and what came of it.
+fn give(b: Bench, mem: &mut [u8; 8192], text: &mut [u8; 262140], t: [u32; 38]) -> Bench {
+    let was = b.slots;
+    let old = *mem;
+    let all = tries::bytes(t);
+    let places = all[0] as usize;
+    let n = words::bytes(t);
+    let from = least(1, n);
+    let done = given(was, mem, b.length, &all[from..n], places, text);
+    lines(text, done.end);
+    let bus = done.bus;
+    let slots = bus.slots;
+    told::changes(was, slots, !check::same(&old, mem));
+    let mut next = b;
+    next.slots = slots;
+    next
+}
+
+fn list(b: Bench, mem: &mut [u8; 8192], t: [u32; 38]) -> Bench {
+    let mut text = [0u8; 262140];
+    give(b, mem, &mut text, t)
+}
+
 // What looks, and leaves all as it is.
 fn look(b: Bench, mem: &[u8; 8192], t: [u32; 38]) {
     let pairs = b.pairs;
@@ -129,6 +186,9 @@ fn look(b: Bench, mem: &[u8; 8192], t: [u32; 38]) {
 fn run(b: Bench, mem: &mut [u8; 8192], shelf: &mut [u8; 8192], t: [u32; 38]) -> Bench {
     if (names::EVENT <= t[0]) & (t[0] <= names::TEMPERATURE) {
         return act(b, mem, t);
+    }
+    if t[0] == names::LIST {
+        return list(b, mem, t);
     }
     look(b, mem, t);
     let next = shelve(b, mem, shelf, t);

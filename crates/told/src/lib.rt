@@ -133,8 +133,8 @@ fn unlike(was: [Slot; 8], now: [Slot; 8]) -> bool {
     none
 }
 
-// What an event changed: slots by their numbers, and the memory.
-fn changes(was: [Slot; 8], now: [Slot; 8], memory: bool) {
+// What was changed: slots by their numbers, and the memory.
+pub fn changes(was: [Slot; 8], now: [Slot; 8], memory: bool) {
     sign(b',');
     let none = unlike(was, now);
     if memory {
@@ -201,6 +201,27 @@ pub fn verdict(v: Verdict) {
     sign(b' ');
     if 0 < end {
         io::write_all(STDOUT_FILENO, &out[..end - 1]);
+    }
+}
+
+// What stands at the answer places of a list: the lines as the list program writes them, each behind a space instead of its end.
+pub fn lines(text: &[u8]) {
+    sign(b':');
+    if text.len() == 0 {
+        word(names::EMPTY);
+        return;
+    }
+    let mut before = b'\n';
+    let mut i = 0;
+    while i < text.len() {
+        if before == b'\n' {
+            sign(b' ');
+        }
+        before = text[i];
+        if before != b'\n' {
+            sign(before);
+        }
+        i += 1;
     }
 }
 

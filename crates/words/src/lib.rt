@@ -137,7 +137,7 @@ pub fn bytes(t: [u32; 38]) -> usize
 }
 
 // How many numbers each command takes, in the order of `names::ALL`; 99 for what is none, and for those that take more or fewer.
-const COUNTS: [usize; 22] = [
+const COUNTS: [usize; 23] = [
     0,
     16,
     1,
@@ -150,6 +150,7 @@ const COUNTS: [usize; 22] = [
     1,
     2,
     3,
+    99,
     3,
     0,
     1,
@@ -162,18 +163,26 @@ const COUNTS: [usize; 22] = [
     2,
 ];
 
+// Those of a list: the number of places, and whole records.
+fn listed(n: usize) -> usize {
+    if n % 4 == 1 { n } else { 99 }
+}
+
 fn count(t: [u32; 38]) -> usize {
     if t[0] == names::CHECK {
         return bytes(t);
     }
+    if t[0] == names::LIST {
+        return listed(bytes(t));
+    }
     let n = (t[0] % names::WORD) as usize;
-    if n < 22 { COUNTS[n] } else { 99 }
+    if n < 23 { COUNTS[n] } else { 99 }
 }
 
 // How large its last number may be.
 fn most(verb: u32) -> u32 {
     match verb {
-        names::SETUP | names::BLOCK | names::CHECK => 255,
+        names::SETUP | names::BLOCK | names::CHECK | names::LIST => 255,
         names::MEMORY | names::SAVE | names::RESTORE => 8192,
         names::SHOW => 7,
         names::AT | names::FORM | names::PUT => 511,

@@ -68,6 +68,7 @@ use Rattle.rules.proofs.Outcome.Laws as R′
 use Rattle.bus.proofs.Onward.{event-bench, event-answer}
 use Rattle.batch.specs.Lists.{standing, eventsOf}
 use Rattle.batch.proofs.Onward.{restOf, rest-more, rest-none, too-few, all-run, judged}
+use Rattle.batch.proofs.Values.{busVal, eventVal, answerVal, outcomeVal}
 use Rattle.walks.proofs.Relent.{Kept, lends-again, comes-back}
 use Rattle.walks.proofs.Locals.{typeOf, placed, tail, order, span, free-all}
 use Rattle.batch.proofs.one as one
@@ -104,19 +105,6 @@ p k = 2 * (count - 1 - k)
 
 abbrev h : ℕ → ℕ
 h j = 2 * count + j
-
--- ---- the structs' machine values
-abbrev busVal : Bus → Val
-busVal = LL.val B.the-type B′.the-laws
-
-abbrev eventVal : Event → Val
-eventVal = LL.val E.the-type E′.the-laws
-
-abbrev answerVal : Answer → Val
-answerVal = EL.val N.the-type N′.the-laws
-
-abbrev outcomeVal : Outcome → Val
-outcomeVal = LL.val R.the-type R′.the-laws
 
 -- the sizes of an event and of an answer in memory, and a value of each
 abbrev size-e : ℕ

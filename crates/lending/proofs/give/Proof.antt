@@ -33,7 +33,7 @@ use denote.Array.{Array, array-vals, array-tells, array-makes, array-lawful}
 use denote.Ref.{RefT}
 use denote.Slice.{sliceVal, MutSlice, ShrSlice, Room, finally, slice-vals, mut-slice-tells}
 use denote.Lend.{Held}
-use denote.Steps.{only, owned, peeks, heard, nothing}
+use denote.Steps.{owned, peeks, heard, nothing}
 use denote.Struct.Laws as LL
 use denote.Enum.Laws as EL
 use denote.Triple.Entry.{onEntry}
@@ -64,6 +64,7 @@ use Rattle.rules.proofs.Outcome as D
 use Rattle.rules.proofs.Outcome.Laws as D′
 use Rattle.listed.proofs.Told as R
 use Rattle.listed.proofs.Told.Laws as R′
+use Rattle.batch.proofs.Values.{busVal, eventsVal, answersVal, Events, Answers}
 use Rattle.walks.proofs.Lends as Lends
 use Rattle.walks.proofs.Locals.{typeOf, placed, order, span, free-all}
 use Rattle.batch.proofs.events as many
@@ -88,22 +89,6 @@ abbrev τ : ℕ → Ty
 
 abbrev p : ℕ → ℕ
 p k = 2 * (count - 1 - k)
-
--- ---- the machine values
-abbrev busVal : Bus → Val
-busVal = LL.val B.the-type B′.the-laws
-
-abbrev eventsVal : List Event → Val
-eventsVal es = only (array-vals (LL.vals E.the-type E′.the-laws) es)
-
-abbrev answersVal : List Answer → Val
-answersVal ns = only (array-vals (EL.vals N.the-type N′.the-laws) ns)
-
-abbrev Events : List Event → Type 0
-Events es = Is (Array E.the-row 4096) es (eventsVal es ∷ [])
-
-abbrev Answers : List Answer → Type 0
-Answers ns = Is (Array N.the-row 65535) ns (answersVal ns ∷ [])
 
 -- what the arrays take has room
 room-e : Room E.the-row 4096
@@ -136,7 +121,7 @@ Put 𝓤 H A mem run = tripleOf 𝓤 H A put.signature (put.spec 𝓤 H A mem ru
 
 module _ {M : Type 1} (𝓤 : URA M) (H : Heap 𝓤) (A : Atoms 𝓤) (W : Given 𝓤 H A) (at-mem : Memory → SProp 𝓤) (run : Routine → Fun 𝓤) (κ₀ κ₁ : Lft) (q₀ q₁ : Share)
     (b₀ : Bus) (bm om : ℕ) (γ₀ : GName) (ms : List ℕ) (es : List Event) (c : ℕ) (ns : List Answer) (k : ℕ) (bo oo : ℕ) (γ₁ : GName) (os : List ℕ)
-    (bus-is : Is B.the-row b₀ (busVal b₀ ∷ [])) (room-m : Room u8 (length ms)) (es-is : Events es) (c-is : Is usize c (vint w64 c ∷ [])) (ns-is : Answers ns) (k-is : Is usize k (vint w64 k ∷ [])) (room-o : Room u8 (length os))
+    (bus-is : Is B.the-row b₀ (busVal b₀ ∷ [])) (room-m : Room u8 (length ms)) (es-is : Events 4096 es) (c-is : Is usize c (vint w64 c ∷ [])) (ns-is : Answers 65535 ns) (k-is : Is usize k (vint w64 k ∷ [])) (room-o : Room u8 (length os))
     (asked : (c ≤ 4096) × (k ≤ 65535) × (262140 ≤ length os)) where
   -- the references to memory and output, and their machine values
   abbrev xm : RefT (List ℕ)
@@ -190,7 +175,7 @@ module _ {M : Type 1} (𝓤 : URA M) (H : Heap 𝓤) (A : Atoms 𝓤) (W : Given
   abbrev to-put : Outcome → Val → List Answer → Put 𝓤 H A at-mem run .Ghost
   to-put r w ks = (((κ₁, tt), (q₁, tt), tt, (r, (ks, (k, (xo, tt)))), (w ∷ [], (answersVal ks ∷ [], (vint w64 k ∷ [], (so ∷ [], tt))))), tt)
 
-  goes-put : (r : Outcome) (w : Val) (ks : List Answer) → Is D.the-row r (w ∷ []) → Answers ks → ent 𝓤 (sep 𝓤 (A .lft κ₁ q₁) (sem 𝓤 H A (MutSlice (named 1) κ₁ u8 .own xo (so ∷ [])))) (Put 𝓤 H A at-mem run .pre (to-put r w ks))
+  goes-put : (r : Outcome) (w : Val) (ks : List Answer) → Is D.the-row r (w ∷ []) → Answers 65535 ks → ent 𝓤 (sep 𝓤 (A .lft κ₁ q₁) (sem 𝓤 H A (MutSlice (named 1) κ₁ u8 .own xo (so ∷ [])))) (Put 𝓤 H A at-mem run .pre (to-put r w ks))
   goes-put r w ks r-is ks-is =
       qed W (‵ (flft κ₁ q₁) ∷ ‵ (MutSlice (named 1) κ₁ u8 .own xo (so ∷ [])) ∷ []) ∵ says ! (asked .1, asked .2) $
       nothing ! $ move ! (2 ∷ 0 ∷ []) $ fjoin ! $ owned ! usize (Is usize) (uint-makes 𝓤 H A W w64) k _ k-is $ fjoin ! $

@@ -33,7 +33,7 @@ use denote.Array.{Array, array-vals, array-tells, array-makes, array-lawful}
 use denote.Ref.{RefT}
 use denote.Slice.{sliceVal, MutSlice, ShrSlice, Room, finally, slice-vals, mut-slice-tells}
 use denote.Lend.{Held}
-use denote.Steps.{only, owned, peeks, heard, nothing}
+use denote.Steps.{owned, peeks, heard, nothing}
 use denote.Struct.Laws as LL
 use denote.Enum.Laws as EL
 use denote.Triple.Entry.{onEntry}
@@ -62,6 +62,7 @@ use Rattle.rules.proofs.Outcome as D
 use Rattle.rules.proofs.Outcome.Laws as D′
 use Rattle.salvo.proofs.Summed as R
 use Rattle.salvo.proofs.Summed.Laws as R′
+use Rattle.batch.proofs.Values.{busVal, eventsVal, answersVal, Events, Answers}
 use Rattle.walks.proofs.Lends as Lends
 use Rattle.walks.proofs.Locals.{typeOf, placed, order, span, free-all}
 use Rattle.batch.proofs.events as many
@@ -87,22 +88,6 @@ abbrev τ : ℕ → Ty
 abbrev p : ℕ → ℕ
 p k = 2 * (count - 1 - k)
 
--- ---- the machine values
-abbrev busVal : Bus → Val
-busVal = LL.val B.the-type B′.the-laws
-
-abbrev eventsVal : List Event → Val
-eventsVal es = only (array-vals (LL.vals E.the-type E′.the-laws) es)
-
-abbrev answersVal : List Answer → Val
-answersVal ns = only (array-vals (EL.vals N.the-type N′.the-laws) ns)
-
-abbrev Events : List Event → Type 0
-Events es = Is (Array E.the-row 64) es (eventsVal es ∷ [])
-
-abbrev Answers : List Answer → Type 0
-Answers ns = Is (Array N.the-row 64) ns (answersVal ns ∷ [])
-
 -- what the arrays take has room
 room-e : Room E.the-row 64
 room-e = (lit< tt, lit< tt)
@@ -125,7 +110,7 @@ Sum 𝓤 H A mem run = tripleOf 𝓤 H A up.signature (up.spec 𝓤 H A mem run)
 
 module _ {M : Type 1} (𝓤 : URA M) (H : Heap 𝓤) (A : Atoms 𝓤) (W : Given 𝓤 H A) (at-mem : Memory → SProp 𝓤) (run : Routine → Fun 𝓤) (κ : Lft) (q : Share)
     (b₀ : Bus) (bm om : ℕ) (γ₀ : GName) (ms : List ℕ) (es : List Event) (ns : List Answer)
-    (bus-is : Is B.the-row b₀ (busVal b₀ ∷ [])) (room-m : Room u8 (length ms)) (es-is : Events es) (ns-is : Answers ns) where
+    (bus-is : Is B.the-row b₀ (busVal b₀ ∷ [])) (room-m : Room u8 (length ms)) (es-is : Events 64 es) (ns-is : Answers 64 ns) where
   abbrev xm : RefT (List ℕ)
   xm = record { ptr = (bm, om); name = γ₀; now = ms }
 
@@ -170,7 +155,7 @@ module _ {M : Type 1} (𝓤 : URA M) (H : Heap 𝓤) (A : Atoms 𝓤) (W : Given
   abbrev to-sum : Outcome → Val → List Answer → Sum 𝓤 H A at-mem run .Ghost
   to-sum r w ks = ((tt, tt, tt, (r, (ks, tt)), (w ∷ [], (answersVal ks ∷ [], tt))), tt)
 
-  goes-sum : (r : Outcome) (w : Val) (ks : List Answer) → Is D.the-row r (w ∷ []) → Answers ks → ent 𝓤 (emp 𝓤) (Sum 𝓤 H A at-mem run .pre (to-sum r w ks))
+  goes-sum : (r : Outcome) (w : Val) (ks : List Answer) → Is D.the-row r (w ∷ []) → Answers 64 ks → ent 𝓤 (emp 𝓤) (Sum 𝓤 H A at-mem run .pre (to-sum r w ks))
   goes-sum r w ks r-is ks-is =
       qed W [] ∵ nothing ! $ owned ! (Array N.the-row 64) (Is (Array N.the-row 64)) (array-makes 𝓤 H A W N.the-row (EL.makes N.the-type N′.the-plain 𝓤 H A) 64) ks _ ks-is $ fjoin ! $
       owned ! D.the-row (Is D.the-row) (LL.makes D.the-type D′.the-plain 𝓤 H A) r _ r-is $ fjoin ! $ nothing ! $ join ! $ by ! (∗emp 𝓤 _)

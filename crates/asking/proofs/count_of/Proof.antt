@@ -4,8 +4,8 @@ use mathlib.Core.Path.{_≡_}
 use Prim.Native.Nat.{_≤_, _-_}
 use borrow.Author.Needs.{needs}
 use lib.ListN.{length}
-use Rattle.laps.proofs.count_of.Statement.{statement}
-use Rattle.laps.proofs.count_of.Tie as tie
+use Rattle.asking.proofs.count_of.Statement.{statement}
+use Rattle.asking.proofs.count_of.Tie as tie
 
 abbrev Inv-loop : tie.InvT-loop
 Inv-loop digits value₀ i₀ i-end value i = (i ≤ i-end) × (i-end ≡ length digits)

@@ -1,0 +1,167 @@
+// Laps for the benchmark of lists: a letter and a count on standard input, as `l 1000`, and so many times sixty-four events on a bench with eight slots of kind 2, in one
+// call each (`l`), or one by one: by the public entry (`o`), or by the one that asks for a state in range (`i`); then `done` on standard output. So that the compiler
+// leaves no lap out, each lap's bus and memory are the next one's input, and `done` is written only where the answers of every lap come to the same sum as those of a first.
+ghost use mathlib.Core.Path.{_≡_};
+ghost use mathlib.Core.Bool.{true};
+ghost use Prim.Native.Nat.{_≤_};
+ghost use lib.ListN.{length};
+ghost use Rattle.rules.specs.Modelled.{memoryBytes};
+ghost use Rattle.rules.specs.Refusals.{inRange};
+use asking::Count;
+use libc::STDERR_FILENO;
+use libc::STDIN_FILENO;
+use libc::STDOUT_FILENO;
+use rules::Answer;
+use rules::Bus;
+use rules::Event;
+use rules::Pair;
+use rules::SlotNo;
+use salvo::Summed;
+
+// The kinds of a lap's events, as digits, and their values: a page of slot 3 is written and its cycle waited for, the page is read back, three events are refused, the
+// slot's temperature is set and its register read, and a control byte is for no slot.
+const KINDS: [u8; 64] = *b"1222222222222222222466666122123333333333333333403891221233412456";
+
+const VALUES: [u8; 64] =
+    *b"\0\xA6\x40PLUNGERHEN-IN-64\0\0\0\0\0\0\0\xA6\x40\0\xA7\x01\x01\x01\x01\x01\x01\x01\x01\x01\x01\x01\x01\x01\x01\x01\0\0\0\x02\x11\xC8\0\x36\x05\0\x37\x01\0\0\0\xF0\0\0\0";
+
+fn event_of(digit: u8, value: u8) -> Event {
+    let kind = std::num::wrapping_sub_u8(digit, b'0');
+    Event {
+        kind,
+        slot: SlotNo(3),
+        value: value as i16,
+    }
+}
+
+fn events() -> [Event; 64] {
+    let mut all = [event_of(b'0', 0); 64];
+    for i in 0..64usize {
+        let e = event_of(KINDS[i], VALUES[i]);
+        all[i] = e;
+    }
+    all
+}
+
+// One lap, event by event, by the public entry.
+fn one_by_one(bus: Bus, mem: &mut [u8], list: [Event; 64]) -> Summed {
+    let mut at = bus;
+    let mut sum = 0u8;
+    for i in 0..64usize {
+        let done = bus::event(at, mem, list[i]);
+        at = done.bus;
+        let answer = done.answer;
+        let w = salvo::weight(answer);
+        sum = std::num::wrapping_add_u8(sum, w);
+    }
+    Summed { bus: at, sum }
+}
+
+// And by the one that asks for a state in range.
+fn one_by_one_in_range(bus: Bus, mem: &mut [u8], list: [Event; 64]) -> Summed
+    requires { ⌜ (inRange bus ≡ true) × (length (now mem) ≡ memoryBytes) ⌝ }
+    ensures { λ r. ⌜ inRange (r .bus) ≡ true ⌝ }
+{
+    let mut at = bus;
+    let mut sum = 0u8;
+    for i in 0..64usize {
+        let done = bus::event_in_range(at, mem, list[i]);
+        at = done.bus;
+        let answer = done.answer;
+        let w = salvo::weight(answer);
+        sum = std::num::wrapping_add_u8(sum, w);
+    }
+    Summed { bus: at, sum }
+}
+
+// 1 where two sums are the same.
+fn same(a: u8, b: u8) -> u64
+    ensures { λ r. ⌜ r ≤ 1 ⌝ }
+{
+    if a == b {
+        return 1;
+    }
+    0
+}
+
+// So many laps of each way, and how many of them came to a sum.
+fn list_laps(bus: Bus, mem: &mut [u8], list: [Event; 64], sum: u8, count: u64) -> u64 {
+    let answers = [Answer::Nothing; 64];
+    let mut at = bus;
+    let mut right = 0u64;
+    for _ in 0..count {
+        let lap = salvo::give(at, mem, list, answers);
+        at = lap.bus;
+        right += same(lap.sum, sum);
+    }
+    right
+}
+
+fn one_laps(bus: Bus, mem: &mut [u8], list: [Event; 64], sum: u8, count: u64) -> u64 {
+    let mut at = bus;
+    let mut right = 0u64;
+    for _ in 0..count {
+        let lap = one_by_one(at, mem, list);
+        at = lap.bus;
+        right += same(lap.sum, sum);
+    }
+    right
+}
+
+fn range_laps(bus: Bus, mem: &mut [u8], list: [Event; 64], sum: u8, count: u64) -> u64
+    requires { ⌜ (inRange bus ≡ true) × (length (now mem) ≡ memoryBytes) ⌝ }
+{
+    let mut at = bus;
+    let mut right = 0u64;
+    for _ in 0..count {
+        let lap = one_by_one_in_range(at, mem, list);
+        at = lap.bus;
+        right += same(lap.sum, sum);
+    }
+    right
+}
+
+// The end of some laps, where each has come to its sum.
+fn finish(right: u64, count: u64) {
+    if right != count {
+        io::write_all(STDERR_FILENO, b"volley: a lap was lost\n");
+        return;
+    }
+    io::write_all(STDOUT_FILENO, b"done\n");
+}
+
+// The laps that a letter asks for, behind one that says what a lap comes to.
+fn run(letter: u8, count: u64) {
+    let made = fresh::setup([Pair { kind: 2, length: 5 }; 8]);
+    let bus = made.bus;
+    let mut mem = [0xFFu8; 4096];
+    let list = events();
+    let first = one_by_one_in_range(bus, &mut mem, list);
+    let at = first.bus;
+    let sum = first.sum;
+    if letter == b'l' {
+        finish(list_laps(at, &mut mem, list, sum, count), count);
+        return;
+    }
+    if letter == b'o' {
+        finish(one_laps(at, &mut mem, list, sum, count), count);
+        return;
+    }
+    finish(range_laps(at, &mut mem, list, sum, count), count);
+}
+
+fn main() {
+    let mut line = [0u8; 64];
+    let n = io::read_full(STDIN_FILENO, &mut line);
+    let letter = line[0];
+    if let Count::Of(count) = asking::asked(&line[..n]) {
+        if (letter == b'l') | (letter == b'o') | (letter == b'i') {
+            run(letter, count);
+            return;
+        }
+    }
+    io::write_all(
+        STDERR_FILENO,
+        b"volley: say l, o or i, a blank and a count, as in: l 1000\n",
+    );
+}

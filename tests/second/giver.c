@@ -1,0 +1,277 @@
+/*
+ * A plain giver of lists: what the programs `list` and `batches` do (request
+ * P6), in C, on the second opinion's model.  It stands in for the proved
+ * programs where the tests of lists are tried themselves: tests/wronglists
+ * plants the faults of wronglists.txt in it, line by line (keep them in step),
+ * and sees that tests/lists, tests/relist or the tries of edges find each.
+ *
+ *   giver list      a setup, the number of answer places, records to the end
+ *   giver batches   a setup, then lists to the end, each with its number of
+ *                   records in front, on the same bench
+ *   giver tries     tries of lists, as the program edges has them in its
+ *                   stdout; gives the same lines with answers of its own
+ */
+#include "model.h"
+
+enum { ROOM = 4096, MOST_PLACES = 65535 };
+
+static size_t take(unsigned char *to, size_t many) { return fread(to, 1, many, stdin); }
+static size_t word_at(const unsigned char *at) { return 256u * at[0] + at[1]; }
+
+static int last_line(const char *line, int status)
+{
+    puts(line);
+    return status;
+}
+
+/* ---- One call --------------------------------------------------------------- */
+
+static char answers[MOST_PLACES + 1][5];  /* what stands at each place, as a line */
+
+static void set_answer(size_t place, const char *line)
+{
+    size_t many = strcspn(line, "\n");
+
+    memcpy(answers[place], line, many);
+    answers[place][many] = 0;
+}
+
+/* So many places that nothing has been written to. */
+static void clear_answers(size_t places)
+{
+    for (size_t i = 0; i < places; i++)
+        set_answer(i, ".");
+}
+
+static void show_answers(size_t places)
+{
+    for (size_t i = 0; i < places; i++)
+        puts(answers[i]);
+}
+
+static size_t lent = sizeof memory;  /* bytes of the memory that are lent */
+
+/* Whether the numbers that a try hands in are in their ranges. */
+static int in_range(void)
+{
+    for (int n = 0; n < SLOTS; n++) {
+        const struct slot *s = &bus[n];
+
+        if (s->kind < ABSENT || s->kind > MEMORY_WITH_SENSOR)
+            return 0;
+        if (s->kind == ABSENT ? s->length != 0 : s->length < 1 || s->length > 5)
+            return 0;
+        if (s->ticks_left > s->length || s->half > 1 || s->pointer >= REGISTERS)
+            return 0;
+    }
+    return 1;
+}
+
+/* The line of every event where memory or state is wrong, else none. */
+static const char *line_of_all(void)
+{
+    if (lent != sizeof memory)
+        return "R1";
+    if (!in_range())
+        return "R6";
+    return NULL;
+}
+
+/* The events one by one, each with its answer at its place.  0, or 9 if there
+ * are fewer places than events. */
+static int events(const unsigned char *list, size_t count, size_t places)
+{
+    const char *all = line_of_all();
+
+    if (places < count)
+        return 9;
+    for (size_t i = 0; i < count; i++) {
+        const char *line = all != NULL ? all : play(list + 4 * i);
+
+        set_answer(i, line);
+    }
+    return 0;
+}
+
+/* ---- list ------------------------------------------------------------------- */
+
+static int list(void)
+{
+    static unsigned char records[4 * ROOM + 4];
+    unsigned char pairs[SETUP], head[2];
+    size_t asked, got, places;
+
+    if (take(pairs, SETUP) < SETUP)
+        return last_line("short", 2);
+    if (!setup(pairs))
+        return last_line("R5", 2);
+    asked = take(head, 2);
+    got = take(records, 4 * ROOM + 4);
+    if (got == 4 * ROOM + 4) {    /* a whole record more than there is room for */
+        fputs("list: more than 4096 records in one list\n", stderr);
+        return 2;  /* the sentence */
+    }
+    if (asked < 2 || got % 4 != 0)
+        return last_line("short", 2);
+    places = word_at(head);
+    clear_answers(places);
+    if (events(records, got / 4, places) != 0)
+        return last_line("R9", 1);
+    show_answers(places);
+    return 0;
+}
+
+/* ---- batches ---------------------------------------------------------------- */
+
+static int batches(void)
+{
+    static unsigned char records[4 * MOST_PLACES];
+    unsigned char pairs[SETUP], head[2];
+    size_t asked, count;
+
+    if (take(pairs, SETUP) < SETUP)
+        return last_line("short", 0);
+    if (!setup(pairs))
+        return last_line("R5", 0);
+    while ((asked = take(head, 2)) == 2) {
+        count = word_at(head);
+        if (take(records, 4 * count) < 4 * count)
+            return last_line("short", 0);
+        clear_answers(count);
+        events(records, count, count);
+        show_answers(count);
+    }
+    if (asked > 0)
+        return last_line("short", 0);
+    return 0;
+}
+
+/* ---- tries ------------------------------------------------------------------ */
+
+static unsigned char first_pairs[SETUP];  /* of the last setup */
+
+/* What a line begins with: the bus of the last setup, and a memory of which
+ * each byte tells its slot and block. */
+static void begin_anew(void)
+{
+    setup(first_pairs);
+    lent = sizeof memory;
+    for (int i = 0; i < (int)sizeof memory; i++)
+        memory[i] = (unsigned char)(i / 512 * 16 + i / 128 % 4 + (i % 128 == 127 ? 8 : i % 128 > 0 ? 4 : 0));
+}
+
+/* The numbers behind a command's name; those in hex end in h. */
+static int numbers_of(const char *text, int *to)
+{
+    int many = 0;
+
+    while (*text != 0) {
+        size_t size = strcspn(text, " ,");
+
+        if (size > 0 && text[0] >= '0' && text[0] <= 'F')
+            to[many++] = (int)strtol(text, NULL, text[size - 1] == 'h' ? 16 : 10);
+        text += size + (text[size] != 0);
+    }
+    return many;
+}
+
+/* A number of a slot by its name. */
+static void hand_in(struct slot *s, char initial, int value)
+{
+    switch (initial) {
+    case 'k': s->kind = value; break;
+    case 'h': s->half = value; break;
+    case 'p': s->pointer = value; break;
+    case 'l': s->ticks_left = value; break;
+    case 'L': s->length = value; break;
+    }
+}
+
+/* A list, the answers, and what it changed. */
+static void try_list(const int *numbers, int many)
+{
+    static struct slot was[SLOTS];
+    static unsigned char old[sizeof memory], records[64];
+    size_t places = (size_t)numbers[0];
+    int refused, changed = 0;
+
+    memcpy(was, bus, sizeof bus);
+    memcpy(old, memory, sizeof memory);
+    for (int i = 1; i < many; i++)
+        records[i - 1] = (unsigned char)numbers[i];
+    clear_answers(places);
+    refused = events(records, (size_t)(many - 1) / 4, places);
+    putchar(':');
+    if (refused)
+        printf(" R%d", refused);
+    else if (places == 0)
+        printf(" empty");
+    for (size_t i = 0; !refused && i < places; i++)
+        printf(" %s", answers[i]);
+    putchar(',');
+    for (int n = 0; n < SLOTS; n++)
+        if (bus[n].kind != ABSENT && memcmp(&was[n], &bus[n], sizeof bus[n]) != 0)
+            changed = printf(" %d", n);
+    if (memcmp(old, memory, sizeof memory) != 0)
+        changed = printf(" memory");
+    printf("%s changed", changed ? "" : " nothing");
+}
+
+static void one_try(const char *command)
+{
+    int numbers[64], many = numbers_of(command, numbers);
+
+    printf("%s", command);
+    command += command[0] == ' ';
+    if (memcmp(command, "setup", 5) == 0) {
+        for (int i = 0; i < SETUP; i++)
+            first_pairs[i] = (unsigned char)numbers[i];
+        printf(setup(first_pairs) ? ": taken" : ": refused 5");
+    } else if (memcmp(command, "memory", 6) == 0) {
+        lent = (size_t)numbers[0];
+    } else if (memcmp(command, "slot", 4) == 0) {
+        hand_in(&bus[numbers[0]], memcmp(command + 7, "length", 6) == 0 ? 'L' : command[7], numbers[1]);
+    } else if (memcmp(command, "list", 4) == 0) {
+        try_list(numbers, many);
+    } else if (memcmp(command, "at", 2) == 0) {
+        printf(": %02Xh", memory[512 * numbers[0] + numbers[1]]);
+    }
+}
+
+/* Lines of commands, parted by semicolons; what stands behind a colon is left
+ * out. */
+static int tries(void)
+{
+    static char text[1 << 16];
+    char *at = text;
+
+    take((unsigned char *)text, sizeof text - 1);
+    while (*at != 0) {
+        size_t size = strcspn(at, ";\n");
+        char end = at[size];
+
+        at[size] = 0;
+        at[strcspn(at, ":")] = 0;
+        if (at == text || at[-1] == '\n')
+            begin_anew();
+        one_try(at);
+        if (end != 0)
+            putchar(end);
+        at += size;
+        if (end != 0)
+            *at++ = end;
+    }
+    return 0;
+}
+
+int main(int count, char **words)
+{
+    if (count == 2 && strcmp(words[1], "list") == 0)
+        return list();
+    if (count == 2 && strcmp(words[1], "batches") == 0)
+        return batches();
+    if (count == 2 && strcmp(words[1], "tries") == 0)
+        return tries();
+    fputs("usage: giver list | giver batches | giver tries\n", stderr);
+    return 2;
+}
