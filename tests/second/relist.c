@@ -95,23 +95,25 @@ static int judge_list(const char **sentence)
 }
 
 /* What `batches` owes to the input: the lines of its lists, as far as they are
- * whole. */
-static void judge_batches(void)
+ * whole and not too long.  Gives the sentence on standard error. */
+static const char *judge_batches(void)
 {
     size_t at = SETUP;
 
     want_length = 0;
     if (length < SETUP) {
         expect_last("short\n", 0);
-        return;
+        return "";
     }
     if (!setup(input)) {
         expect_last("R5\n", 0);
-        return;
+        return "";
     }
     while (at + 2 <= length) {
         size_t events = 256u * input[at] + input[at + 1];
 
+        if (events > ROOM)
+            return too_many;
         if (at + 2 + 4 * events > length)
             break;
         expect_records(input + at + 2, events);
@@ -119,6 +121,7 @@ static void judge_batches(void)
     }
     if (at < length)
         expect_last("short\n", 0);
+    return "";
 }
 
 /* ---- Trying the input -------------------------------------------------------- */
@@ -184,9 +187,10 @@ static void try_list(void)
 
 static void try_batches(void)
 {
-    judge_batches();
+    const char *sentence = judge_batches();
+
     in_batches++;
-    must_say("batches", batcher, "", 0);
+    must_say("batches", batcher, sentence, 0);
 }
 
 /* ---- Inputs made of a script's records ----------------------------------------- */
@@ -305,8 +309,7 @@ static int a_length(int sort)
     }
 }
 
-/* Gives how many lists there are. */
-static int put_up_batches(int sort)
+static void put_up_batches(int sort)
 {
     int lists = 0;
 
@@ -322,7 +325,19 @@ static int put_up_batches(int sort)
         at += many;
     }
     snprintf(what, sizeof what, "%d events in %d lists", total, lists);
-    return lists;
+}
+
+/* One more list, of about as many records as there is room for. */
+static void add_long_list(void)
+{
+    int many = between(ROOM - 1, ROOM + 3), told = one_in(2) ? many : MOST_PLACES;
+
+    input[length] = (unsigned char)(told >> 8);
+    input[length + 1] = (unsigned char)told;
+    for (int i = 0; i < 4 * many; i++)
+        input[length + 2 + (size_t)i] = (unsigned char)(i % 4 == 0 ? TICK : 0);
+    length += 2 + 4 * (size_t)many;
+    snprintf(what + strlen(what), sizeof what - strlen(what), ", and one of %d, told as %d", many, told);
 }
 
 static void try_script_in_lists(void)
@@ -332,7 +347,9 @@ static void try_script_in_lists(void)
     if (!one_in(3))
         return;
     put_up_batches(4);
-    if (one_in(4))
+    if (one_in(3))
+        add_long_list();
+    else if (one_in(4))
         spoil_setup();
     else
         cut_somewhere();
