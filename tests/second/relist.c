@@ -327,11 +327,9 @@ static void put_up_batches(int sort)
     snprintf(what, sizeof what, "%d events in %d lists", total, lists);
 }
 
-/* One more list, of about as many records as there is room for. */
-static void add_long_list(void)
+/* One more list, of so many ticks. */
+static void add_ticks(int many, int told)
 {
-    int many = between(ROOM - 1, ROOM + 3), told = one_in(2) ? many : MOST_PLACES;
-
     input[length] = (unsigned char)(told >> 8);
     input[length + 1] = (unsigned char)told;
     for (int i = 0; i < 4 * many; i++)
@@ -347,9 +345,7 @@ static void try_script_in_lists(void)
     if (!one_in(3))
         return;
     put_up_batches(4);
-    if (one_in(3))
-        add_long_list();
-    else if (one_in(4))
+    if (one_in(4))
         spoil_setup();
     else
         cut_somewhere();
@@ -434,6 +430,22 @@ static void sweep_long(void)
             }
 }
 
+/* The same behind and before others, on the same bench. */
+static void sweep_batches(void)
+{
+    static const int events[] = { ROOM - 1, ROOM, ROOM + 1, ROOM + 2 };
+
+    total = 64;
+    for (int i = 0; i < 5; i++) {
+        int many = i < 4 ? events[i] : ROOM;
+
+        put_up_batches(4);
+        add_ticks(many, i < 4 ? many : MOST_PLACES);
+        add_ticks(1, 1);
+        try_batches();
+    }
+}
+
 static void sweep(int count)
 {
     number = 0;                   /* no run any more */
@@ -441,6 +453,7 @@ static void sweep(int count)
     take_script("some.script");
     sweep_small();
     sweep_long();
+    sweep_batches();
     free(script);
 }
 
