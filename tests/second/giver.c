@@ -14,6 +14,7 @@
 #include "model.h"
 
 enum { ROOM = 4096, MOST_PLACES = 65535 };
+static const char too_many[] = "list: more than 4096 records in one list\n";
 
 static size_t take(unsigned char *to, size_t many) { return fread(to, 1, many, stdin); }
 static size_t word_at(const unsigned char *at) { return 256u * at[0] + at[1]; }
@@ -108,8 +109,8 @@ static int list(void)
     asked = take(head, 2);
     got = take(records, 4 * ROOM + 4);
     if (got == 4 * ROOM + 4) {    /* a whole record more than there is room for */
-        fputs("list: more than 4096 records in one list\n", stderr);
-        return 2;  /* the sentence */
+        fputs(too_many, stderr);  /* the sentence of `list` */
+        return 2;  /* and its status */
     }
     if (asked < 2 || got % 4 != 0)
         return last_line("short", 2);
@@ -125,7 +126,7 @@ static int list(void)
 
 static int batches(void)
 {
-    static unsigned char records[4 * MOST_PLACES];
+    static unsigned char records[4 * ROOM];
     unsigned char pairs[SETUP], head[2];
     size_t asked, count;
 
@@ -135,6 +136,10 @@ static int batches(void)
         return last_line("R5", 0);
     while ((asked = take(head, 2)) == 2) {
         count = word_at(head);
+        if (count > ROOM) {
+            fputs(too_many, stderr);
+            return 0;
+        }
         if (take(records, 4 * count) < 4 * count)
             return last_line("short", 0);
         clear_answers(count);

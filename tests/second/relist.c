@@ -95,23 +95,25 @@ static int judge_list(const char **sentence)
 }
 
 /* What `batches` owes to the input: the lines of its lists, as far as they are
- * whole. */
-static void judge_batches(void)
+ * whole and not too long.  Gives the sentence on standard error. */
+static const char *judge_batches(void)
 {
     size_t at = SETUP;
 
     want_length = 0;
     if (length < SETUP) {
         expect_last("short\n", 0);
-        return;
+        return "";
     }
     if (!setup(input)) {
         expect_last("R5\n", 0);
-        return;
+        return "";
     }
     while (at + 2 <= length) {
         size_t events = 256u * input[at] + input[at + 1];
 
+        if (events > ROOM)
+            return too_many;
         if (at + 2 + 4 * events > length)
             break;
         expect_records(input + at + 2, events);
@@ -119,6 +121,7 @@ static void judge_batches(void)
     }
     if (at < length)
         expect_last("short\n", 0);
+    return "";
 }
 
 /* ---- Trying the input -------------------------------------------------------- */
@@ -184,9 +187,10 @@ static void try_list(void)
 
 static void try_batches(void)
 {
-    judge_batches();
+    const char *sentence = judge_batches();
+
     in_batches++;
-    must_say("batches", batcher, "", 0);
+    must_say("batches", batcher, sentence, 0);
 }
 
 /* ---- Inputs made of a script's records ----------------------------------------- */
@@ -305,8 +309,7 @@ static int a_length(int sort)
     }
 }
 
-/* Gives how many lists there are. */
-static int put_up_batches(int sort)
+static void put_up_batches(int sort)
 {
     int lists = 0;
 
@@ -322,7 +325,17 @@ static int put_up_batches(int sort)
         at += many;
     }
     snprintf(what, sizeof what, "%d events in %d lists", total, lists);
-    return lists;
+}
+
+/* One more list, of so many ticks. */
+static void add_ticks(int many, int told)
+{
+    input[length] = (unsigned char)(told >> 8);
+    input[length + 1] = (unsigned char)told;
+    for (int i = 0; i < 4 * many; i++)
+        input[length + 2 + (size_t)i] = (unsigned char)(i % 4 == 0 ? TICK : 0);
+    length += 2 + 4 * (size_t)many;
+    snprintf(what + strlen(what), sizeof what - strlen(what), ", and one of %d, told as %d", many, told);
 }
 
 static void try_script_in_lists(void)
@@ -417,6 +430,22 @@ static void sweep_long(void)
             }
 }
 
+/* The same behind and before others, on the same bench. */
+static void sweep_batches(void)
+{
+    static const int events[] = { ROOM - 1, ROOM, ROOM + 1, ROOM + 2 };
+
+    total = 64;
+    for (int i = 0; i < 5; i++) {
+        int many = i < 4 ? events[i] : ROOM;
+
+        put_up_batches(4);
+        add_ticks(many, i < 4 ? many : MOST_PLACES);
+        add_ticks(1, 1);
+        try_batches();
+    }
+}
+
 static void sweep(int count)
 {
     number = 0;                   /* no run any more */
@@ -424,6 +453,7 @@ static void sweep(int count)
     take_script("some.script");
     sweep_small();
     sweep_long();
+    sweep_batches();
     free(script);
 }
 
