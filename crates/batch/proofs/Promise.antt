@@ -109,6 +109,18 @@ module _ (b : Bus) (m : List ℕ) (es : List Event) (places : List Answer) where
       (λ t. ap (λ (z : Left). drop (length es) (z .2)) (too-few b m es places (ltb-true (length places) (length es) t)))
       (λ t. ap (λ (z : Left). drop (length es) (z .2)) (enough b m es places (ltb-false (length places) (length es) t)) ∙ drop-at (answers es bench) (drop (length es) places) (length es) (length-answers es bench))
 
+  -- there are as many places as before
+  pub same-places : length left ≡ length places
+  unfolding taken
+  same-places =
+      by-test (ltb (length places) (length es))
+      (λ t. ap (λ (z : Left). length (z .2)) (too-few b m es places (ltb-true (length places) (length es) t)))
+      (λ t.
+      let l : length es ≤ length places = ltb-false (length places) (length es) t in
+      ap (λ (z : Left). length (z .2)) (enough b m es places l)
+      ∙ length-append (answers es bench) (drop (length es) places)
+      ∙ omega (arith, length-answers es bench, length-drop (length es) places))
+
 -- ---- "refused ones included": where every event is refused, for the memory's length or for the state, nothing but the answers is changed
 refused-all : (r : Refusal) (x : Bench) → ((e : Event) → rulingOn e x ≡ ruling.Refused r) → (es : List Event) → (after es x ≡ x) × (answers es x ≡ replicate (length es) (Refused r))
 unfolding after answers next answered ruledNext ruledAnswer

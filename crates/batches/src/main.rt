@@ -36,9 +36,7 @@ struct Going {
 fn give_list(bus: Bus, mem: &mut [u8], records: &[u8], count: usize, out: &mut [u8]) -> Bus
     requires { ⌜ (count ≤ 4096) × (length (now records) ≤ 16384) × (length (now out) ≡ 262140) ⌝ }
 {
-    let list = listed::events_in(records);
-    let answers = listed::unanswered();
-    let told = lending::give(bus, mem, list, count, answers, count, out);
+    let told = lending::give_records(bus, mem, records, count, out);
     opening::write(STDOUT_FILENO, out, told.end);
     told.bus
 }

@@ -126,18 +126,8 @@ fn given(
     requires { ⌜ length (now records) ≤ 16384 ⌝ }
 {
     let end = least(size, mem.len());
-    let count = least(records.len() / 4, 4096);
-    let list = listed::events_in(records);
-    let answers = listed::unanswered();
-    lending::give(
-        Bus { slots },
-        &mut mem[..end],
-        list,
-        count,
-        answers,
-        least(places, 65535),
-        text,
-    )
+    let all = least(places, 65535);
+    lending::give_records(Bus { slots }, &mut mem[..end], records, all, text)
 }
 
 // The front of the text.

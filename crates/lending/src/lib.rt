@@ -28,13 +28,7 @@ pub fn give(
 }
 
 // The whole records of some bytes, given as one list, with so many answer places, which nothing has answered before.
-pub fn give_records(
-    bus: Bus,
-    mem: &mut [u8],
-    records: &[u8],
-    places: usize,
-    out: &mut [u8],
-) -> Told
+pub fn give_records(bus: Bus, mem: &mut [u8], records: &[u8], places: usize, out: &mut [u8]) -> Told
     requires { ⌜ (length (now records) ≤ 16384) × (places ≤ 65535) × (262140 ≤ length (now out)) ⌝ }
     ensures { λ r. ⌜ givenOf bus (now (mem .entry)) (eventsIn (now (records .entry)) (length (now (records .entry)) / 4)) (replicate places blank) (now (out .entry)) ≡ (r, now (mem .exit), now (out .exit)) ⌝ }
 {

@@ -7,10 +7,9 @@ use Prim.Native.Nat.{ℕ, _/_, _%_, _≤_, _<_}
 use native.Mathlib.Omega.{arith}
 use borrow.Author.Tests.{lt-ltb, le-ltb, eq-eqb, ne-eqb, ltb-false}
 use lib.Dec.{ltb}
-use lib.ListN.{length, take, replicate, length-replicate}
+use lib.ListN.{length, replicate, length-replicate}
 use lib.Seq.{sets}
 use Rattle.lists.specs.Tests.{by-test, cond-cases}
-use Rattle.rules.specs.declared.Answer.{Answer}
 use Rattle.rules.specs.declared.Event.{Event}
 use Rattle.rules.specs.Events.{letterOf, refusalNumber}
 use Rattle.rules.specs.Runs.{Bench}
@@ -18,9 +17,8 @@ use Rattle.letters.specs.Decimal.{digit, decimalIn, decimal}
 use Rattle.letters.specs.Letters.{digitsOf, lineOf, shortLine}
 use Rattle.batch.specs.Lists.{tooFew, notTaken, taken, listed, eventsOf}
 use Rattle.listed.specs.declared.Told.{Told}
-use Rattle.listed.specs.Listed.{numberIn, eventsIn, eventsFor, blank, listText, toldOf, tooManyText}
-use Rattle.listed.proofs.Events.{events-front}
-use Rattle.listed.proofs.Places.{take-same, taken-lines, taken-most}
+use Rattle.listed.specs.Listed.{numberIn, eventsIn, blank, listText, toldOf, tooManyText}
+use Rattle.listed.proofs.Places.{taken-lines, taken-most}
 use Rattle.lending.specs.Given.{givenOf}
 use Rattle.list.specs.declared.Answered.{Answered}
 use Rattle.list.specs.Asked.{linesFor, tooMany, isCut, listFor, putFor, answeredBy, answerOf}
@@ -44,14 +42,10 @@ given-put x es places out r m o e =
     ap put (sym (list-text x es places)) ∙ ap kept e
 
 -- whole records, given as one list
-pub put-by : (x : Bench) (number rs out : List ℕ) (es : List Event) (ks : List Answer) (places : ℕ) (r : Told) (m o : List ℕ)
-    → es ≡ eventsFor rs → ks ≡ replicate 65535 blank → (places ≡ numberIn number) × (places ≤ 65535)
-    → givenOf (x .bus) (x .memory) (take (length rs / 4) es) (take places ks) out ≡ (r, m, o) → putFor x number rs out ≡ (r .end, o)
+pub put-by : (x : Bench) (number rs out : List ℕ) (places : ℕ) (r : Told) (m o : List ℕ) → (places ≡ numberIn number) × (places ≤ 65535)
+    → givenOf (x .bus) (x .memory) (eventsIn rs (length rs / 4)) (replicate places blank) out ≡ (r, m, o) → putFor x number rs out ≡ (r .end, o)
 unfolding putFor
-put-by x number rs out es ks places r m o f g p e =
-    let a : take (length rs / 4) es ≡ eventsIn rs (length rs / 4) = ap (take (length rs / 4)) f ∙ events-front rs in
-    let b : take places ks ≡ replicate places blank = ap (take places) g ∙ take-same places 65535 blank (p .1) in
-    rw (sym (p .0)) (given-put x (eventsIn rs (length rs / 4)) places out r m o (rw (a, b) at e))
+put-by x number rs out places r m o p e = rw (sym (p .0)) (given-put x (eventsIn rs (length rs / 4)) places out r m o e)
 
 -- too many records, a cut, and a list
 module _ (x : Bench) (number rs out o : List ℕ) (end : ℕ) where

@@ -33,11 +33,8 @@ fn given(bus: Bus, mem: &mut [u8], number: &[u8], records: &[u8], out: &mut [u8]
     requires { ⌜ (2 ≤ length (now number)) × (length (now records) ≤ 16384) × (262140 ≤ length (now out)) ⌝ }
     ensures { λ r. ⌜ putFor (record { bus = bus; memory = now (mem .entry) }) (now (number .entry)) (now (records .entry)) (now (out .entry)) ≡ (r, now (out .exit)) ⌝ }
 {
-    let list = listed::events_in(records);
-    let answers = listed::unanswered();
     let places = listed::number_in(number);
-    let count = records.len() / 4;
-    let told = lending::give(bus, mem, list, count, answers, places, out);
+    let told = lending::give_records(bus, mem, records, places, out);
     told.end
 }
 

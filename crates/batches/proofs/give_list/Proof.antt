@@ -11,9 +11,7 @@ give-list-spec =
     tie.close
     (tie.spec
     (λ c κs. search needs)
-    (λ c κs. search needs)
-    (λ c κs. search needs)
-    (λ c κs. omega (arith, given-most _ _ _ _ _ _ _ _ _ (c .before .before .before .before .before .give .ensures) (c .before .before .before .before .before .before .before .before .before .before .before .before .before .pre .0)))
+    (λ c κs. omega (arith, given-most _ _ _ _ _ _ _ _ (c .before .before .before .before .before .give-records .ensures) (c .before .before .before .before .before .before .before .before .before .before .before .pre .0)))
     (λ c. search needs)
     (λ c. search needs)
     (λ c. search needs))

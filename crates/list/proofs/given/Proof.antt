@@ -6,13 +6,4 @@ use Rattle.list.proofs.given.Statement.{statement}
 use Rattle.list.proofs.given.Tie as tie
 
 pub given-spec : {M : Type 1} → statement M
-given-spec =
-    tie.close
-    (tie.spec
-    (λ c κs. search needs)
-    (λ c κs. search needs)
-    (λ c κs. search needs)
-    (λ c κs. search needs)
-    (λ c. search needs)
-    (λ c. search needs)
-    (λ c. put-by _ _ _ _ _ _ _ _ _ _ (c .before .before .before .before .before .before .before .before .before .events-in .ensures) (c .before .before .before .before .before .before .before .before .unanswered .ensures) (c .before .before .before .before .before .before .before .number-in .ensures) (c .before .before .before .before .give .ensures)))
+given-spec = tie.close (tie.spec (λ c κs. search needs) (λ c κs. search needs) (λ c. search needs) (λ c. search needs) (λ c. search put-by))
