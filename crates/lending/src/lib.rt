@@ -1,7 +1,8 @@
-// A list given from arrays by value, for programs: their fronts are lent to the entry, and what it leaves is put as text. Callers are free of the lent records.
+// A list given for programs, from arrays by value or from a script's records: the arrays' fronts are lent to the entry, and what it leaves is put as lines. Whoever calls these lends no records.
 ghost use mathlib.Core.Path.{_≡_};
-ghost use Prim.Native.Nat.{_≤_};
-ghost use lib.ListN.{length, take};
+ghost use Prim.Native.Nat.{_/_, _≤_};
+ghost use lib.ListN.{length, take, replicate};
+ghost use Rattle.listed.specs.Listed.{eventsIn, blank};
 ghost use Rattle.lending.specs.Given.{givenOf};
 use listed::Told;
 use rules::Answer;
@@ -24,4 +25,21 @@ pub fn give(
     let mut lent = answers;
     let done = batch::events(bus, mem, &list[..count], &mut lent[..places]);
     listed::put_list(done, lent, places, out)
+}
+
+// The whole records of some bytes, given as one list, with so many answer places, which nothing has answered before.
+pub fn give_records(
+    bus: Bus,
+    mem: &mut [u8],
+    records: &[u8],
+    places: usize,
+    out: &mut [u8],
+) -> Told
+    requires { ⌜ (length (now records) ≤ 16384) × (places ≤ 65535) × (262140 ≤ length (now out)) ⌝ }
+    ensures { λ r. ⌜ givenOf bus (now (mem .entry)) (eventsIn (now (records .entry)) (length (now (records .entry)) / 4)) (replicate places blank) (now (out .entry)) ≡ (r, now (mem .exit), now (out .exit)) ⌝ }
+{
+    let list = listed::events_in(records);
+    let answers = listed::unanswered();
+    let count = records.len() / 4;
+    give(bus, mem, list, count, answers, places, out)
 }

@@ -55,26 +55,26 @@ put-by x number rs out es ks places r m o f g p e =
 
 -- too many records, a cut, and a list
 module _ (x : Bench) (number rs out o : List ℕ) (end : ℕ) where
-  pub answer-many : length rs ≡ 16388 → (end ≡ 41) × (o ≡ sets out 0 tooManyText) → answerOf x number rs out ≡ (record { end = end; good = false }, o)
+  pub answer-many : length rs ≡ 16388 → (end ≡ 41) × (o ≡ sets out 0 tooManyText) → answerOf x number rs out ≡ (record { end = end; output = false }, o)
   unfolding answerOf answeredBy tooMany
   answer-many h p = rw (le-ltb (length rs) 16388 (omega arith), p .0, p .1)
 
   pub answer-no-number : length rs ≤ 16388 → (length rs ≡ 16388 → ⊥) → length number < 2 → (end ≡ 6) × (o ≡ sets out 0 shortLine)
-      → answerOf x number rs out ≡ (record { end = end; good = true }, o)
+      → answerOf x number rs out ≡ (record { end = end; output = true }, o)
   unfolding answerOf answeredBy tooMany listFor isCut
   answer-no-number h k l p = rw (lt-ltb (length rs) 16388 (omega arith), lt-ltb (length number) 2 l, p .0, p .1)
 
   pub answer-short : length rs ≤ 16388 → (length rs ≡ 16388 → ⊥) → 2 ≤ length number → (length rs % 4 ≡ 0 → ⊥) → (end ≡ 6) × (o ≡ sets out 0 shortLine)
-      → answerOf x number rs out ≡ (record { end = end; good = true }, o)
+      → answerOf x number rs out ≡ (record { end = end; output = true }, o)
   unfolding answerOf answeredBy tooMany listFor isCut
   answer-short h k l d p = rw (lt-ltb (length rs) 16388 (omega arith), le-ltb (length number) 2 l, ne-eqb (length rs % 4) 0 d, p .0, p .1)
 
   pub answer-list : length rs ≤ 16388 → (length rs ≡ 16388 → ⊥) → 2 ≤ length number → length rs % 4 ≡ 0 → putFor x number rs out ≡ (end, o)
-      → answerOf x number rs out ≡ (record { end = end; good = true }, o)
+      → answerOf x number rs out ≡ (record { end = end; output = true }, o)
   unfolding answerOf answeredBy tooMany listFor isCut putFor
   answer-list h k l d e =
       rw (lt-ltb (length rs) 16388 (omega arith), le-ltb (length number) 2 l, eq-eqb (length rs % 4) 0 d)
-      (ap (λ (z : ℕ × List ℕ). (record { end = z .0; good = true }, z .1)) e)
+      (ap (λ (z : ℕ × List ℕ). (record { end = z .0; output = true }, z .1)) e)
 
 -- a list's lines have room
 lines-most : (x : Bench) (es : List Event) (places : ℕ) → places ≤ 65535 → length (linesFor x es places) ≤ 262140

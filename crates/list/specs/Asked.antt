@@ -50,7 +50,7 @@ tooMany rs = not (ltb (length rs) 16388)
 unfoldable pub isCut : List ℕ → List ℕ → Bool
 isCut number rs = ltb (length number) 2 || not (eqb (length rs % 4) 0)
 
--- what is written on standard output, of the bytes that came as the number of places and as records
+-- the bytes that came as the number of places and as records: what is written where they are whole, and on standard output where they are not too many
 abbrev pub wholeFor : Bench → List ℕ → List ℕ → List ℕ
 wholeFor x number rs = linesFor x (eventsIn rs (length rs / 4)) (numberIn number)
 
@@ -78,7 +78,7 @@ putFor x number rs out = (length (wholeFor x number rs), sets out 0 (wholeFor x 
 
 -- and of any: how much is written of the output, whether on standard output, and the output
 unfoldable pub answeredBy : List ℕ → Bool → List ℕ → Answered × List ℕ
-answeredBy text good out = (record { end = length text; good = good }, sets out 0 text)
+answeredBy text output out = (record { end = length text; output = output }, sets out 0 text)
 
 unfoldable pub answerOf : Bench → List ℕ → List ℕ → List ℕ → Answered × List ℕ
 answerOf x number rs out = cond (tooMany rs) (answeredBy tooManyText false out) (answeredBy (listFor x number rs) true out)

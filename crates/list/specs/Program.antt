@@ -22,7 +22,7 @@ pub record Served (b : Bus) (m out : List ℕ) (r : Answered) (written : List �
 
 -- the front of the output, on the one or the other
 unfoldable pub fronted : Answered → List ℕ → Written
-fronted r out = cond (r .good) (onOutput (take (r .end) out)) (onErrors (take (r .end) out))
+fronted r out = cond (r .output) (onOutput (take (r .end) out)) (onErrors (take (r .end) out))
 
 -- what is written after a good setup
 unfoldable pub serveWrites : Bench → List ℕ → List ℕ → List ℕ → Written

@@ -18,7 +18,7 @@ const TOO_MANY: usize = 16388;
 // What is written in the end: the front of the output, as far as its end says, and whether it is for standard output, or for standard error.
 struct Answered {
     end: usize,
-    good: bool,
+    output: bool,
 }
 
 // Room for the most lines, four bytes for each of 65,535 places.
@@ -49,18 +49,18 @@ fn answer(bus: Bus, mem: &mut [u8], number: &[u8], records: &[u8], out: &mut [u8
 {
     if records.len() == TOO_MANY {
         let end = listed::put_too_many(out);
-        return Answered { end, good: false };
+        return Answered { end, output: false };
     }
     if number.len() < 2 {
         let end = letters::put_short(out);
-        return Answered { end, good: true };
+        return Answered { end, output: true };
     }
     if records.len() % 4 != 0 {
         let end = letters::put_short(out);
-        return Answered { end, good: true };
+        return Answered { end, output: true };
     }
     let end = given(bus, mem, number, records, out);
-    Answered { end, good: true }
+    Answered { end, output: true }
 }
 
 // What follows the setup: the number of places, then records to the end of the input, or one more than a list may have. Then the answer, which is at the front of the
@@ -77,10 +77,10 @@ fn serve(bus: Bus, mem: &mut [u8], out: &mut [u8]) -> Answered
 }
 
 // Where an answer goes.
-fn descriptor(good: bool) -> i32
-    ensures { λ r. ⌜ r ≡ descriptorOf good ⌝ }
+fn descriptor(output: bool) -> i32
+    ensures { λ r. ⌜ r ≡ descriptorOf output ⌝ }
 {
-    if good { STDOUT_FILENO } else { STDERR_FILENO }
+    if output { STDOUT_FILENO } else { STDERR_FILENO }
 }
 
 fn main() {
@@ -90,6 +90,6 @@ fn main() {
     if begun.on {
         let bus = begun.bus;
         let answered = serve(bus, &mut mem, &mut out);
-        opening::write(descriptor(answered.good), &out, answered.end);
+        opening::write(descriptor(answered.output), &out, answered.end);
     }
 }
