@@ -20,7 +20,9 @@ use Rattle.frame.specs.Frame.{startingMemory, cutSetup, firstLine, goesOn, firs
 use Rattle.frame.proofs.Laws.{first-length, written}
 use Rattle.listed.specs.Listed.{numberIn, tooManyText}
 use Rattle.list.specs.declared.Answered.{Answered}
-use Rattle.list.specs.Asked.{onOutput, onErrors, tooMany, listFor, endFor, begunAt, writtenFor, answeredBy, answerOf}
+use Rattle.opening.specs.Written.{onOutput, onErrors}
+use Rattle.lines.specs.Script.{begunAt}
+use Rattle.list.specs.Asked.{tooMany, listFor, endFor, writtenFor, answeredBy, answerOf}
 use Rattle.list.specs.Program.{Served, fronted, serveWrites, listWrites}
 use Rattle.list.proofs.Laws.{list-most}
 

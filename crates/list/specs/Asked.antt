@@ -4,35 +4,19 @@ use Prim.Native.Nat.{ℕ, _-_, _/_, _%_}
 use mathlib.Core.Bool.{Bool, true, false, not, cond, _||_}
 use mathlib.Core.List.{List, [], _∷_, _++_}
 use lib.Dec.{eqb, ltb}
-use lib.IntN.{ℤ, pos}
 use lib.ListN.{length, take, drop}
 use lib.Seq.{sets}
 use Rattle.lists.specs.Each.{allOf}
 use Rattle.rules.specs.declared.Event.{Event}
-use Rattle.rules.specs.declared.Pair.{Pair}
-use Rattle.rules.specs.Refusals.{goodPair, setupOf}
+use Rattle.rules.specs.Refusals.{goodPair}
 use Rattle.rules.specs.Runs.{Bench, answers}
 use Rattle.records.specs.Records.{pairsOf}
 use Rattle.letters.specs.Letters.{shortLine}
-use Rattle.frame.specs.Frame.{badSetupLine, startingMemory}
+use Rattle.frame.specs.Frame.{badSetupLine}
+use Rattle.lines.specs.Script.{begunAt}
 use Rattle.listed.specs.Listed.{numberIn, eventsIn, answerLines, dotLines, tooManyText}
+use Rattle.opening.specs.Written.{Written, onOutput, onErrors}
 use Rattle.list.specs.declared.Answered.{Answered}
-
--- what is written on standard output, and on standard error
-pub record Written : Type 0 where
-  pub output : List ℕ
-  pub errors : List ℕ
-
-abbrev pub onOutput : List ℕ → Written
-onOutput bs = record { output = bs; errors = [] }
-
-abbrev pub onErrors : List ℕ → Written
-onErrors bs = record { output = []; errors = bs }
-
--- the descriptors of the two
-unfoldable pub descriptorOf : Bool → ℤ
-descriptorOf true = pos 1
-descriptorOf false = pos 2
 
 -- "An answer list shorter than the event list is refusal 9": its line
 abbrev pub tooFewLine : List ℕ
@@ -60,10 +44,6 @@ listFor x number rs = cond (isCut number rs) shortLine (wholeFor x number rs)
 -- "more gets a sentence on standard error"; "`R5`, then too many records, then `short`, then `R9`"
 unfoldable pub endFor : Bench → List ℕ → List ℕ → Written
 endFor x number rs = cond (tooMany rs) (onErrors tooManyText) (onOutput (listFor x number rs))
-
--- the bench that the list is given to
-unfoldable pub begunAt : List Pair → Bench
-begunAt ps = record { bus = setupOf ps .bus; memory = startingMemory }
 
 -- "setup 16 bytes, two bytes number of answer places [..], records to the end of the input"; "`R5` and `short` as in the script, but alone": all that the program
 -- writes, for all that it reads

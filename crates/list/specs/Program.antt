@@ -11,7 +11,8 @@ use Rattle.frame.specs.declared.Begun.{Begun}
 use Rattle.frame.specs.Frame.{beginOf}
 use Rattle.listed.specs.Listed.{numberIn}
 use Rattle.list.specs.declared.Answered.{Answered}
-use Rattle.list.specs.Asked.{Written, onOutput, onErrors, answerOf}
+use Rattle.opening.specs.Written.{Written, onOutput, onErrors}
+use Rattle.list.specs.Asked.{answerOf}
 
 -- what the program's reads bring, as many bytes as there is room for, and the answer to it. The bytes that come no contract can say
 pub record Served (b : Bus) (m out : List ℕ) (r : Answered) (written : List ℕ) : Type 0 where

@@ -5,9 +5,8 @@ ghost use mathlib.Core.Path.{_≡_};
 ghost use Prim.Native.Nat.{_≤_};
 ghost use lib.ListN.{length};
 ghost use Rattle.listed.specs.Listed.{numberIn};
-ghost use Rattle.list.specs.Asked.{answerOf, descriptorOf, putFor};
+ghost use Rattle.list.specs.Asked.{answerOf, putFor};
 ghost use Rattle.list.specs.Program.{Served};
-use libc::STDERR_FILENO;
 use libc::STDIN_FILENO;
 use libc::STDOUT_FILENO;
 use rules::Bus;
@@ -73,13 +72,6 @@ fn serve(bus: Bus, mem: &mut [u8], out: &mut [u8]) -> Answered
     answer(bus, mem, &number[..n], &records[..came], out)
 }
 
-// Where an answer goes.
-fn descriptor(output: bool) -> i32
-    ensures { λ r. ⌜ r ≡ descriptorOf output ⌝ }
-{
-    if output { STDOUT_FILENO } else { STDERR_FILENO }
-}
-
 fn main() {
     let mut mem = [0u8; 4096];
     let mut out = room();
@@ -87,6 +79,6 @@ fn main() {
     if begun.on {
         let bus = begun.bus;
         let answered = serve(bus, &mut mem, &mut out);
-        opening::write(descriptor(answered.output), &out, answered.end);
+        opening::write(opening::descriptor(answered.output), &out, answered.end);
     }
 }

@@ -7,8 +7,18 @@ ghost use lib.ListN.{length};
 ghost use Rattle.rules.specs.Modelled.{memoryBytes};
 ghost use Rattle.rules.specs.Refusals.{inRange};
 ghost use Rattle.opening.specs.Opened.{Opened};
+ghost use Rattle.opening.specs.Written.{descriptorOf};
 use frame::Begun;
+use libc::STDERR_FILENO;
 use libc::STDIN_FILENO;
+use libc::STDOUT_FILENO;
+
+// The descriptor of standard output, or of standard error.
+pub fn descriptor(output: bool) -> i32
+    ensures { λ r. ⌜ r ≡ descriptorOf output ⌝ }
+{
+    if output { STDOUT_FILENO } else { STDERR_FILENO }
+}
 
 // Writes the front of an output, as far as its end says.
 pub fn write(to: i32, out: &[u8], end: usize)

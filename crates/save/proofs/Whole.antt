@@ -35,7 +35,8 @@ use Rattle.saved.specs.Saving.{allQuiet, saveOf}
 use Rattle.saved.proofs.Back.{saves-form}
 use Rattle.saved.proofs.Places.{length-formOf, length-most}
 use Rattle.save.specs.declared.Answered.{Answered}
-use Rattle.save.specs.Asked.{onOutput, onErrors, longestForm, busyLine, benchText, endText, savedAnswer, answerOf, answerTo, writtenFor}
+use Rattle.opening.specs.Written.{onOutput, onErrors}
+use Rattle.save.specs.Asked.{longestForm, busyLine, benchText, endText, savedAnswer, answerOf, answerTo, writtenFor}
 use Rattle.save.specs.Program.{Served, fronted, serveWrites, saveWrites}
 
 -- a bench in range with its whole memory: it is saved, or refused with 8

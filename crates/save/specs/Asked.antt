@@ -1,10 +1,9 @@
 -- The save program: what it writes for what it reads.
 -- Assumes nothing.
 use Prim.Native.Nat.{ℕ, _%_}
-use mathlib.Core.Bool.{Bool, true, false, cond}
+use mathlib.Core.Bool.{true, false, cond}
 use mathlib.Core.List.{List, [], _∷_}
 use lib.Dec.{eqb, ltb}
-use lib.IntN.{ℤ, pos}
 use lib.ListN.{length, drop}
 use lib.Seq.{sets}
 use Rattle.lists.specs.Each.{allOf}
@@ -19,23 +18,8 @@ use Rattle.saved.specs.declared.Saved.{Saved}
 use Rattle.saved.specs.declared.Saved.the-variants.{Form, Refused}
 use Rattle.saved.specs.Form.{formOf}
 use Rattle.saved.specs.Saving.{allQuiet, saveOf}
+use Rattle.opening.specs.Written.{Written, onOutput, onErrors}
 use Rattle.save.specs.declared.Answered.{Answered}
-
--- what is written on standard output, and on standard error
-pub record Written : Type 0 where
-  pub output : List ℕ
-  pub errors : List ℕ
-
-abbrev pub onOutput : List ℕ → Written
-onOutput bs = record { output = bs; errors = [] }
-
-abbrev pub onErrors : List ℕ → Written
-onErrors bs = record { output = []; errors = bs }
-
--- the descriptors of the two: where a form goes, and where a line does
-unfoldable pub descriptorOf : Bool → ℤ
-descriptorOf true = pos 1
-descriptorOf false = pos 2
 
 -- bytes of the longest form, that of eight slots of kind 2 (`saved` shows that none is longer: proofs/Places.length-most): four heads of 3, and in them 16, 4,096, 32 and 120
 abbrev pub longestForm : ℕ

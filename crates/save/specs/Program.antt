@@ -14,7 +14,8 @@ use Rattle.running.specs.declared.Going.{Going}
 use Rattle.running.specs.Program.{Ran, turnsLeave, begun}
 use Rattle.running.specs.Went.{Ended}
 use Rattle.save.specs.declared.Answered.{Answered}
-use Rattle.save.specs.Asked.{Written, onOutput, onErrors, answerOf}
+use Rattle.opening.specs.Written.{Written, onOutput, onErrors}
+use Rattle.save.specs.Asked.{answerOf}
 
 -- the records' reads as they ended, over some buffer for their lines, and the answer
 pub record Served (b : Bus) (m out : List ℕ) (r : Answered) (written : List ℕ) : Type 0 where

@@ -7,10 +7,9 @@ ghost use Prim.Native.Nat.{_≤_};
 ghost use lib.ListN.{length};
 ghost use Rattle.rules.specs.Modelled.{memoryBytes};
 ghost use Rattle.rules.specs.Refusals.{inRange};
-ghost use Rattle.save.specs.Asked.{descriptorOf, longestForm, answerOf};
+ghost use Rattle.save.specs.Asked.{longestForm, answerOf};
 ghost use Rattle.save.specs.Program.{Served};
 use libc::STDERR_FILENO;
-use libc::STDOUT_FILENO;
 use rules::Answer;
 use rules::Bus;
 use saved::Saved;
@@ -55,13 +54,6 @@ fn serve(bus: Bus, mem: &mut [u8], out: &mut [u8]) -> Answered
     answer(after, mem, ran.held, out)
 }
 
-// Where an answer goes.
-fn descriptor(form: bool) -> i32
-    ensures { λ r. ⌜ r ≡ descriptorOf form ⌝ }
-{
-    if form { STDOUT_FILENO } else { STDERR_FILENO }
-}
-
 fn main() {
     let mut mem = [0u8; 4096];
     let mut out = [0u8; LONGEST];
@@ -69,6 +61,6 @@ fn main() {
     if begun.on {
         let bus = begun.bus;
         let answered = serve(bus, &mut mem, &mut out);
-        opening::write(descriptor(answered.form), &out, answered.end);
+        opening::write(opening::descriptor(answered.form), &out, answered.end);
     }
 }

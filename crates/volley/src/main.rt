@@ -1,12 +1,7 @@
 // Laps for the benchmark of lists: a letter and a count on standard input, as `l 1000`, and so many times sixty-four events on a bench with eight slots of kind 2, in one
-// call each (`l`), or one by one: by the public entry (`o`), or by the one that asks for a state in range (`i`); then `done` on standard output. So that the compiler
-// leaves no lap out, each lap's bus and memory are the next one's input, and `done` is written only where the answers of every lap come to the same sum as those of a first.
-ghost use mathlib.Core.Path.{_≡_};
-ghost use mathlib.Core.Bool.{true};
+// call each (`l`), or one by one (`o`); then `done` on standard output. So that the compiler leaves no lap out, each lap's bus and memory are the next one's input, and
+// `done` is written only where the answers of every lap come to the same sum as those of a first.
 ghost use Prim.Native.Nat.{_≤_};
-ghost use lib.ListN.{length};
-ghost use Rattle.rules.specs.Modelled.{memoryBytes};
-ghost use Rattle.rules.specs.Refusals.{inRange};
 use asking::Count;
 use libc::STDERR_FILENO;
 use libc::STDIN_FILENO;
@@ -43,7 +38,7 @@ fn events() -> [Event; 64] {
     all
 }
 
-// One lap, event by event, by the public entry.
+// One lap, event by event.
 fn one_by_one(bus: Bus, mem: &mut [u8], list: [Event; 64]) -> Summed {
     let mut at = bus;
     let mut sum = 0u8;
@@ -57,21 +52,12 @@ fn one_by_one(bus: Bus, mem: &mut [u8], list: [Event; 64]) -> Summed {
     Summed { bus: at, sum }
 }
 
-// And by the one that asks for a state in range.
-fn one_by_one_in_range(bus: Bus, mem: &mut [u8], list: [Event; 64]) -> Summed
-    requires { ⌜ (inRange bus ≡ true) × (length (now mem) ≡ memoryBytes) ⌝ }
-    ensures { λ r. ⌜ inRange (r .bus) ≡ true ⌝ }
-{
-    let mut at = bus;
-    let mut sum = 0u8;
-    for i in 0..64usize {
-        let done = bus::event_in_range(at, mem, list[i]);
-        at = done.bus;
-        let answer = done.answer;
-        let w = salvo::weight(answer);
-        sum = std::num::wrapping_add_u8(sum, w);
+// One lap, in one call or event by event.
+fn lap(in_one_call: bool, bus: Bus, mem: &mut [u8], list: [Event; 64]) -> Summed {
+    if in_one_call {
+        return salvo::give(bus, mem, list, [Answer::Nothing; 64]);
     }
-    Summed { bus: at, sum }
+    one_by_one(bus, mem, list)
 }
 
 // 1 where two sums are the same.
@@ -84,39 +70,21 @@ fn same(a: u8, b: u8) -> u64
     0
 }
 
-// So many laps of each way, and how many of them came to a sum.
-fn list_laps(bus: Bus, mem: &mut [u8], list: [Event; 64], sum: u8, count: u64) -> u64 {
-    let answers = [Answer::Nothing; 64];
+// So many laps, and how many of them came to a sum.
+fn laps(
+    in_one_call: bool,
+    bus: Bus,
+    mem: &mut [u8],
+    list: [Event; 64],
+    sum: u8,
+    count: u64,
+) -> u64 {
     let mut at = bus;
     let mut right = 0u64;
     for _ in 0..count {
-        let lap = salvo::give(at, mem, list, answers);
-        at = lap.bus;
-        right += same(lap.sum, sum);
-    }
-    right
-}
-
-fn one_laps(bus: Bus, mem: &mut [u8], list: [Event; 64], sum: u8, count: u64) -> u64 {
-    let mut at = bus;
-    let mut right = 0u64;
-    for _ in 0..count {
-        let lap = one_by_one(at, mem, list);
-        at = lap.bus;
-        right += same(lap.sum, sum);
-    }
-    right
-}
-
-fn range_laps(bus: Bus, mem: &mut [u8], list: [Event; 64], sum: u8, count: u64) -> u64
-    requires { ⌜ (inRange bus ≡ true) × (length (now mem) ≡ memoryBytes) ⌝ }
-{
-    let mut at = bus;
-    let mut right = 0u64;
-    for _ in 0..count {
-        let lap = one_by_one_in_range(at, mem, list);
-        at = lap.bus;
-        right += same(lap.sum, sum);
+        let done = lap(in_one_call, at, mem, list);
+        at = done.bus;
+        right += same(done.sum, sum);
     }
     right
 }
@@ -130,24 +98,17 @@ fn finish(right: u64, count: u64) {
     io::write_all(STDOUT_FILENO, b"done\n");
 }
 
-// The laps that a letter asks for, behind one that says what a lap comes to.
-fn run(letter: u8, count: u64) {
+// So many laps, behind one that says what a lap comes to.
+fn run(in_one_call: bool, count: u64) {
     let made = fresh::setup([Pair { kind: 2, length: 5 }; 8]);
     let bus = made.bus;
     let mut mem = [0xFFu8; 4096];
     let list = events();
-    let first = one_by_one_in_range(bus, &mut mem, list);
+    let first = one_by_one(bus, &mut mem, list);
     let at = first.bus;
     let sum = first.sum;
-    if letter == b'l' {
-        finish(list_laps(at, &mut mem, list, sum, count), count);
-        return;
-    }
-    if letter == b'o' {
-        finish(one_laps(at, &mut mem, list, sum, count), count);
-        return;
-    }
-    finish(range_laps(at, &mut mem, list, sum, count), count);
+    let right = laps(in_one_call, at, &mut mem, list, sum, count);
+    finish(right, count);
 }
 
 fn main() {
@@ -155,13 +116,13 @@ fn main() {
     let n = io::read_full(STDIN_FILENO, &mut line);
     let letter = line[0];
     if let Count::Of(count) = asking::asked(&line[..n]) {
-        if (letter == b'l') | (letter == b'o') | (letter == b'i') {
-            run(letter, count);
+        if (letter == b'l') | (letter == b'o') {
+            run(letter == b'l', count);
             return;
         }
     }
     io::write_all(
         STDERR_FILENO,
-        b"volley: say l, o or i, a blank and a count, as in: l 1000\n",
+        b"volley: say l or o, a blank and a count, as in: l 1000\n",
     );
 }

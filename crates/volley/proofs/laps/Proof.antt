@@ -4,17 +4,17 @@ use mathlib.Core.Path.{_≡_}
 use Prim.Native.Nat.{_≤_, _-_}
 use borrow.Author.Needs.{needs}
 use lib.ListN.{length}
-use Rattle.volley.proofs.list_laps.Statement.{statement}
-use Rattle.volley.proofs.list_laps.Tie as tie
+use Rattle.volley.proofs.laps.Statement.{statement}
+use Rattle.volley.proofs.laps.Tie as tie
 
 abbrev Inv-loop : tie.InvT-loop
-Inv-loop mem₀ list sum count answers at₀ right₀ counter₀ mem at right counter = (counter ≤ count) × (right ≤ counter) × (length mem ≡ length mem₀)
+Inv-loop call mem₀ list sum count at₀ right₀ counter₀ mem at right counter = (counter ≤ count) × (right ≤ counter) × (length mem ≡ length mem₀)
 
 abbrev μ-loop : tie.MeasureT-loop
-μ-loop mem₀ list sum count answers at₀ right₀ counter₀ mem at right counter = count - counter
+μ-loop call mem₀ list sum count at₀ right₀ counter₀ mem at right counter = count - counter
 
-pub list-laps-spec : {M : Type 1} → statement M
-list-laps-spec =
+pub laps-spec : {M : Type 1} → statement M
+laps-spec =
     tie.close
     (tie.spec
     Inv-loop
