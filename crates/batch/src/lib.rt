@@ -40,6 +40,7 @@ fn not_taken(bus: Bus) -> Outcome
     Outcome { bus, answer }
 }
 
+// The list is taken, and its events have led to this bus.
 fn taken(bus: Bus) -> Outcome
     ensures { λ r. ⌜ r ≡ record { bus = bus; answer = Answer.Nothing } ⌝ }
 {
