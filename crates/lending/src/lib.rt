@@ -10,7 +10,7 @@ use rules::Bus;
 use rules::Event;
 
 // So many of the events, with so many of the answer places, given as one list; and what is told of it at the front of the output.
-pub fn give(
+fn give(
     bus: Bus,
     mem: &mut [u8],
     list: [Event; 4096],
