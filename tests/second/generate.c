@@ -24,6 +24,7 @@ static int kind_of[8], length_of[8];     /* the setup */
 static int favourite[2], with_sensor;    /* slots most exchanges go to */
 static int places[4];                    /* addresses this script comes back to */
 static int limit[8][3], hysteresis[8];   /* last written: high, low, critical */
+static int resolution[8];                /* last written: 0 to 3 */
 static int lately;                       /* 0, 1 or 2: the limit written last */
 static int locked[8];                    /* lock bits written since power came */
 static int in_hand;                      /* the slot of the exchange being made */
@@ -34,6 +35,8 @@ static void forget(void)
     memset(limit, 0, sizeof limit);
     memset(hysteresis, 0, sizeof hysteresis);
     memset(locked, 0, sizeof locked);
+    for (int n = 0; n < 8; n++)
+        resolution[n] = 1;
 }
 
 /* ---- Records ------------------------------------------------------------ */
@@ -109,23 +112,50 @@ static int an_address(void)
     }
 }
 
-/* Mostly at a limit, with and without hysteresis, and the steps around it. */
+/* A limit, with or without hysteresis. */
+static int an_edge(int n)
+{
+    int edge = limit[n][one_in(2) ? lately : below(3)];
+
+    return one_in(2) ? edge - hysteresis[n] : edge;
+}
+
+static int step_of(int n) { return 8 >> resolution[n]; }
+
+/* So many half steps from there, few or none, or one sixteenth beside that. */
+static int beside(int n, int there)
+{
+    static const int halves[] = { 0, 0, 1, 1, -1, -1, 2, -2 };
+
+    return there + ONE_OF(halves) * step_of(n) / 2 + between(-1, 1);
+}
+
+/* In the middle between two steps, or one sixteenth beside that. */
+static int a_middle(int n)
+{
+    int many = one_in(2) ? between(-4, 3) : between(-80, 80);
+
+    return many * step_of(n) + step_of(n) / 2 + between(-1, 1);
+}
+
+static int within(int t) { return t < -640 ? -640 : t > 2000 ? 2000 : t; }
+
+/* Mostly around a limit, where the given one and the rounded one may be on
+ * different sides of it, or in the middle between two steps. */
 static int a_temperature(int n)
 {
     static const int ends[] = { -640, -639, -641, 2000, 1999, 2001, -32768, 32767 };
     static const int near[] = { 0, 0, 0, 1, -1, 2, -2, 3, -3, 4, -4, 8, -8 };
-    int t = limit[n][one_in(2) ? lately : below(3)];
 
-    if (one_in(2))
-        t -= hysteresis[n];
     switch (below(16)) {
     case 0: return ONE_OF(ends);
-    case 1: case 2: return between(-640, 2000);
-    case 3: return between(-9, 9);
-    case 4: t += between(-100, 100); break;
-    default: t += ONE_OF(near); break;
+    case 1: return between(-640, 2000);
+    case 2: return between(-9, 9);
+    case 3: case 4: case 5: return within(a_middle(n));
+    case 6: return within(an_edge(n) + between(-100, 100));
+    case 7: case 8: case 9: case 10: return within(an_edge(n) + ONE_OF(near));
+    default: return within(beside(n, an_edge(n)));
     }
-    return t < -640 ? -640 : t > 2000 ? 2000 : t;
 }
 
 /* ---- Disturbing and playing --------------------------------------------- */
@@ -295,8 +325,10 @@ static int a_register_value(int n, int which)
             value = between(-30, 60) * 4;
         if (!(locked[n] & (which == 4 ? 0x0080 : 0x0040)))
             limit[n][lately = which - 2] = (value & 0x0FFC) - (value & 0x1000);
-    } else if (which == 8 && one_in(3)) {
-        value &= 0xFFFC;
+    } else if (which == 8) {
+        if (one_in(2))                   /* a step that rounds something off */
+            value = (value & 0xFFFC) + below(3);
+        resolution[n] = value & 3;
     }
     return value & 0xFFFF;
 }
@@ -324,18 +356,29 @@ static void sensor_read(int n, int which)
     play();
 }
 
-/* One temperature, or several: here and there, a walk across a limit, or from
- * where its flag is clear to just over it. */
+/* From so far above or below a limit that its flag is sure, right to it. */
+static void approach(int n)
+{
+    int edge = an_edge(n);
+    int far = hysteresis[n] + between(12, 40);
+
+    record(TEMPERATURE, n, within(one_in(2) ? edge + far : edge - far));
+    if (one_in(4))
+        sensor_read(n, 5);
+    record(TEMPERATURE, n, within(beside(n, edge)));
+    sensor_read(n, 5);
+}
+
+/* One temperature, or several: to a limit, here and there, or a walk. */
 static void measure(int n)
 {
     int many = one_in(2) ? 1 : between(2, 8);
     int step = one_in(2) ? 0 : between(-4, 4);
     int t = a_temperature(n);
 
-    if (one_in(4)) {
-        many = 2;
-        step = hysteresis[n] + between(4, 12);
-        t = limit[n][one_in(2) ? 2 : below(3)] + below(4) - step;
+    if (one_in(2)) {
+        approach(n);
+        return;
     }
     for (int i = 0; i < many; i++) {
         record(TEMPERATURE, n, t);
@@ -364,8 +407,8 @@ static void sensor_write(void)
     add(STOP, 0);
     play();
     if (one_in(3))
-        sensor_read(n, one_in(4) ? 5 : which);
-    if (one_in(3))
+        sensor_read(n, one_in(which == 8 ? 2 : 4) ? 5 : which);
+    if (one_in(which == 8 ? 2 : 3))
         measure(n);
 }
 
@@ -784,6 +827,7 @@ int main(int argc, char **argv)
     }
     seed_with(strtoull(argv[1], NULL, 10));
     left = strtol(argv[2], NULL, 10);
+    forget();
     leaning = ONE_OF(leanings);
     choose_setup(setup, leaning);
     oddness = odd ? below(4) : -1;

@@ -2,7 +2,9 @@
  * The second opinion: the script program of document 01, written from that
  * document and sharing no line with the proved model.  At the few places where
  * the document is silent it takes the choices of docs/DECISIONS.md.  A power
- * cycle has a number, as request P3 ("Power lost in a write cycle") has it.
+ * cycle has a number, as request P3 ("Power lost in a write cycle") has it, and
+ * a temperature goes to the nearest step, as request P7 ("Rounding of
+ * temperature") has it.
  *
  * It follows the document's sections and uses its words.  It is meant to be
  * read beside the document, so it is plain rather than clever.  The file
@@ -348,22 +350,28 @@ static int signed_13(int bits)
     return bits >= 0x1000 ? bits - 0x2000 : bits;
 }
 
-/* The greatest multiple of step that is not above the given number. */
-static int floor_to(int given, int step)
+/* The multiple of step that is nearest to the given number; where two are
+ * equally near, the greater, below zero too (request P7). */
+static int nearest(int given, int step)
 {
     int rest = given % step;      /* has the sign of given, or is 0 */
 
     if (rest < 0)
-        rest += step;
-    return given - rest;
+        rest += step;             /* now above the multiple below */
+    if (2 * rest < step)
+        return given - rest;
+    return given - rest + step;
 }
 
+/* The flags are judged by t, the rounded number; limits, with and without
+ * hysteresis, are taken as they are. */
 static void temperature(struct slot *s, int given)
 {
     static const int step_of[4] = { 8, 4, 2, 1 };
     static const int hysteresis_of[4] = { 0, 24, 48, 96 };
     int configuration = s->reg[1];
-    int t = floor_to(given, step_of[s->reg[8]]);
+    int step = step_of[s->reg[8]];
+    int t = nearest(given, step);
     int h = hysteresis_of[(configuration & HYSTERESIS) >> 9];
     int high = signed_13(s->reg[2]);
     int low = signed_13(s->reg[3]);

@@ -1,7 +1,9 @@
--- The sensor: kept bits, locks, and the floor of a temperature.
+-- The sensor: kept bits, locks, the rounding of a temperature, and what register 05h tells.
 pub mod Words
 pub mod Masks
-pub mod Floor
+pub mod Signed
+pub mod Rounding
+pub mod Told
 pub mod SensorSteps
 pub mod Locks
 pub mod SensorKept

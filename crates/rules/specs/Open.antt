@@ -32,7 +32,7 @@ open-power = tt
 
 -- the sensor
 unfoldable pub open-sensor : Unit {0}
-unfolding Sensor.registerOf Sensor.shutDown Sensor.criticalLocked Sensor.limitsLocked Sensor.lockedWrite Sensor.configured Sensor.written Sensor.bitsOf Sensor.signedOf Sensor.stepOf Sensor.floorOf Sensor.steppedOf Sensor.hysteresisOf Sensor.loweredOf Sensor.flagOf Sensor.criticalFlag Sensor.highFlag Sensor.lowFlag Sensor.reading Sensor.converted
+unfolding Sensor.registerOf Sensor.shutDown Sensor.criticalLocked Sensor.limitsLocked Sensor.lockedWrite Sensor.configured Sensor.written Sensor.bitsOf Sensor.signedOf Sensor.stepOf Sensor.multipleBelow Sensor.multipleAbove Sensor.nearestOf Sensor.steppedOf Sensor.hysteresisOf Sensor.loweredOf Sensor.flagOf Sensor.criticalFlag Sensor.highFlag Sensor.lowFlag Sensor.reading Sensor.converted
 open-sensor = tt
 
 -- the control byte

@@ -4,7 +4,7 @@ use Prim.Native.Nat.{ℕ, _+_, _-_, _/_, _%_}
 use mathlib.Core.Bool.{Bool, true, false, cond, _||_}
 use lib.Dec.{ltb, eqb}
 use lib.Bits.{bitAnd, bitOr}
-use lib.IntN.{ℤ, pos, negsuc, _-ℤ_, _*ℤ_}
+use lib.IntN.{ℤ, pos, negsuc, _+ℤ_, _-ℤ_, _*ℤ_}
 use lib.Signed.{ltZ, leZ, shrZ}
 use Rattle.rules.specs.declared.Sensor.{Sensor}
 use Rattle.rules.specs.Fields.{withConfiguration, withHigh, withLow, withCritical, withTemperature, withResolution, withTimeout}
@@ -77,12 +77,23 @@ signedOf v = cond (ltb (v % 8192) 4096) (pos (v % 8192)) (negsuc (8191 - v % 819
 unfoldable pub stepOf : ℕ → ℕ
 stepOf r = cond (eqb r 0) 8 (cond (eqb r 1) 4 (cond (eqb r 2) 2 1))
 
--- "the value t is the greatest multiple not above the given one" (shrZ divides and rounds down; that this is the greatest multiple is proved: proofs/Registers/Floor)
-unfoldable pub floorOf : ℕ → ℤ → ℤ
-floorOf step given = shrZ given step *ℤ pos step
+-- Request P7, "Rounding of temperature", in the place of document 01's "the value t is the greatest multiple not above the given one". Around the given
+-- number stand "the multiple below" (shrZ divides and rounds down; a multiple stands below itself) and the one above.
+unfoldable pub multipleBelow : ℕ → ℤ → ℤ
+multipleBelow step given = shrZ given step *ℤ pos step
 
+unfoldable pub multipleAbove : ℕ → ℤ → ℤ
+multipleAbove step given = multipleBelow step given +ℤ pos step
+
+-- "Newer sensors round to the nearest step, halves upward": the one below where it is nearer, else the one above. That this is the nearest of all
+-- multiples, and that no other number is, is proved: proofs/Registers/Rounding.
+unfoldable pub nearestOf : ℕ → ℤ → ℤ
+nearestOf step given =
+    cond (ltZ (given -ℤ multipleBelow step given) (multipleAbove step given -ℤ given)) (multipleBelow step given) (multipleAbove step given)
+
+-- "the value t", of which the flags below are judged
 unfoldable pub steppedOf : Sensor → ℤ → ℤ
-steppedOf x given = floorOf (stepOf (x .resolution)) given
+steppedOf x given = nearestOf (stepOf (x .resolution)) given
 
 -- "bits 10:9 hysteresis h = 0, 24, 48, 96 sixteenths"
 unfoldable pub hysteresisOf : ℕ → ℕ

@@ -2,42 +2,44 @@
 ghost use mathlib.Core.Path.{_≡_};
 ghost use mathlib.Core.Bool.{cond};
 ghost use lib.IntN.{pos, _-ℤ_};
-ghost use Rattle.rules.specs.Sensor.{bitsOf, signedOf, stepOf, floorOf, hysteresisOf, flagOf, criticalFlag, highFlag, lowFlag, reading, converted};
+ghost use Rattle.rules.specs.Sensor.{bitsOf, signedOf, stepOf, nearestOf, hysteresisOf, flagOf, criticalFlag, highFlag, lowFlag, reading, converted};
 use rules::Sensor;
 
 // The number of sixteenths that bits 12:0 of v hold in two's complement.
-fn sixteenths(v: u16) -> i16
+fn sixteenths(v: u16) -> i32
     ensures { λ r. ⌜ r ≡ signedOf v ⌝ }
 {
     let low = v % 8192;
     if low < 4096 {
-        low as i16
+        low as i32
     } else {
-        low as i16 - 8192
+        low as i32 - 8192
     }
 }
 
 // Bits 12:0 of t in two's complement.
-fn bits(t: i16) -> u16
+fn bits(t: i32) -> u16
     ensures { λ r. ⌜ r ≡ bitsOf t ⌝ }
 {
     (t & 0x1FFF) as u16
 }
 
-// The greatest multiple of the resolution's step that is not above the given number, also below zero.
-fn stepped(given: i16, resolution: u8) -> i16
-    ensures { λ r. ⌜ r ≡ floorOf (stepOf resolution) given ⌝ }
+// The multiple of the resolution's step that is nearest to the given number, halves upward, also below zero: half a step more, rounded down. It
+// may stand above the greatest i16.
+fn stepped(given: i16, resolution: u8) -> i32
+    ensures { λ r. ⌜ r ≡ nearestOf (stepOf resolution) given ⌝ }
 {
+    let wide = given as i32;
     match resolution {
-        0 => (given >> 3) * 8,
-        1 => (given >> 2) * 4,
-        2 => (given >> 1) * 2,
-        _ => given,
+        0 => ((wide + 4) >> 3) * 8,
+        1 => ((wide + 2) >> 2) * 4,
+        2 => ((wide + 1) >> 1) * 2,
+        _ => wide,
     }
 }
 
 // The hysteresis that a configuration asks for, in sixteenths.
-fn hysteresis(configuration: u16) -> i16
+fn hysteresis(configuration: u16) -> i32
     ensures { λ r. ⌜ r ≡ pos (hysteresisOf configuration) ⌝ }
 {
     match configuration / 512 % 4 {
@@ -49,7 +51,7 @@ fn hysteresis(configuration: u16) -> i16
 }
 
 // A limit less the hysteresis.
-fn lowered(limit: u16, configuration: u16) -> i16
+fn lowered(limit: u16, configuration: u16) -> i32
     ensures { λ r. ⌜ r ≡ signedOf limit -ℤ pos (hysteresisOf configuration) ⌝ }
 {
     sixteenths(limit) - hysteresis(configuration)
@@ -69,7 +71,7 @@ fn flag(set: bool, cleared: bool, was: bool) -> bool
 }
 
 // Bit 15 of register 05h after the number t: set when t >= critical and cleared when t < critical - h.
-fn critical_flag(x: Sensor, t: i16) -> bool
+fn critical_flag(x: Sensor, t: i32) -> bool
     ensures { λ r. ⌜ r ≡ criticalFlag x t ⌝ }
 {
     let limit = x.critical;
@@ -82,7 +84,7 @@ fn critical_flag(x: Sensor, t: i16) -> bool
 }
 
 // Bit 14 of register 05h after the number t: set when t > high and cleared when t <= high - h.
-fn high_flag(x: Sensor, t: i16) -> bool
+fn high_flag(x: Sensor, t: i32) -> bool
     ensures { λ r. ⌜ r ≡ highFlag x t ⌝ }
 {
     let limit = x.high;
@@ -95,7 +97,7 @@ fn high_flag(x: Sensor, t: i16) -> bool
 }
 
 // Bit 13 of register 05h after the number t: set when t < low - h and cleared when t >= low.
-fn low_flag(x: Sensor, t: i16) -> bool
+fn low_flag(x: Sensor, t: i32) -> bool
     ensures { λ r. ⌜ r ≡ lowFlag x t ⌝ }
 {
     let limit = x.low;
@@ -115,7 +117,7 @@ fn raised(flag: bool, bit: u16) -> u16
 }
 
 // Register 05h after the number t: the three flags above the number's bits.
-fn reading(x: Sensor, t: i16) -> u16
+fn reading(x: Sensor, t: i32) -> u16
     ensures { λ r. ⌜ r ≡ reading x t ⌝ }
 {
     let critical = raised(critical_flag(x, t), 32768);

@@ -161,8 +161,8 @@ table =
     []
     -- 8. "6Dh with half 1: NACK."
     ∷ inMemory 1 (sent (0x6E ∷ []) ++ start ∷ byte 0x6D ∷ stop ∷ []) (acked (0 ∷ []) ++ Nothing ∷ Nack ∷ Nothing ∷ []) []
-    -- 9. "Given -1, step 4: bits 12:0 of 05h are 1FFCh."
-    ∷ heated (negsuc 0) 0x1FFC
+    -- 9. "Given -1, step 4: bits 12:0 of 05h are", by request P7, "0000h"
+    ∷ heated (negsuc 0) 0x0000
     -- 10. "Bits 12:0, given -640: 1D80h; 2000: 07D0h; 400: 0190h."
     ∷ heated (negsuc 639) 0x1D80
     ∷ heated (pos 2000) 0x07D0

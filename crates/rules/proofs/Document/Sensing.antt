@@ -4,13 +4,14 @@
 use Prim.Native.Nat.{ℕ}
 use mathlib.Core.Path.{_≡_, refl}
 use mathlib.Core.Bool.{Bool, true, false, _||_}
-use mathlib.Core.List.{List, [], _∷_, map}
+use mathlib.Core.List.{List, [], _∷_, _++_, map}
 use lib.Bits.{bitAnd}
-use lib.IntN.{ℤ, pos, negsuc}
+use lib.IntN.{ℤ, pos, negsuc, negℤ}
+use lib.ListN.{replicate}
 use Rattle.rules.specs.declared.Sensor.{Sensor}
 use Rattle.rules.specs.Open.{open-all}
 use Rattle.rules.specs.Fields.{withConfiguration, withHigh, withLow, withCritical, withTemperature, withResolution, withTimeout}
-use Rattle.rules.specs.Sensor.{registerOf, shutDown, criticalLocked, limitsLocked, configured, written, bitsOf, signedOf, stepOf, floorOf, steppedOf, hysteresisOf, criticalFlag, highFlag, lowFlag, reading, converted}
+use Rattle.rules.specs.Sensor.{registerOf, shutDown, criticalLocked, limitsLocked, configured, written, bitsOf, signedOf, stepOf, nearestOf, steppedOf, hysteresisOf, criticalFlag, highFlag, lowFlag, reading, converted}
 
 -- a sensor with a value of its own in every register that can change, unlocked
 abbrev full : Sensor
@@ -69,10 +70,35 @@ pub steps : map stepOf (0 ∷ 1 ∷ 2 ∷ 3 ∷ []) ≡ 8 ∷ 4 ∷ 2 ∷ 1 ∷ 
 unfolding open-all
 steps = refl
 
--- "the value t is the greatest multiple not above the given one", on both sides of zero
-pub floors : map (floorOf 8) (pos 0 ∷ pos 7 ∷ pos 8 ∷ negsuc 0 ∷ negsuc 7 ∷ negsuc 8 ∷ []) ≡ pos 0 ∷ pos 0 ∷ pos 8 ∷ negsuc 7 ∷ negsuc 7 ∷ negsuc 15 ∷ []
+-- request P7, "round to the nearest step, halves upward": every rest of every step, on both sides of zero, halves among them. Each multiple is given for as many numbers
+-- as a step has, the first of them half a step below it.
+abbrev minus : ℕ → ℤ
+minus n = negℤ (pos n)
+
+abbrev around : List ℤ
+around = minus 12 ∷ minus 11 ∷ minus 10 ∷ minus 9 ∷ minus 8 ∷ minus 7 ∷ minus 6 ∷ minus 5 ∷ minus 4 ∷ minus 3 ∷ minus 2 ∷ minus 1 ∷ pos 0 ∷ pos 1 ∷ pos 2 ∷ pos 3 ∷ pos 4 ∷ pos 5 ∷ pos 6 ∷ pos 7 ∷ pos 8 ∷ pos 9 ∷ pos 10 ∷ pos 11 ∷ pos 12 ∷ []
+
+pub roundings : map (λ step. map (nearestOf step) around) (8 ∷ 4 ∷ 2 ∷ 1 ∷ [])
+    ≡ (replicate 8 (minus 8) ++ replicate 8 (pos 0) ++ replicate 8 (pos 8) ++ replicate 1 (pos 16))
+    ∷ (replicate 2 (minus 12) ++ replicate 4 (minus 8) ++ replicate 4 (minus 4) ++ replicate 4 (pos 0) ++ replicate 4 (pos 4) ++ replicate 4 (pos 8) ++ replicate 3 (pos 12))
+    ∷ (replicate 1 (minus 12) ++ replicate 2 (minus 10) ++ replicate 2 (minus 8) ++ replicate 2 (minus 6) ++ replicate 2 (minus 4) ++ replicate 2 (minus 2) ++ replicate 2 (pos 0) ++ replicate 2 (pos 2) ++ replicate 2 (pos 4) ++ replicate 2 (pos 6) ++ replicate 2 (pos 8) ++ replicate 2 (pos 10) ++ replicate 2 (pos 12))
+    ∷ around
+    ∷ []
 unfolding open-all
-floors = refl
+roundings = refl
+
+-- and at the ends of the given temperature's range
+abbrev ends : List ℤ
+ends = minus 640 ∷ minus 639 ∷ minus 637 ∷ minus 636 ∷ minus 635 ∷ pos 1995 ∷ pos 1996 ∷ pos 1997 ∷ pos 1999 ∷ pos 2000 ∷ []
+
+pub range-ends : map (λ step. map (nearestOf step) ends) (8 ∷ 4 ∷ 2 ∷ 1 ∷ [])
+    ≡ (minus 640 ∷ minus 640 ∷ minus 640 ∷ minus 632 ∷ minus 632 ∷ pos 1992 ∷ pos 2000 ∷ pos 2000 ∷ pos 2000 ∷ pos 2000 ∷ [])
+    ∷ (minus 640 ∷ minus 640 ∷ minus 636 ∷ minus 636 ∷ minus 636 ∷ pos 1996 ∷ pos 1996 ∷ pos 1996 ∷ pos 2000 ∷ pos 2000 ∷ [])
+    ∷ (minus 640 ∷ minus 638 ∷ minus 636 ∷ minus 636 ∷ minus 634 ∷ pos 1996 ∷ pos 1996 ∷ pos 1998 ∷ pos 2000 ∷ pos 2000 ∷ [])
+    ∷ ends
+    ∷ []
+unfolding open-all
+range-ends = refl
 
 -- "Bits 12:0 hold t in two's complement; limits are read so too."
 pub bits : map bitsOf (pos 0 ∷ pos 1 ∷ pos 4095 ∷ negsuc 0 ∷ negsuc 4095 ∷ []) ≡ 0x0000 ∷ 0x0001 ∷ 0x0FFF ∷ 0x1FFF ∷ 0x1000 ∷ []
@@ -115,6 +141,19 @@ low-ends = refl
 pub own-bits : map (λ was. reading (limited was) (pos 1270)) (0x8000 ∷ 0x4000 ∷ 0x2000 ∷ 0x1FFF ∷ []) ≡ 0x04F6 ∷ 0x44F6 ∷ 0x04F6 ∷ 0x04F6 ∷ []
 unfolding open-all
 own-bits = refl
+
+-- request P7, "mend the flags": in steps of 8, with high 1284, low 264, critical 1544 and h = 24, each flag set and cleared at its ends by the rounded number, and by limits
+-- and limits less h that are not rounded
+abbrev coarse : ℕ → Sensor
+coarse was = withTemperature was (withResolution 0 (withConfiguration 0x0200 (withHigh 0x0504 (withLow 0x0108 (withCritical 0x0608 full)))))
+
+pub judged : map (λ was. map (λ given. converted (coarse was) given .temperature)
+    (pos 235 ∷ pos 236 ∷ pos 259 ∷ pos 260 ∷ pos 1259 ∷ pos 1260 ∷ pos 1283 ∷ pos 1284 ∷ pos 1515 ∷ pos 1516 ∷ pos 1539 ∷ pos 1540 ∷ [])) (0xE000 ∷ 0x0000 ∷ [])
+    ≡ (0x20E8 ∷ 0x20F0 ∷ 0x2100 ∷ 0x0108 ∷ 0x04E8 ∷ 0x44F0 ∷ 0x4500 ∷ 0x4508 ∷ 0x45E8 ∷ 0xC5F0 ∷ 0xC600 ∷ 0xC608 ∷ [])
+    ∷ (0x20E8 ∷ 0x00F0 ∷ 0x0100 ∷ 0x0108 ∷ 0x04E8 ∷ 0x04F0 ∷ 0x0500 ∷ 0x4508 ∷ 0x45E8 ∷ 0x45F0 ∷ 0x4600 ∷ 0xC608 ∷ [])
+    ∷ []
+unfolding open-all
+judged = refl
 
 -- limits below zero: high -16, low -32, critical -8, h = 0
 abbrev frozen : Sensor

@@ -4,7 +4,7 @@ use borrow.Author.Needs.{needs}
 use borrow.Author.Tests.{eq-eqb, ne-eqb}
 use Rattle.rules.specs.Fields.{withTemperature}
 use Rattle.rules.specs.Sensor.{shutDown, steppedOf, converted}
-use Rattle.sensor.proofs.Signed.{back}
+use Rattle.sensor.proofs.Signed.{back, wide-back}
 use Rattle.sensor.proofs.converted.Statement.{statement}
 use Rattle.sensor.proofs.converted.Tie as tie
 
@@ -18,7 +18,7 @@ returns-2 c =
     let t = c .before .stepped in
     let running = c .before .before in
     let s = running .before .before in
-    rw (c .reading .ensures, back (t .result) (t .ok), t .ensures, back (s .args .given) (s .fits .given .sfits), ne-eqb _ _ (running .if1 .left))
+    rw (c .reading .ensures, wide-back (t .result) (t .ok), t .ensures, back (s .args .given) (s .fits .given .sfits), ne-eqb _ _ (running .if1 .left))
 
 pub converted-spec : {M : Type 1} → statement M
 converted-spec = tie.close (tie.spec returns (λ c κs. search needs) (λ c κs. search needs) returns-2)

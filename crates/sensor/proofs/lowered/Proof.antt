@@ -6,11 +6,11 @@ use borrow.Author.Needs.{needs}
 use lib.Dec.{eqb, ltb}
 use lib.IntN.{ℤ, pos, _-ℤ_}
 use lib.Signed.{mag}
-use mir.Syntax.{w16}
+use mir.Syntax.{w32}
 use mir.Val.{SFits}
 use Rattle.lists.specs.Tests.{cond-cases}
 use Rattle.rules.specs.Sensor.{signedOf, hysteresisOf}
-use Rattle.sensor.proofs.Signed.{back, minus-mag}
+use Rattle.sensor.proofs.Signed.{wide-back, minus-mag}
 use Rattle.sensor.proofs.lowered.Statement.{statement}
 use Rattle.sensor.proofs.lowered.Tie as tie
 
@@ -28,20 +28,20 @@ hysteresis-lt c =
     (λ e. cond-cases Small (eqb (c / 512 % 4) 1) (λ e. omega arith)
     (λ e. cond-cases Small (eqb (c / 512 % 4) 2) (λ e. omega arith) (λ e. omega arith)))
 
-fits : (v c : ℕ) → SFits w16 (signedOf v -ℤ pos (hysteresisOf c))
-fits v c = record { sfits = minus-mag (signedOf v) (hysteresisOf c) 32768 (omega (arith, signed-mag v, hysteresis-lt c)) }
+fits : (v c : ℕ) → SFits w32 (signedOf v -ℤ pos (hysteresisOf c))
+fits v c = record { sfits = minus-mag (signedOf v) (hysteresisOf c) 2147483648 (omega (arith, signed-mag v, hysteresis-lt c)) }
 
 sub-result : tie.Need-sub-result
 sub-result c =
     let a = c .before .sixteenths in
     let h = c .hysteresis in
-    rw (back (a .result) (a .ok), back (h .result) (h .ok), a .ensures, h .ensures) (fits _ _)
+    rw (wide-back (a .result) (a .ok), wide-back (h .result) (h .ok), a .ensures, h .ensures) (fits _ _)
 
 returns : tie.Need-returns
 returns c =
     let a = c .before .sixteenths in
     let h = c .hysteresis in
-    rw (back (a .result) (a .ok), back (h .result) (h .ok), a .ensures, h .ensures) (back _ (fits _ _ .sfits))
+    rw (wide-back (a .result) (a .ok), wide-back (h .result) (h .ok), a .ensures, h .ensures) (wide-back _ (fits _ _ .sfits))
 
 pub lowered-spec : {M : Type 1} → statement M
 lowered-spec = tie.close (tie.spec (λ c κs. search needs) (λ c κs. search needs) sub-result returns)

@@ -6,7 +6,7 @@ use mathlib.Core.Bool.{Bool, true, false, cond}
 use borrow.Author.Needs.{needs}
 use mir.Facts.{fits-le}
 use Rattle.rules.specs.Sensor.{reading}
-use Rattle.sensor.proofs.Signed.{back, bits-lt}
+use Rattle.sensor.proofs.Signed.{wide-back, bits-lt}
 use Rattle.sensor.proofs.reading.Statement.{statement}
 use Rattle.sensor.proofs.reading.Tie as tie
 
@@ -33,7 +33,7 @@ add-result-3 c =
     let high = low .before .before in
     let critical = high .before .before in
     let s = critical .before in
-    rw (c .bits .ensures, back (s .args .t) (s .fits .t .sfits))
+    rw (c .bits .ensures, wide-back (s .args .t) (s .fits .t .sfits))
     (record { fits = omega (arith, flags-le (critical .critical-flag .result) (high .high-flag .result) (low .low-flag .result), bits-lt (s .args .t)) })
 
 returns : tie.Need-returns
@@ -51,7 +51,7 @@ returns c =
       high .high-flag .ensures,
       high .before .raised .ensures,
       critical .critical-flag .ensures,
-      back (s .args .t) (s .fits .t .sfits),
+      wide-back (s .args .t) (s .fits .t .sfits),
     )
 
 pub reading-spec : {M : Type 1} → statement M

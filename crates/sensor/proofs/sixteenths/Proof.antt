@@ -6,7 +6,7 @@ use mathlib.Core.Path.{ap}
 use borrow.Author.Needs.{needs}
 use borrow.Author.Tests.{lt-ltb, le-ltb}
 use lib.IntN.{negsuc}
-use mir.Syntax.{w16}
+use mir.Syntax.{w32}
 use mir.Facts.{toZ-pos, toZ-neg}
 use Rattle.rules.specs.Sensor.{signedOf}
 use Rattle.sensor.proofs.Signed.{under}
@@ -16,17 +16,17 @@ use Rattle.sensor.proofs.sixteenths.Tie as tie
 sub-result : tie.Need-sub-result
 sub-result c =
     let low = c .before .args .v % 8192 in
-    rw (toZ-pos w16 {n = low} (omega arith), under low 8192 (omega arith)) (record { sfits = omega arith })
+    rw (toZ-pos w32 {n = low} (omega arith), under low 8192 (omega arith)) (record { sfits = omega arith })
 
 returns : tie.Need-returns
 unfolding signedOf
-returns c = rw (toZ-pos w16 {n = c .before .args .v % 8192} (omega arith), lt-ltb _ _ (c .if1 .taken))
+returns c = rw (toZ-pos w32 {n = c .before .args .v % 8192} (omega arith), lt-ltb _ _ (c .if1 .taken))
 
 returns-2 : tie.Need-returns-2
 unfolding signedOf
 returns-2 c =
     let low = c .before .args .v % 8192 in
-    rw (toZ-pos w16 {n = low} (omega arith), under low 8192 (omega arith), toZ-neg w16 (8192 - suc low) (omega arith), le-ltb low 4096 (c .if1 .left))
+    rw (toZ-pos w32 {n = low} (omega arith), under low 8192 (omega arith), toZ-neg w32 (8192 - suc low) (omega arith), le-ltb low 4096 (c .if1 .left))
     (ap negsuc (omega arith))
 
 pub sixteenths-spec : {M : Type 1} → statement M
