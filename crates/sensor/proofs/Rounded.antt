@@ -3,7 +3,7 @@
 use Prim.Native.Nat.{ℕ, zero, suc, _+_, _*_, _/_, _<_, _≤_}
 use native.Mathlib.Nat.{div-mul-le-self}
 use native.Mathlib.Omega.{arith}
-use mathlib.Core.Path.{_≡_, refl, sym}
+use mathlib.Core.Path.{_≡_, refl, sym, _∙_}
 use lib.IntN.{ℤ, pos, negsuc, negℤ, _+ℤ_, _*ℤ_}
 use lib.Signed.{mag, shrZ, mag-shr}
 use mir.Syntax.{w16, w32}
@@ -33,28 +33,29 @@ rounded k some z =
     let n = natural k in
     nearest-only m (omega arith) z t (nearestOf m z) (bounded m (omega arith) z t (shrZ w m, refl) (omega arith) (omega arith)) (nearest-is m (omega arith) z)
 
-pub rounded-one : (z : ℤ) → nearestOf 1 z ≡ z
-rounded-one z = nearest-self 1 (omega arith) z (z, sym (same (z *ℤ pos 1) z (omega (arith, times z 1))))
-
 -- a number's 16 bits taken as 32
 abbrev widened : ℤ → ℤ
 widened z = toZ w32 (ofZ w32 (toZ w16 (ofZ w16 z)))
 
-module _ (k : ℕ) (some : 0 < k) (small : k < 8) (z : ℤ) (h : mag z < 32768) where
-  widened-is : widened z ≡ z
-  widened-is = rw (back z h) (wide-back z (omega arith))
+widened-is : (z : ℤ) → SFits w16 z → widened z ≡ z
+widened-is z h = rw (back z (h .sfits)) (wide-back z (omega (arith, h .sfits)))
 
+-- in steps of 1 the number itself is the nearest
+pub single-is : (z : ℤ) → SFits w16 z → widened z ≡ nearestOf 1 z
+single-is z h = widened-is z h ∙ sym (nearest-self 1 (omega arith) z (z, sym (same (z *ℤ pos 1) z (omega (arith, times z 1)))))
+
+module _ (k : ℕ) (some : 0 < k) (small : k < 8) (z : ℤ) (h : SFits w16 z) where
   sum-mag : mag (z +ℤ pos k) < 40000
-  sum-mag = plus-mag z k 40000 (omega arith)
+  sum-mag = plus-mag z k 40000 (omega (arith, h .sfits))
 
   pub sum-fits : SFits w32 (widened z +ℤ pos k)
-  sum-fits = rw widened-is (record { sfits = omega (arith, sum-mag) })
+  sum-fits = rw (widened-is z h) (record { sfits = omega (arith, sum-mag) })
 
   multiple-mag : mag (shrZ (z +ℤ pos k) (2 * k) *ℤ pos (2 * k)) < 2147483648
   multiple-mag = omega (arith, sum-mag, below-mag (2 * k) (z +ℤ pos k))
 
   shifted-is : toZ w32 (ofZ w32 (shrZ (toZ w32 (ofZ w32 (widened z +ℤ pos k))) (2 * k))) ≡ shrZ (z +ℤ pos k) (2 * k)
-  shifted-is = rw (widened-is, wide-back (z +ℤ pos k) (omega (arith, sum-mag))) (wide-back _ (omega (arith, sum-mag, mag-shr (z +ℤ pos k) (2 * k))))
+  shifted-is = rw (widened-is z h, wide-back (z +ℤ pos k) (omega (arith, sum-mag))) (wide-back _ (omega (arith, sum-mag, mag-shr (z +ℤ pos k) (2 * k))))
 
   pub product-fits : SFits w32 (toZ w32 (ofZ w32 (shrZ (toZ w32 (ofZ w32 (widened z +ℤ pos k))) (2 * k))) *ℤ pos (2 * k))
   product-fits = rw shifted-is (record { sfits = multiple-mag })

@@ -1,25 +1,29 @@
--- `sensor::stepped`: one law over the step, at the steps 8, 4, 2; at 1 the floor is the number.
+-- `sensor::stepped`: one law over half the step, at the halves 4, 2, 1; at steps of 1 the number itself is the nearest.
 -- Assumes nothing.
 use native.Mathlib.Omega.{arith}
-use mathlib.Core.Path.{refl, sym}
 use borrow.Author.Tests.{ne-eqb}
-use mir.Facts.{toZ-ofZ}
 use Rattle.rules.specs.Sensor.{stepOf}
-use Rattle.sensor.proofs.Signed.{step-fits, step-is, floor-one}
+use Rattle.sensor.proofs.Signed.{back}
+use Rattle.sensor.proofs.Rounded.{sum-fits, product-fits, product-is, single-is}
 use Rattle.sensor.proofs.stepped.Statement.{statement}
 use Rattle.sensor.proofs.stepped.Tie as tie
+
+cast-wide : tie.Need-cast-wide
+cast-wide c = rw (back (c .args .given) (c .fits .given .sfits)) (record { sfits = omega (arith, c .fits .given .sfits) })
 
 pub stepped-spec : {M : Type 1} → statement M
 unfolding stepOf
 stepped-spec =
     tie.close
     (tie.spec
-    (λ c. step-fits 8 4096 (omega arith) refl _ (c .before .fits .given))
-    (λ c. step-fits 4 8192 (omega arith) refl _ (c .before .fits .given))
-    (λ c. step-fits 2 16384 (omega arith) refl _ (c .before .fits .given))
-    (λ c. rw (c .match .keys1) (step-is 8 4096 (omega arith) refl _ (c .before .fits .given)))
-    (λ c. rw (c .match .keys2) (step-is 4 8192 (omega arith) refl _ (c .before .fits .given)))
-    (λ c. rw (c .match .keys3) (step-is 2 16384 (omega arith) refl _ (c .before .fits .given)))
-    (λ c. let r = c .match .rest in
-    simp (ne-eqb _ _ (r .0 .0 .1), ne-eqb _ _ (r .0 .1), ne-eqb _ _ (r .1), toZ-ofZ (c .before .fits .given))
-    (sym (floor-one (c .before .args .given)))))
+    cast-wide
+    (λ c. sum-fits 4 (omega arith) (omega arith) _ (c .before .fits .given))
+    (λ c. product-fits 4 (omega arith) (omega arith) _ (c .before .fits .given))
+    (λ c. sum-fits 2 (omega arith) (omega arith) _ (c .before .fits .given))
+    (λ c. product-fits 2 (omega arith) (omega arith) _ (c .before .fits .given))
+    (λ c. sum-fits 1 (omega arith) (omega arith) _ (c .before .fits .given))
+    (λ c. product-fits 1 (omega arith) (omega arith) _ (c .before .fits .given))
+    (λ c. rw (c .match .keys1) (product-is 4 (omega arith) (omega arith) _ (c .before .fits .given)))
+    (λ c. rw (c .match .keys2) (product-is 2 (omega arith) (omega arith) _ (c .before .fits .given)))
+    (λ c. rw (c .match .keys3) (product-is 1 (omega arith) (omega arith) _ (c .before .fits .given)))
+    (λ c. let r = c .match .rest in rw (ne-eqb _ _ (r .0 .0 .1), ne-eqb _ _ (r .0 .1), ne-eqb _ _ (r .1)) (single-is _ (c .before .fits .given))))
