@@ -44,21 +44,26 @@ widened-is z h = rw (back z (h .sfits)) (wide-back z (omega (arith, h .sfits)))
 pub single-is : (z : ℤ) → SFits w16 z → widened z ≡ nearestOf 1 z
 single-is z h = widened-is z h ∙ sym (nearest-self 1 (omega arith) z (z, sym (same (z *ℤ pos 1) z (omega (arith, times z 1)))))
 
-module _ (k : ℕ) (some : 0 < k) (small : k < 8) (z : ℤ) (h : SFits w16 z) where
+-- a small number added, a small step divided by and multiplied with: all of it fits
+module _ (k m : ℕ) (small : k + m < 100) (z : ℤ) (h : SFits w16 z) where
   sum-mag : mag (z +ℤ pos k) < 40000
   sum-mag = plus-mag z k 40000 (omega (arith, h .sfits))
 
   pub sum-fits : SFits w32 (widened z +ℤ pos k)
   sum-fits = rw (widened-is z h) (record { sfits = omega (arith, sum-mag) })
 
-  multiple-mag : mag (shrZ (z +ℤ pos k) (2 * k) *ℤ pos (2 * k)) < 2147483648
-  multiple-mag = omega (arith, sum-mag, below-mag (2 * k) (z +ℤ pos k))
+  multiple-mag : mag (shrZ (z +ℤ pos k) m *ℤ pos m) < 2147483648
+  multiple-mag = omega (arith, sum-mag, below-mag m (z +ℤ pos k))
 
-  shifted-is : toZ w32 (ofZ w32 (shrZ (toZ w32 (ofZ w32 (widened z +ℤ pos k))) (2 * k))) ≡ shrZ (z +ℤ pos k) (2 * k)
-  shifted-is = rw (widened-is z h, wide-back (z +ℤ pos k) (omega (arith, sum-mag))) (wide-back _ (omega (arith, sum-mag, mag-shr (z +ℤ pos k) (2 * k))))
+  shifted-is : toZ w32 (ofZ w32 (shrZ (toZ w32 (ofZ w32 (widened z +ℤ pos k))) m)) ≡ shrZ (z +ℤ pos k) m
+  shifted-is = rw (widened-is z h, wide-back (z +ℤ pos k) (omega (arith, sum-mag))) (wide-back _ (omega (arith, sum-mag, mag-shr (z +ℤ pos k) m)))
 
-  pub product-fits : SFits w32 (toZ w32 (ofZ w32 (shrZ (toZ w32 (ofZ w32 (widened z +ℤ pos k))) (2 * k))) *ℤ pos (2 * k))
+  pub product-fits : SFits w32 (toZ w32 (ofZ w32 (shrZ (toZ w32 (ofZ w32 (widened z +ℤ pos k))) m)) *ℤ pos m)
   product-fits = rw shifted-is (record { sfits = multiple-mag })
 
-  pub product-is : toZ w32 (ofZ w32 (toZ w32 (ofZ w32 (shrZ (toZ w32 (ofZ w32 (widened z +ℤ pos k))) (2 * k))) *ℤ pos (2 * k))) ≡ nearestOf (2 * k) z
-  product-is = rw (shifted-is, wide-back (shrZ (z +ℤ pos k) (2 * k) *ℤ pos (2 * k)) multiple-mag) (rounded k some z)
+  product-is : toZ w32 (ofZ w32 (toZ w32 (ofZ w32 (shrZ (toZ w32 (ofZ w32 (widened z +ℤ pos k))) m)) *ℤ pos m)) ≡ shrZ (z +ℤ pos k) m *ℤ pos m
+  product-is = rw (shifted-is, wide-back (shrZ (z +ℤ pos k) m *ℤ pos m) multiple-mag)
+
+pub rounded-is : (k : ℕ) → 0 < k → k < 30 → (z : ℤ) → SFits w16 z
+    → toZ w32 (ofZ w32 (toZ w32 (ofZ w32 (shrZ (toZ w32 (ofZ w32 (widened z +ℤ pos k))) (2 * k))) *ℤ pos (2 * k))) ≡ nearestOf (2 * k) z
+rounded-is k some small z h = product-is k (2 * k) (omega arith) z h ∙ rounded k some z

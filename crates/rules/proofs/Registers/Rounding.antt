@@ -1,10 +1,10 @@
 -- Request P7, "round to the nearest step, halves upward": what the definition gives is that multiple and no other, proved once over the step.
 -- Assumes nothing.
 use Prim.Native.Nat.{ℕ, suc, _+_, _-_, _*_, _/_, _%_, _≤_, _<_}
-use native.Mathlib.Nat.{div-add-mod', mod-lt, mul-le-mul-right, lt-of-mul-lt-mul-right}
+use native.Mathlib.Nat.{div-add-mod', mod-lt, mul-le-mul-right, lt-of-mul-lt-mul-right, le-antisymm}
 use native.Mathlib.Omega.{arith}
 use mathlib.Core.Path.{_≡_, refl, sym, ap, _∙_}
-use mathlib.Core.Bool.{true, false}
+use mathlib.Core.Bool.{false}
 use borrow.Author.Tests.{ltb-true, ltb-false}
 use lib.Dec.{T, eqb, ltb}
 use lib.IntN.{ℤ, pos, negsuc, sucℤ, natAbs, _+ℤ_, _-ℤ_, _*ℤ_, sucℤ-*ℤ}
@@ -29,6 +29,14 @@ pub record InWords (step : ℕ) (given t : ℤ) : Type 0 where
   pub multiple : Multiple step t
   pub nearest : (u : ℤ) → Multiple step u → natAbs (given -ℤ t) ≤ natAbs (given -ℤ u)
   pub upward : (u : ℤ) → Multiple step u → natAbs (given -ℤ u) ≡ natAbs (given -ℤ t) → T (leZ u t)
+
+-- the words alone leave one number
+pub words-only : (step : ℕ) (given t u : ℤ) → InWords step given t → InWords step given u → t ≡ u
+words-only step given t u a b =
+    let e = le-antisymm (a .nearest u (b .multiple)) (b .nearest t (a .multiple)) in
+    let l = le-to t u (b .upward t (a .multiple) e) in
+    let g = le-to u t (a .upward u (b .multiple) (sym e)) in
+    same t u (omega arith)
 
 -- z stands less than a step above b
 pub record Above (step : ℕ) (b z : ℤ) : Type 0 where
@@ -124,13 +132,14 @@ module _ (m : ℕ) (some : 0 < m) where
   pub nearest-self : (t : ℤ) → Multiple m t → nearestOf m t ≡ t
   nearest-self t q = nearest-only t (nearestOf m t) t (nearest-is t) (bounded t t q (omega arith) (omega arith))
 
-  -- in words: a multiple that is not t stands a whole step from it, and t at most half a step from the given number
+  -- of two multiples one is not above the other, or a whole step above it at least
   either : {P : Type 0} (t u : ℤ) → Multiple m t → Multiple m u → (up u + down t ≤ up t + down u → P) → (up t + down u + m ≤ up u + down t → P) → P
   either t u p q f g =
       let a = up u + down t in
       let b = up t + down u + m in
       by-test (ltb a b) (λ e. f (in-order u t q p (ltb-true a b e))) (λ e. g (ltb-false a b e))
 
+  -- in words: t stands at most half a step from the given number, and another multiple a whole step from t
   module _ (z t : ℤ) (n : Nearest m z t) (u : ℤ) (q : Multiple m u) where
     within : (up z + down t ≤ natAbs (z -ℤ u) + up t + down z) × (up t + down z ≤ natAbs (z -ℤ u) + up z + down t)
     within =

@@ -4,7 +4,7 @@ use native.Mathlib.Omega.{arith}
 use borrow.Author.Tests.{ne-eqb}
 use Rattle.rules.specs.Sensor.{stepOf}
 use Rattle.sensor.proofs.Signed.{back}
-use Rattle.sensor.proofs.Rounded.{sum-fits, product-fits, product-is, single-is}
+use Rattle.sensor.proofs.Rounded.{sum-fits, product-fits, rounded-is, single-is}
 use Rattle.sensor.proofs.stepped.Statement.{statement}
 use Rattle.sensor.proofs.stepped.Tie as tie
 
@@ -17,13 +17,13 @@ stepped-spec =
     tie.close
     (tie.spec
     cast-wide
-    (λ c. sum-fits 4 (omega arith) (omega arith) _ (c .before .fits .given))
-    (λ c. product-fits 4 (omega arith) (omega arith) _ (c .before .fits .given))
-    (λ c. sum-fits 2 (omega arith) (omega arith) _ (c .before .fits .given))
-    (λ c. product-fits 2 (omega arith) (omega arith) _ (c .before .fits .given))
-    (λ c. sum-fits 1 (omega arith) (omega arith) _ (c .before .fits .given))
-    (λ c. product-fits 1 (omega arith) (omega arith) _ (c .before .fits .given))
-    (λ c. rw (c .match .keys1) (product-is 4 (omega arith) (omega arith) _ (c .before .fits .given)))
-    (λ c. rw (c .match .keys2) (product-is 2 (omega arith) (omega arith) _ (c .before .fits .given)))
-    (λ c. rw (c .match .keys3) (product-is 1 (omega arith) (omega arith) _ (c .before .fits .given)))
+    (λ c. sum-fits _ 0 (omega arith) _ (c .before .fits .given))
+    (λ c. product-fits _ _ (omega arith) _ (c .before .fits .given))
+    (λ c. sum-fits _ 0 (omega arith) _ (c .before .fits .given))
+    (λ c. product-fits _ _ (omega arith) _ (c .before .fits .given))
+    (λ c. sum-fits _ 0 (omega arith) _ (c .before .fits .given))
+    (λ c. product-fits _ _ (omega arith) _ (c .before .fits .given))
+    (λ c. rw (c .match .keys1) (rounded-is 4 (omega arith) (omega arith) _ (c .before .fits .given)))
+    (λ c. rw (c .match .keys2) (rounded-is 2 (omega arith) (omega arith) _ (c .before .fits .given)))
+    (λ c. rw (c .match .keys3) (rounded-is 1 (omega arith) (omega arith) _ (c .before .fits .given)))
     (λ c. let r = c .match .rest in rw (ne-eqb _ _ (r .0 .0 .1), ne-eqb _ _ (r .0 .1), ne-eqb _ _ (r .1)) (single-is _ (c .before .fits .given))))
