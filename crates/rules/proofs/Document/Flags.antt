@@ -1,14 +1,13 @@
 -- Document 01, "Sensor": a flag stays between its two ends, and no temperature changes what a read drives.
 -- Assumes nothing.
-use Prim.Native.Nat.{ℕ, zero, suc, _-_, _/_, _%_}
+use Prim.Native.Nat.{ℕ, _/_, _%_}
 use native.Mathlib.Omega.{arith}
-use mathlib.Core.Path.{_≡_, refl, sym, _∙_, ap, subst}
+use mathlib.Core.Path.{_≡_, refl, sym, _∙_}
 use mathlib.Core.Bool.{Bool, true, false, false≢true}
 use mathlib.Core.List.{List}
-use lib.Dec.{eqb, ltb}
-use lib.IntN.{ℤ, pos, negsuc, _-ℤ_}
+use lib.Dec.{eqb}
+use lib.IntN.{ℤ, pos, _-ℤ_}
 use lib.Signed.{ltZ, leZ}
-use borrow.Author.Tests.{ltb-true, leb-true, lt-ltb, le-leb, lt-leb, le-ltb}
 use Rattle.lists.specs.Tests.{cond-cases, by-test}
 use Rattle.rules.specs.declared.Act.the-variants.{Temperature}
 use Rattle.rules.specs.declared.Phase.{Phase}
@@ -20,6 +19,7 @@ use Rattle.rules.specs.Modelled.{absent, sensing, addressOf}
 use Rattle.rules.specs.Fields.{withSensor}
 use Rattle.rules.specs.Sensor.{signedOf, hysteresisOf, loweredOf, flagOf, criticalFlag, highFlag, lowFlag, converted}
 use Rattle.rules.specs.Slot.{standing, drivenIn, presentNext, slotNext, driven}
+use Rattle.rules.proofs.Registers.Signed.{natural, less, le-to, le-from, lt-to, lt-from, holds, fails}
 use Rattle.rules.proofs.Registers.Words.{word-fixed}
 use Rattle.rules.proofs.Run.Cases.{next-cases}
 
@@ -51,16 +51,10 @@ sensor-bytes-fixed n k t s m =
 
 -- signed tests
 below : (a b : ℤ) → ltZ a b ≡ true → leZ b a ≡ false
-below (pos a) (pos b) e = lt-leb b a (ltb-true a b e)
-below (pos a) (negsuc b) e = absurd (false≢true e)
-below (negsuc a) (pos b) e = refl
-below (negsuc a) (negsuc b) e = lt-leb a b (ltb-true b a e)
+below a b e = fails (leZ b a) (λ h. omega (arith, lt-to a b (rw e tt), le-to b a h))
 
 notBelow : (a b : ℤ) → leZ a b ≡ true → ltZ b a ≡ false
-notBelow (pos a) (pos b) e = le-ltb b a (leb-true a b e)
-notBelow (pos a) (negsuc b) e = absurd (false≢true e)
-notBelow (negsuc a) (pos b) e = refl
-notBelow (negsuc a) (negsuc b) e = le-ltb a b (leb-true b a e)
+notBelow a b e = fails (ltZ b a) (λ h. omega (arith, le-to a b (rw e tt), lt-to b a h))
 
 -- "otherwise each stays": between a limit less h and the limit a flag is what it was
 stays : (set clear was : Bool) → set ≡ false → clear ≡ false → flagOf set clear was ≡ was
@@ -81,23 +75,11 @@ module _ (x : sensor.Sensor) (t : ℤ) where
   low-stays e f = stays _ _ _ (notBelow (loweredOf x (x .low)) t f) (below t (signedOf (x .low)) e)
 
 -- a limit less h is not above the limit
-minus-none : (c : ℤ) → c -ℤ pos 0 ≡ c
-minus-none (pos a) = ap pos (omega arith)
-minus-none (negsuc a) = simp (lt-ltb 0 (suc a) (omega arith)) (ap negsuc (omega arith))
-
 lower-below : (t c : ℤ) (h : ℕ) → ltZ t (c -ℤ pos h) ≡ true → ltZ t c ≡ true
-lower-below t c zero e = subst (λ (z : ℤ). ltZ t z ≡ true) (minus-none c) e
-lower-below (pos b) (pos a) (suc k) e = by-test (ltb a (suc k)) (λ f. absurd (false≢true (rw f at e))) (λ f. let g = ltb-true b (a - suc k) (rw f at e) in lt-ltb b a (omega arith))
-lower-below (negsuc b) (pos a) (suc k) e = refl
-lower-below (pos b) (negsuc a) (suc k) e = e
-lower-below (negsuc b) (negsuc a) (suc k) e = let g = ltb-true _ b e in lt-ltb a b (omega arith)
+lower-below t c h e = holds (ltZ t c) (lt-from t c (omega (arith, lt-to t (c -ℤ pos h) (rw e tt), less c (pos h), natural h)))
 
 lower-upTo : (t c : ℤ) (h : ℕ) → leZ t (c -ℤ pos h) ≡ true → leZ t c ≡ true
-lower-upTo t c zero e = subst (λ (z : ℤ). leZ t z ≡ true) (minus-none c) e
-lower-upTo (pos b) (pos a) (suc k) e = by-test (ltb a (suc k)) (λ f. absurd (false≢true (rw f at e))) (λ f. let g = leb-true b (a - suc k) (rw f at e) in le-leb b a (omega arith))
-lower-upTo (negsuc b) (pos a) (suc k) e = refl
-lower-upTo (pos b) (negsuc a) (suc k) e = e
-lower-upTo (negsuc b) (negsuc a) (suc k) e = let g = leb-true _ b e in le-leb a b (omega arith)
+lower-upTo t c h e = holds (leZ t c) (le-from t c (omega (arith, le-to t (c -ℤ pos h) (rw e tt), less c (pos h), natural h)))
 
 -- each flag set and cleared, of every sensor
 sets : (clear was : Bool) {set : Bool} → set ≡ true → flagOf set clear was ≡ true

@@ -3,7 +3,7 @@
 use Prim.Native.Nat.{ℕ, zero, suc, _+_, _*_, _≤_, _<_}
 use native.Mathlib.Omega.{arith}
 use mathlib.Core.Path.{_≡_, refl, ap}
-use mathlib.Core.Bool.{false, true≢false}
+use mathlib.Core.Bool.{Bool, true, false, true≢false}
 use borrow.Author.Tests.{ltb-true, ltb-false}
 use lib.Dec.{T, ltb, le→leb, leb→le, lt→ltb, ltb→lt}
 use lib.IntN.{ℤ, pos, negsuc, negℤ, natAbs, subℕ, _+ℤ_, _-ℤ_, _*ℤ_}
@@ -100,6 +100,15 @@ lt-false (pos a) (pos b) e = let k = ltb-false a b e in omega arith
 lt-false (pos a) (negsuc b) e = omega arith
 lt-false (negsuc a) (pos b) e = absurd (true≢false e)
 lt-false (negsuc a) (negsuc b) e = let k = ltb-false b a e in omega arith
+
+-- a test that holds is true, and one that cannot is false
+pub holds : (b : Bool) → T b → b ≡ true
+holds true h = refl
+holds false h = absurd h
+
+pub fails : (b : Bool) → (T b → ⊥) → b ≡ false
+fails true h = absurd (h tt)
+fails false h = refl
 
 -- how far from 0: the number itself, or its opposite
 pub size {ℓ} : {P : Type ℓ} (z : ℤ) → (natAbs z + down z ≡ up z → P) → (natAbs z + up z ≡ down z → P) → P
