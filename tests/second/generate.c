@@ -126,8 +126,9 @@ static int step_of(int n) { return 8 >> resolution[n]; }
 static int beside(int n, int there)
 {
     static const int halves[] = { 0, 0, 1, 1, -1, -1, 2, -2 };
+    int many = ONE_OF(halves);
 
-    return there + ONE_OF(halves) * step_of(n) / 2 + between(-1, 1);
+    return there + many * step_of(n) / 2 + between(-1, 1);
 }
 
 /* In the middle between two steps, or one sixteenth beside that. */
@@ -146,15 +147,16 @@ static int a_temperature(int n)
 {
     static const int ends[] = { -640, -639, -641, 2000, 1999, 2001, -32768, 32767 };
     static const int near[] = { 0, 0, 0, 1, -1, 2, -2, 3, -3, 4, -4, 8, -8 };
+    int edge = an_edge(n);
 
     switch (below(16)) {
     case 0: return ONE_OF(ends);
     case 1: return between(-640, 2000);
     case 2: return between(-9, 9);
     case 3: case 4: case 5: return within(a_middle(n));
-    case 6: return within(an_edge(n) + between(-100, 100));
-    case 7: case 8: case 9: case 10: return within(an_edge(n) + ONE_OF(near));
-    default: return within(beside(n, an_edge(n)));
+    case 6: return within(edge + between(-100, 100));
+    case 7: case 8: case 9: case 10: return within(edge + ONE_OF(near));
+    default: return within(beside(n, edge));
     }
 }
 
@@ -301,9 +303,24 @@ static void current_read(int n)
     play();
 }
 
-static int a_register_value(int n, int which)
+static void remember(int n, int which, int value)
 {
     static const int sixteenths[] = { 0, 24, 48, 96 };
+
+    if (which == 1) {
+        if (!locked[n])
+            hysteresis[n] = sixteenths[value >> 9 & 3];
+        locked[n] |= value & 0x00C0;
+    } else if (which >= 2 && which <= 4) {
+        if (!(locked[n] & (which == 4 ? 0x0080 : 0x0040)))
+            limit[n][lately = which - 2] = (value & 0x0FFC) - (value & 0x1000);
+    } else if (which == 8) {
+        resolution[n] = value & 3;
+    }
+}
+
+static int a_register_value(int n, int which)
+{
     static const int ends[] = { 0x1000, 0x1000, 0x0FFC, 0x1FFC, 0xFFFF };
     int value = below(65536);
 
@@ -313,9 +330,6 @@ static int a_register_value(int n, int which)
         if (one_in(6)) value |= 0x0080;
         if (one_in(6)) value |= 0x0040;
         if (one_in(locked[n] || value & 0x00C0 ? 2 : 6)) value |= 0x0100;
-        if (!locked[n])
-            hysteresis[n] = sixteenths[value >> 9 & 3];
-        locked[n] |= value & 0x00C0;
     } else if (which >= 2 && which <= 4) {
         if (one_in(4))
             value = ONE_OF(ends);
@@ -323,12 +337,8 @@ static int a_register_value(int n, int which)
             value = between(-160, 500) * 4;
         else if (below(8))
             value = between(-30, 60) * 4;
-        if (!(locked[n] & (which == 4 ? 0x0080 : 0x0040)))
-            limit[n][lately = which - 2] = (value & 0x0FFC) - (value & 0x1000);
-    } else if (which == 8) {
-        if (one_in(2))                   /* a step that rounds something off */
-            value = (value & 0xFFFC) + below(3);
-        resolution[n] = value & 3;
+    } else if (which == 8 && one_in(2)) {
+        value = (value & 0xFFFC) + below(3);  /* a step that has a middle */
     }
     return value & 0xFFFF;
 }
@@ -356,17 +366,47 @@ static void sensor_read(int n, int which)
     play();
 }
 
-/* From so far above or below a limit that its flag is sure, right to it. */
+/* From so far off that the flag is sure, right to where it may change: mostly
+ * from below to the limit, and from above to the limit less hysteresis. */
 static void approach(int n)
 {
-    int edge = an_edge(n);
+    int lower = one_in(2);
+    int from_above = one_in(6) ? !lower : lower;
+    int edge = limit[n][below(3)] - (lower ? hysteresis[n] : 0);
     int far = hysteresis[n] + between(12, 40);
 
-    record(TEMPERATURE, n, within(one_in(2) ? edge + far : edge - far));
-    if (one_in(4))
-        sensor_read(n, 5);
+    record(TEMPERATURE, n, within(from_above ? edge + far : edge - far));
     record(TEMPERATURE, n, within(beside(n, edge)));
     sensor_read(n, 5);
+}
+
+static void set_register(int n, int which, int value)
+{
+    remember(n, which, value);
+    point(n, which);
+    add(BYTE, value >> 8);
+    add(BYTE, value & 255);
+    add(STOP, 0);
+    play_as_is();
+}
+
+/* Not shut down, and all three limits alike, so that each temperature tries
+ * all three flags; often in steps of 8, between which a limit may lie.  Then a
+ * new resolution, which waits. */
+static void try_flags(int n)
+{
+    int edge = between(-60, 120) * 4 & 0xFFFF;
+
+    set_register(n, 1, below(4) << 9);
+    set_register(n, 8, one_in(3) ? 0 : below(4));
+    for (int which = 2; which <= 4; which++)
+        set_register(n, which, edge);
+    for (int k = between(3, 6); k > 0; k--)
+        approach(n);
+    if (one_in(2)) {
+        set_register(n, 8, below(4));
+        sensor_read(n, 5);
+    }
 }
 
 /* One temperature, or several: to a limit, here and there, or a walk. */
@@ -376,7 +416,11 @@ static void measure(int n)
     int step = one_in(2) ? 0 : between(-4, 4);
     int t = a_temperature(n);
 
-    if (one_in(2)) {
+    if (one_in(6)) {
+        try_flags(n);
+        return;
+    }
+    if (one_in(3)) {
         approach(n);
         return;
     }
@@ -395,6 +439,7 @@ static void sensor_write(void)
     int value = a_register_value(n, which);
     int many = one_in(8) ? below(4) : 2;
 
+    remember(n, which, value);
     point(n, one_in(40) ? below(256) : which);
     if (many > 0) add(BYTE, value >> 8);
     if (many > 1) add(BYTE, value & 255);
@@ -417,14 +462,8 @@ static void prime(int n)
 {
     static const int order[] = { 8, 4, 3, 2, 1 };
 
-    for (int i = 0; i < 5; i++) {
-        int value = a_register_value(n, order[i]);
-        point(n, order[i]);
-        add(BYTE, value >> 8);
-        add(BYTE, value & 255);
-        add(STOP, 0);
-        play_as_is();
-    }
+    for (int i = 0; i < 5; i++)
+        set_register(n, order[i], a_register_value(n, order[i]));
 }
 
 static void page_write(void)
