@@ -1,4 +1,4 @@
--- Document 01, "Sensor": registers, what a write keeps, what a temperature does. A signed number is a ℤ, in sixteenths of a degree.
+-- Document 01, "Sensor", with request P7's rounding: registers, what a write keeps, what a temperature does. A signed number is a ℤ, in sixteenths of a degree.
 -- Assumes nothing.
 use Prim.Native.Nat.{ℕ, _+_, _-_, _/_, _%_}
 use mathlib.Core.Bool.{Bool, true, false, cond, _||_}
