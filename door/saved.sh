@@ -1,8 +1,8 @@
 # shellcheck shell=bash
 # What ./plungerhen save, show and resume have in common; sourced, not run. Who sources it has set `here`, this folder, and `called`.
 # shellcheck disable=SC2154    # these two
-say() { printf '%s: %s\n' "$called" "${*//[[:cntrl:]]/?}" >&2; }
-die() { say "$@"; exit 2; }
+# shellcheck source=common.sh
+. "$here/common.sh"
 
 # words COUNT WHAT WORD...: the files that are named, in `files`
 words() {
@@ -20,19 +20,6 @@ words() {
     [ ${#files[@]} -eq "$count" ] || die "$what is wanted, and $(plural ${#files[@]} file) given (./plungerhen help says more)"
 }
 plural() { if [ "$1" -eq 1 ]; then printf '1 %s is' "$2"; else printf '%s %ss are' "$1" "$2"; fi; }
-
-# readable FILE: ends with a sentence if it is not
-readable() {
-    [ -e "$1" ] || die "there is no file '$1'"
-    [ ! -d "$1" ] || die "'$1' is a folder"
-    [ -f "$1" ] || die "'$1' is no plain file"
-    [ -r "$1" ] || die "'$1' is not readable"
-}
-
-# A folder for what is made on the way, and a file beside its place: both go at the end.
-work='' aside=''
-trap 'rm -rf -- ${work:+"$work"} ${aside:+"$aside"}' EXIT
-workplace() { work=$(mktemp -d) || die "there is no place for what is made on the way"; }
 
 # ---- a file that is said to hold a form: `saved FILE` sees that it does, by the word of the proved program `resume` (./run resume), or of the
 # command line that the environment variable RESUME names. That program's word counts; where it refuses, the place is looked for here
