@@ -1,12 +1,61 @@
-# What the story of a run (story.awk) has beside the two wires, for ./plungerhen wave --beside: in the words of cases, with a time in front, as
-# ./plungerhen capture --beside reads it. Ticks are not among them. CASE in the environment is the case's name.
+# What happened beside the wires, told in the words of the cases with a time in front, read for ./plungerhen capture --beside (analyser).
+# ../tests/words.awk is read before this. `slots` has the told slots, as in `2:1:5 3:2:5`: slot, kind, write cycle in ticks.
+#
+# From lines such as `at 12.5 ms voltage 0 on` to rows, fields parted by tabs, the time in nanoseconds:
+#
+#   X  time, line number, kind, slot, value
+#   Z  the end
+#
+# or, last, B: line number, what is wrong there.
 
-function words(kind, slot, value) {
-  if (kind == 5) return "timeout"
-  if (kind == 7) return "voltage " slot " " (value ? "on" : "off")
-  if (kind == 8) return value ? "power " value : "power"
-  return "temperature " slot " " value
+function told_slots(   w, n, i, part) {
+  n = split(slots, w, " ")
+  for (i = 1; i <= n; i++) { split(w[i], part, ":"); kind_of[part[1] + 0] = part[2] }
 }
 
-BEGIN { print "# what the run of " ENVIRON["CASE"] " has beside the two wires" }
-$1 == "E" && $10 !~ /^R|^short/ && $6 ~ /^[5789]$/ { printf "at %.3f ms %s\n", ($4 + 10) / 1000, words($6, $7, $8) }
+# ---- the time in front
+function time_of(digits, unit,   scale) {
+  scale = unit == "us" ? 1e3 : unit == "ms" ? 1e6 : unit == "s" ? 1e9 : 0
+  if (!scale) bad("\"" unit "\" is no unit of time: us, ms and s are")
+  if (digits !~ /^-?[0-9]+(\.[0-9]+)?$/ || length(digits) > 30) bad("\"" digits "\" is no time, which is a decimal number, as in: at 12.5 ms")
+  scale *= digits
+  if (scale > 9e15 || scale < -9e15) bad("the time " digits " " unit " is more than 100 days away")
+  return scale < 0 ? -int(0.5 - scale) : int(scale + 0.5)
+}
+
+# ---- the events behind it
+function allowed(word) {
+  if (word ~ /^(start|stop|byte|read|write|look|set|get)$/) bad("\"" word "\" is on the wires: only what is not on them stands here (voltage, temperature, power, timeout)")
+  if (word == "tick") bad("ticks are not told: they are placed where the wires show that a write cycle has ended")
+  if (word == "event" || word == "raw") bad("\"" word "\" can't stand here: say voltage, temperature, power or timeout")
+}
+function from_hex(digits) { number(digits "h"); return value }
+function one(i,   kind, slot, v) {
+  kind = from_hex(substr(code[i], 1, 2)); slot = from_hex(substr(code[i], 3, 2)); v = from_hex(substr(code[i], 5))
+  if (v >= 32768) v -= 65536
+  if (kind == 7 || kind == 9) {
+    if (!(slot in kind_of)) bad("slot " slot " is not told: say --slot " (slot < 8 ? slot : "N") " memory or sensor, and its write cycle")
+    if (kind == 9 && kind_of[slot] != 2) bad("slot " slot " is told as a memory: it has no sensor that feels a temperature")
+  }
+  if (kind == 9 && (v < -640 || v > 2000)) bad("the temperature " v " is not from -640 to 2000 sixteenths of a degree")
+  if (kind == 8 && (v < 0 || v > 16)) bad("the number behind power is " v ", and must be from 0 to 16, the bytes stored of a write cycle that it cuts")
+  print "X\t" sprintf("%.0f", when) "\t" NR "\t" kind "\t" slot "\t" v
+}
+function beside_line(   w, n, i, part, rest) {
+  if (arrow) bad("what happens beside the wires has no answer")
+  n = split(left, w, " ")
+  if (w[1] != "at" || n < 4) bad("the form is: at TIME us|ms|s EVENT, as in: at 12.5 ms voltage 0 on")
+  when = time_of(w[2], w[3])
+  if (timed && when < last) bad("the times go backwards: " w[2] " " w[3] " stands behind " last_told)
+  timed = 1; last = when; last_told = w[2] " " w[3]
+  rest = left; sub(/^at +[^ ]+ +[^ ]+ +/, "", rest)
+  n = split(rest, part, ";")
+  for (i = 1; i <= n; i++) { split(trim(part[i]), w, " "); allowed(w[1]) }
+  input = ""
+  event_list(rest)
+  for (i = 1; i <= nline; i++) one(i)
+}
+
+BEGIN { told_slots() }
+{ if (parted()) beside_line() }
+END { if (!wrong) print "Z" }

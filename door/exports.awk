@@ -52,11 +52,11 @@ function in_order(when, told) {
   timed = 1; last_time = when; last_told = told
   return when
 }
-function rounded(x) { return x < 0 ? -int(0.5 - x) : int(x + 0.5) }
+function rounded(x) { return (x < 0 ? -int(0.5 - x) : int(x + 0.5)) + 0 }
 function quoted(text) { return "\"" (length(text) > 60 ? substr(text, 1, 60) ".." : text) "\"" }
 
 # What a file may be that is not what it was said to be.
-function looks(   n) {
+function looks() {
   if (/^\$(date|version|comment|timescale|scope|var)( |$)/) return "a VCD file: " (form == "sigrok" ? "run sigrok-cli on it" : "its wires are not decoded")
   if (/^"?name"?,"?type"?,/) return "Logic 2's data table: it is checked with --saleae"
   if (/^[0-9]+-[0-9]+ [^:]*: /) return "the lines of sigrok-cli: they are checked with --sigrok"
@@ -127,7 +127,7 @@ function sample(span,   at, from, to) {
 function sigrok_byte(from, text,   first, byte) {
   if (waiting) unfinished()
   first = text ~ /^A/
-  if (!place_for(first)) { skipped = 1; return }
+  if (!place_for(first)) return
   number(substr(text, length(text) - 1) "h"); byte = value
   if (first && byte > 127) bad("the address " show(byte) " has more than seven bits: run the decoder without address_format=unshifted")
   if (first) byte = 2 * byte + (text ~ /read/)

@@ -1,0 +1,336 @@
+# The verdict on a logic analyser's export put in words, for ./plungerhen capture --sigrok and --saleae (analyser). Reads the rows of ticks.awk;
+# ../tests/words.awk is read before this. `slots` has the told slots, as in `2:1:5 3:2:5`: slot, kind, write cycle in ticks.
+#
+#   mode  bytes  the records as a capture has them, in lines of octal escapes of printf
+#         asked  the text for the program `edges` that leads to record number `at` and shows the slots that it concerns
+#         agrees the report on an export that agrees; NAME in the environment is the name of the file
+#         tell   the report on one that differs at record number `at`, where the model says `model` and the export `seen`. STATES in the environment
+#                is what `edges` showed, `given` names the slots whose memory was told. What is no verdict on these rows ends with status 1 and a
+#                line that says why.
+#         unfit  the sentence on a row F
+
+function told_slots(   w, n, i, part) {
+  n = split(slots, w, " ")
+  for (i = 1; i <= n; i++) {
+    split(w[i], part, ":")
+    kind_of[part[1] + 0] = part[2] + 0; ticks_of[part[1] + 0] = part[3] + 0
+  }
+}
+function plural(n, word) { return n " " word (n == 1 ? "" : "s") }
+function listed(list, n,   i, text) {
+  for (i = 1; i <= n; i++) text = text (i == 1 ? "" : i < n ? ", " : " and ") list[i]
+  return text
+}
+function ms(time) { return sprintf("%.3f", time / 1e6) }
+function since(time, stop) { return sprintf("%.1f", (time - stop) / 1e6) }
+function from_hex(digits) { number(digits "h"); return value }
+
+# ---- bytes
+function octals(   i) { for (i = 0; i < 256; i++) oct[i] = octal(i) }
+function record_bytes(kind, slot, val, answer,   code, byte) {
+  if (val < 0) val += 65536
+  code = 0; byte = 0
+  if (answer ~ /^D/) { code = 3; byte = from_hex(substr(answer, 2)) }
+  else code = index("-AN", answer) - 1
+  printf "%s", oct[kind] oct[slot] oct[int(val / 256)] oct[val % 256] oct[code] oct[byte]
+  if (++written % 64 == 0) printf "\n"
+}
+
+# ---- asked. The slots that an event concerns go by the last control byte: the one that it names, or every told one where it is a command.
+function follow(kind, val) {
+  if (kind == 1) control = -1
+  else if (kind == 2 && control == -1) control = val
+  else if (kind == 4 || kind == 5 || kind == 8) control = -2
+}
+function family(val) { return val < 0 ? 0 : int(val / 16) }
+function concerns(s) {
+  if (!(s in kind_of)) return 0
+  if (family(control) == 10 || family(control) == 3) return s == int(control / 2) % 8
+  return family(control) == 6
+}
+function asked_event() {
+  if ($2 > at) return
+  if ($2 < at) printf "%s; event %s %s %s", (asks++ % 8 ? "" : (asks > 1 ? "\n" : "") "then"), $6, $7, $8
+  follow($6, $8)
+}
+function setup_words(   s, text) {
+  text = "setup"
+  for (s = 0; s < 8; s++) text = text " " kind_of[s] + 0 " " ticks_of[s] + 0
+  return text
+}
+function end_asked(   s) {
+  printf "%sthen", asks ? "\n" : ""
+  for (s = 0; s < 8; s++) if (concerns(s)) printf "; show %d", s
+  printf "\n"
+}
+
+# ---- the write cycles: how long they took, up to a record
+function cycle_row() {
+  slot[++cycles] = $2; stop[cycles] = $3; stop_at[cycles] = $4; how[cycles] = $5; end[cycles] = $6; end_at[cycles] = $7; busy[cycles] = $8; by[cycles] = $9
+}
+# How it ended, up to a record: seen, first (seen, when it was first asked), clock, power or open.
+function how_by(c, upto) {
+  if (how[c] == "open" || end[c] > upto) return "open"
+  return how[c] == "seen" && busy[c] == "-" ? "first" : how[c]
+}
+function measure(s, upto,   c, w, took) {
+  for (w in count) delete count[w]
+  for (c = 1; c <= cycles; c++) {
+    if (slot[c] != s || stop[c] >= upto) continue
+    w = how_by(c, upto); took = end_at[c] - stop_at[c]
+    count[w]++; count["all"]++; only[w] = c
+    if (count[w] == 1 || took < shortest[w]) shortest[w] = took
+    if (count[w] == 1 || took > longest[w]) longest[w] = took
+  }
+}
+function seen_words(w,   low, high, text) {
+  if (!count[w]) return ""
+  low = since(shortest[w], 0); high = since(longest[w], 0)
+  text = "; " (w == "first" && count["seen"] ? "" : "ready ") "after " low (low == high ? "" : " to " high) " ms"
+  if (w == "first") text = text ", when it was first asked"
+  else if (count[w] == 1) text = text ", still busy at " since(busy[only[w]], stop_at[only[w]]) " ms"
+  return text times(w)
+}
+# A slot that was last seen to run behind the clock's end ran longer than told.
+function clock_words(s,   c, text) {
+  if (!count["clock"]) return ""
+  c = only["clock"]
+  if (busy[c] == "-" || count["clock"] > 1) text = "not asked within "
+  else text = "still busy at " since(busy[c], stop_at[c]) " ms, not asked again within "
+  if (busy[c] != "-" && busy[c] - end_at[c] >= 0) text = "still busy at " since(busy[c], stop_at[c]) " ms, and told as "
+  return "; " text ticks_of[s] " ms" times("clock")
+}
+function times(w) { return count["all"] == 1 ? "" : ", " plural(count[w], "cycle") }
+function measured(upto,   s, text) {
+  for (s = 0; s < 8; s++) {
+    measure(s, upto)
+    text = seen_words("seen") seen_words("first") clock_words(s)
+    if (count["power"]) text = text "; cut by power" times("power")
+    if (count["open"]) text = text "; not seen to end" times("open")
+    if (text != "") print "slot " s ": " substr(text, 3)
+  }
+}
+function rule(   i) {
+  if (ticks) print "Ticks are not on the wires. " ticks (ticks == 1 ? " was" : " were") " placed, so that a write cycle ends before the exchange in which its slot acknowledges again, or"
+  if (ticks) print "once it has had its milliseconds. How long a cycle took is so not judged, only measured; everything else is judged."
+  else print "Ticks are not on the wires. None was placed, since no write cycle was seen to end."
+  for (i = 1; i <= omissions; i++) print "Left out: " omitted[i] "."
+}
+function omission() {
+  if ($2 == "rows") omitted[++omissions] = plural($3, "row") " before the first start, from an exchange that began before the export"
+  else omitted[++omissions] = "the last byte, in line " $3 ", whose ninth bit is not there"
+}
+
+# ---- agrees
+function end_agrees() {
+  printf "%s: OK, %s, %s on the wires", ENVIRON["NAME"], plural(exchanges, "exchange"), plural(wires, "event")
+  if (besides) printf ", %s beside them", besides
+  printf ", %s to %s ms\n", ms(first_time), ms(last_time)
+  measured(1e15)
+  rule()
+}
+
+# ---- tell: the event, and the exchange up to it
+function fail(sentence) { print sentence; failed = 1; exit 1 }
+function get(i) { split(raw[i], f, "\t") }
+function words_of(i) { get(i); return record_words(f[6], f[7], f[8]) }
+function heading(   text) {
+  get(at)
+  text = ENVIRON["NAME"] ": differs at " ms(f[3]) " ms"
+  if (f[5] == "w") text = text ", line " f[4]
+  if (f[5] == "b") text = text ", line " f[4] " of what is beside the wires"
+  if (f[5] == "t") text = text ", a tick that was placed"
+  if (f[10]) { text = text ", in exchange " f[10]; get(first_of[f[10]]); text = text " (from " ms(f[3]) " ms)" }
+  print text ": " words_of(at)
+}
+function in_words(a) { return a == "-" ? "nothing" : answer_words(a) }
+function difference() {
+  get(at)
+  return "<== the chip " (f[6] == 3 ? "gave " : "said ") in_words(f[9]) ", the model says " in_words(model)
+}
+function events_shown(   from, i, wide, many) {
+  get(at)
+  from = f[10] ? first_of[f[10]] : at - 8
+  if (from < at - 40) from = at - 40
+  if (from < 0) from = 0
+  wide = length(ms(f[3])) + 2
+  if (from) printf "%" wide "s  (%s not shown)\n", "", (from == 1 ? "1 earlier event is" : from " earlier events are")
+  for (i = from; i <= at; i += many) {
+    get(i)
+    many = i < at && f[5] == "t" ? ticks_from(i) : 1
+    printf "%" wide "s  %-24s  %s\n", ms(f[3]), (many > 1 ? "tick " many : words_of(i)), (i == at ? difference() : f[5] == "t" ? "(placed)" : answer_words(f[9]))
+  }
+}
+function ticks_from(i,   many, g) {
+  for (many = 0; i + many < at; many++) {
+    split(raw[i + many], g, "\t")
+    if (g[5] != "t") break
+  }
+  return many
+}
+
+# ---- tell: the model's state, as `edges` shows it: names and hex numbers, without those that are 0
+function shown_numbers(s,   parts, n, i, w, m) {
+  for (i in now) delete now[i]
+  n = split(ENVIRON["STATES"], parts, "; ")
+  for (i = 1; i <= n; i++) if (index(parts[i], "show " s ": ") == 1) break
+  if (i > n) return 0
+  m = split(substr(parts[i], 9), w, " ")
+  for (i = 1; i < m; i += 2) now[w[i]] = w[i] == "phase" ? w[i + 1] : from_hex(substr(w[i + 1], 1, length(w[i + 1]) - 1))
+  return now["kind"] == kind_of[s]
+}
+function phases() {
+  doing["idle"] = "is in no exchange"
+  doing["control"] = "waits for a control byte"
+  doing["deaf"] = "is deaf until the next start"
+  doing["memory-counter"] = "waits for the counter"
+  doing["memory-data"] = "takes bytes to write"
+  doing["memory-read"] = "gives bytes of its memory"
+  doing["half-selected"] = "has had a half command"
+  doing["command-address"] = "waits for the first byte behind a command"
+  doing["command-data"] = "waits for the second byte behind a command"
+  doing["command-stop"] = "waits for the stop of a command"
+  doing["sensor-pointer"] = "waits for the pointer"
+  doing["sensor-high"] = "waits for the high byte of a register, or a start"
+  doing["sensor-low"] = "waits for the low byte of a register"
+  doing["sensor-read-high"] = "gives the high byte of a register"
+  doing["sensor-read-low"] = "gives the low byte of a register"
+}
+function protected_words(   i, n, list) {
+  for (i = 0; i < 4; i++) if (now["protection" (i ? "+" i : "")]) list[++n] = i
+  return n ? (n == 1 ? "block " : "blocks ") listed(list, n) " protected" : "no block protected"
+}
+function memory_words(   address) {
+  address = 256 * now["half"] + now["counter"]
+  return "half " now["half"] + 0 ", counter " show(now["counter"]) " (address " sprintf("%03X", address) "h, block " int(address / 128) "), " \
+    protected_words() ", high voltage " (now["voltage"] ? "on" : "off")
+}
+function sensor_words(   names, text) {
+  split("configuration,high,low,critical,temperature,-,-,resolution,timeout", names, ",")
+  text = "pointer " show(now["pointer"])
+  if (now["pointer"] in names && names[now["pointer"]] != "-") text = text " (" names[now["pointer"]] ", " sprintf("%04X", now[names[now["pointer"]]]) "h)"
+  if (now["phase"] ~ /^sensor-read/) text = text ", the word being read is " sprintf("%04X", now["word"]) "h"
+  return text
+}
+function state_line(s,   text) {
+  if (!shown_numbers(s)) { print "  the model's slot " s " is not shown: the program edges could not be built or run, or says nothing of it"; return }
+  text = "  just before, the model's slot " s " " doing[now["phase"] == "" ? "idle" : now["phase"]] ": "
+  text = text (family(control) == 3 ? sensor_words() : memory_words()) ", "
+  print text (now["left"] ? "a write cycle with " now["left"] " of " plural(ticks_of[s], "tick") " left" : "no write cycle")
+}
+
+# ---- tell: what was written to a slot before this exchange
+# The last stretch of events, from a start on, that wrote to slot s: wrote_from to wrote_to; and the last half command, at half_at.
+function look_back(s, limit,   i, behind, from, acked) {
+  wrote_from = half_at = -1; control = -2
+  for (i = 0; i < limit; i++) {
+    get(i)
+    if (f[6] == 1) from = i
+    if (f[6] == 2 && control == -1) { acked = f[9] == "A"; behind = 0; if (acked && f[8] ~ /^(108|110)$/) half_at = i }
+    else if (f[6] == 2 && control >= 0) behind++
+    follow(f[6], f[8])
+    if (f[6] == 2 && acked && writes_to(s, behind)) { wrote_from = from; wrote_to = i }
+  }
+}
+function writes_to(s, behind) {
+  if (family(control) == 6) return control ~ /^(98|104|106|96|102)$/
+  return (family(control) == 10 || family(control) == 3) && control % 2 == 0 && int(control / 2) % 8 == s && behind >= 2
+}
+function bytes_written(   i, text, n) {
+  for (i = wrote_from; i <= wrote_to; i++) {
+    get(i)
+    if (f[6] == 2 && ++n <= 20) text = text " " show(f[8]) (f[9] == "N" ? " (NACK)" : "")
+  }
+  return text (n > 20 ? " .., " n " bytes" : "")
+}
+function write_line(s,   text) {
+  if (wrote_from < 0) {
+    print "  nothing was written to slot " s " before this exchange; its memory begins with " (given ~ ("^(.* )?" s "( .*)?$") ? "what --memory told, then FFh" : "FFh in every byte, since --memory told nothing of it")
+    return
+  }
+  text = bytes_written()
+  get(wrote_from)
+  print "  last written to slot " s " in exchange " f[10] ", from " ms(f[3]) " ms:" text
+}
+function half_line() {
+  if (half_at < 0) return
+  get(half_at)
+  print "  half " (f[8] == 110) " was selected by " show(f[8]) " in exchange " f[10] ", at " ms(f[3]) " ms"
+}
+function cycle_line(s,   c, latest, text, w) {
+  for (c = 1; c <= cycles; c++) if (slot[c] == s && stop[c] < at) latest = c
+  if (!latest) return
+  c = latest; w = how_by(c, at)
+  text = "  slot " s "'s write cycle began with the stop at " ms(stop_at[c]) " ms and "
+  if (w == "seen" || w == "first") text = text "counts as ended before " ms(end_at[c]) " ms, since the chip acknowledged " show(by[c]) " there"
+  if (w == "clock") text = text "counts as ended before " ms(end_at[c]) " ms, since " ticks_of[s] " ms had passed"
+  if (w == "power") text = text "was cut by power at " ms(end_at[c]) " ms"
+  if (w == "open") text = text "runs still"
+  print text
+  if (w == "clock") late_line(c, s)
+}
+function late_line(c, s) {
+  get(at)
+  if (f[6] == 2 && f[9] == "N" && model == "A") print "  " since(f[3], stop_at[c]) " ms after the stop the cycle of " plural(ticks_of[s], "tick") " had ended by the clock"
+}
+
+function led_there(   s, was, any_slot, limit) {
+  get(at)
+  limit = f[10] ? first_of[f[10]] : at
+  was = control
+  print "What led there:"
+  for (s = 0; s < 8; s++) {
+    control = was
+    if (!concerns(s)) continue
+    any_slot = 1
+    state_line(s)
+    look_back(s, limit)
+    write_line(s)
+    if (family(was) == 10) half_line()
+    cycle_line(s)
+  }
+  if (!any_slot) nobody(was)
+}
+function nobody(byte) {
+  if (family(byte) == 10 || family(byte) == 3) print "  slot " int(byte / 2) % 8 " is not told (--slot): in the model nobody answers to " show(byte)
+  else if (byte >= 0) print "  in the model nobody answers to " show(byte)
+  else print "  there was no control byte"
+}
+function end_tell() {
+  if (!(at in raw)) fail("there is no record " at)
+  get(at)
+  if (f[9] != seen) fail("record " at " has the answer " f[9])
+  heading()
+  events_shown()
+  if (model ~ /^R/) print "(a record that the model refuses never agrees)"
+  led_there()
+  measured(at)
+  rule()
+}
+
+# ---- unfit
+function end_unfit(   way) {
+  if (ticks_of[$2] > 1) way = "a shorter write cycle for slot " $2 ", the faster one"
+  if (ticks_of[$5] < 5) way = way (way == "" ? "" : ", or ") "a longer " (way == "" ? "write cycle" : "one") " for slot " $5
+  print "slot " $2 "'s write cycle from " ms($3) " ms was over" ($4 == "-" ? "" : " before " ms($4) " ms") ", while slot " $5 "'s from " ms($6) " ms " \
+    ($7 == "-" ? "was not" : "ran until " ms($7) " ms") "; as the two are told, no number of ticks fits both. Tell " way
+}
+
+BEGIN { FS = "\t"; told_slots(); control = -2; if (mode == "bytes") octals(); if (mode == "tell") phases(); if (mode == "asked") print setup_words() }
+$1 == "E" && mode == "bytes" { record_bytes($6, $7, $8, $9) }
+$1 == "E" && mode == "asked" { asked_event() }
+$1 == "E" && mode == "tell" && $2 <= at {
+  raw[$2 + 0] = $0
+  if ($10 && !($10 in first_of)) first_of[$10] = $2
+  follow($6, $8)
+}
+$1 == "K" { cycle_row() }
+$1 == "O" { omission() }
+$1 == "N" { exchanges = $2; wires = $3; besides = $4; ticks = $5; first_time = $6; last_time = $7 }
+$1 == "F" && mode == "unfit" { end_unfit() }
+END {
+  if (mode == "bytes") printf "\n"
+  if (mode == "asked") end_asked()
+  if (mode == "agrees") end_agrees()
+  if (mode == "tell") end_tell()
+}

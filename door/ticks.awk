@@ -1,0 +1,239 @@
+# Places the ticks, which are not on the wires, among the events of a logic analyser's export, for ./plungerhen capture --sigrok and --saleae (analyser).
+#
+# Reads the rows of beside.awk, then those of exports.awk; `slots` has the told slots, as in `2:1:5 3:2:5`: slot, kind, write cycle in ticks. Writes
+# rows, fields parted by tabs, times in nanoseconds; `-` where there is no number:
+#
+#   E  record's number from 0, time, line number, w (on the wires), b (beside) or t (a tick), kind, slot, value, answer, exchange (0 outside of any)
+#   K  slot, record and time of the stop that may have begun a write cycle of it, how the cycle ended (seen, clock, power, open), record and time of
+#      the event before which it ended, time at which it was last seen to run (behind that end: first seen to run longer), control byte that it ended by
+#   O  what was left out, as exports.awk has it
+#   N  exchanges, events on the wires, events beside them, ticks, time of the first event, time of the last
+#
+# or, alone, F: slot, stop and end of one cycle, then of another with which no ticks fit.
+#
+# The rule. A cycle is over (seen) before the start of the first exchange whose control byte the slot acknowledged, or (clock) once as many milliseconds
+# have passed as it has ticks; until then it runs. Ticks stand before gates only, which are the starts and the events beside the wires. With P(g) ticks
+# up to gate g, a cycle of n ticks from gate b on that ends before gate e asks for P(e) >= P(b) + n and P(e - 1) <= P(b) + n - 1. The least P that do
+# are taken. What the model then says of it all is not known here.
+
+function told_slots(   w, n, i, part) {
+  n = split(slots, w, " ")
+  for (i = 1; i <= n; i++) {
+    split(w[i], part, ":")
+    kind_of[part[1] + 0] = part[2] + 0; ticks_of[part[1] + 0] = part[3] + 0
+  }
+  alone = n == 1
+}
+
+# ---- the events in order, those beside the wires before one on the wires of the same time
+function take(when, from, line, source, kind, slot, val, answer) {
+  row[++n] = from "\t" line "\t" source "\t" kind "\t" slot "\t" val "\t" answer
+  if (n == 1) first_time = from
+  last_time = from
+  if (kind == 1) on_start(when)
+  row[n] = row[n] "\t" (inside ? exchange : 0)
+  if (kind == 2) on_byte(val, answer == "A")
+  else if (kind == 3) spoiled = 1
+  else if (kind == 4) on_stop(when)
+  else if (source == "b") on_beside(when, kind, slot, val)
+}
+function beside_until(when) {
+  while (next_beside <= nbeside && beside_at[next_beside] <= when) {
+    split(beside[next_beside++], b, "\t")
+    take(b[2] + 0, b[2], b[3], "b", b[4], b[5], b[6], "-")
+  }
+}
+
+# ---- gates
+function new_gate(when,   s) {
+  gate_at[++gates] = when; gate_row[n] = gates; row_of[gates] = n
+  for (s = 0; s < 8; s++) if ((s in open) && when - stop_at[open[s]] >= 1e6 * ticks_of[s]) ends(s, gates, "clock")
+}
+function on_start(when) {
+  if (!inside) exchange++
+  inside = 1
+  control = -1; acked = behind = spoiled = 0
+  new_gate(when)
+  start_gate = gates
+}
+function on_beside(when, kind, slot, val,   s) {
+  new_gate(when)
+  if (kind == 7) { voltage[slot] = val; if (!val) delete armed[slot] }
+  for (s = 0; s < 8; s++) if (kind == 8 && (s in open)) { ends(s, gates, "power"); if (val) changes(s, order[latest[s]]) }
+  if (kind == 5 || kind == 8) { control = -2; inside = 0 }
+}
+
+# ---- bytes. `control` is -1 where a control byte is to come, -2 where none is; `behind` counts the bytes that follow it.
+function on_byte(val, ack) {
+  if (control == -1) { control = val; acked = ack; asked(val, ack) }
+  else if (ack) behind++
+  else spoiled = 1
+}
+function asked(val, ack,   s, upper) {
+  upper = int(val / 16)
+  if (upper == 10 || upper == 3) {
+    s = int(val / 2) % 8
+    if (ack) answers(s, val)
+    else if (upper == 10 || kind_of[s] == 2) declines(s)
+  }
+  else if (upper == 6 && ack) for (s = 0; s < 8; s++) heard(s, val)
+}
+# Some slot acknowledged a command; if only one is told, it was that one. A protect or clear is for each whose high voltage is on and that is in no
+# cycle, but for a block that is protected already.
+function heard(s, val) {
+  if (!(s in kind_of)) return
+  if (alone) answers(s, val)
+  delete armed[s]
+  if (voltage[s] && !(s in open) && !((s, val) in protected)) armed[s] = 1
+}
+# A slot acknowledged a control byte: if its cycle ran still before that exchange's start, it ended there.
+function answers(s, val,   c) {
+  if (s in open) ends(s, start_gate, "seen")
+  c = latest[s]
+  if (!c || end_gate[c] < start_gate || how[c] == "power") return
+  end_gate[c] = start_gate; how[c] = "seen"; ended_by[c] = val
+}
+# It did not: its cycle runs still, or, for the first time, longer than by the clock.
+function declines(s,   c) {
+  c = latest[s]
+  if (s in open) busy_gate[c] = start_gate
+  if ((s in open) || (c && how[c] == "clock" && busy_at[c] < gate_at[end_gate[c]])) busy_at[c] = gate_at[start_gate]
+}
+function on_stop(when,   s) {
+  if (control >= 0 && acked && !spoiled) {
+    s = int(control / 2) % 8
+    if (int(control / 16) == 10 && control % 2 == 0 && behind >= 2 && (s in kind_of)) begins(s, when)
+    if (is_change(control) && behind == 2) for (s = 0; s < 8; s++) if (s in armed) begins(s, when)
+  }
+  control = -2; inside = 0
+}
+
+# ---- write cycles
+# 62h 68h 6Ah 60h protect a block, 66h clears all four.
+function is_change(val) { return val ~ /^(98|104|106|96|102)$/ }
+function changes(s, val) {
+  if (val == 102) { delete protected[s, 98]; delete protected[s, 104]; delete protected[s, 106]; delete protected[s, 96] }
+  else if (is_change(val)) protected[s, val] = 1
+}
+function begins(s, when) {
+  open[s] = latest[s] = ++cycles
+  slot_of[cycles] = s; stop_at[cycles] = when; stop_row[cycles] = n; from_gate[cycles] = busy_gate[cycles] = gates
+  how[cycles] = "open"; end_gate[cycles] = busy_at[cycles] = ""; order[cycles] = control
+}
+function ends(s, g, by,   c) {
+  c = open[s]
+  end_gate[c] = g; how[c] = by
+  delete open[s]
+  if (by != "power") changes(s, order[c])
+}
+
+# ---- how many ticks stand before each gate: P[], the least that fit, found group by group of cycles that overlap
+# A cycle runs still at gate still[c]; where it then ends, its group reaches that gate, else beyond it.
+function place_ticks(   c, first, reach) {
+  for (c = 1; c <= cycles; c++) {
+    still[c] = how[c] == "open" ? gates : how[c] == "power" ? end_gate[c] : end_gate[c] - 1
+    if (how[c] == "seen" || how[c] == "clock") ending[end_gate[c]] = ending[end_gate[c]] " " c
+  }
+  P[0] = done = 0
+  for (c = 1; c <= cycles && !loop; c = first) {
+    reach = still[c] + 1
+    for (first = c + 1; first <= cycles && from_gate[first] < reach; first++) if (still[first] + 1 > reach) reach = still[first] + 1
+    if (reach > gates) reach = gates
+    fill(from_gate[c])
+    place_group(c, first - 1, from_gate[c], reach)
+  }
+  fill(gates)
+}
+function fill(g) { while (done < g) { done++; P[done] = P[done - 1] } }
+# Where no numbers fit, a cycle is only held to run as long as it was seen to: up to the last control byte that was not acknowledged.
+function place_group(c1, c2, lo, hi,   c, base) {
+  base = P[lo]
+  if (fits(c1, c2, lo, hi, base)) return
+  for (c = c1; c <= c2; c++) if (how[c] != "power") still[c] = busy_gate[c]
+  loop = !fits(c1, c2, lo, hi, base)
+}
+function fits(c1, c2, lo, hi, base,   g, changed) {
+  for (g = lo; g <= hi; g++) { P[g] = base; delete cause[g] }
+  done = hi
+  do {
+    rise(lo, hi)
+    changed = push(c1, c2)
+    if (changed && looped(c1, c2, lo)) return 0
+  } while (changed)
+  return 1
+}
+function rise(lo, hi,   g, i, m, w, c) {
+  for (g = lo + 1; g <= hi; g++) {
+    if (P[g - 1] > P[g]) { P[g] = P[g - 1]; cause[g] = 0 }
+    if (!(g in ending)) continue
+    m = split(ending[g], w, " ")
+    for (i = 1; i <= m; i++) {
+      c = w[i]
+      if (P[from_gate[c]] + ticks_of[slot_of[c]] > P[g]) { P[g] = P[from_gate[c]] + ticks_of[slot_of[c]]; cause[g] = c }
+    }
+  }
+}
+# Where a cycle would end too early, ticks move to before it.
+function push(c1, c2,   c, least, changed) {
+  for (c = c1; c <= c2; c++) {
+    least = P[still[c]] - ticks_of[slot_of[c]] + 1
+    if (least > P[from_gate[c]]) { P[from_gate[c]] = least; cause[from_gate[c]] = -c; changed = 1 }
+  }
+  return changed
+}
+# Whether the causes run in a ring, so that no numbers fit: then `inner` is a cycle that asks for too many ticks, `outer` one that allows too few.
+function looped(c1, c2, lo,   c, g, earlier) {
+  for (c = c1; c <= c2; c++) {
+    earlier = walks - (c - c1); walks++
+    for (g = from_gate[c]; (g > lo || (lo in cause)) && walked[g] <= earlier; g = before(g)) walked[g] = walks
+    if (walked[g] == walks) { ring(g); return 1 }
+  }
+  return 0
+}
+function before(g,   c) {
+  c = cause[g] + 0
+  return c > 0 ? from_gate[c] : c < 0 ? still[-c] : g - 1
+}
+function ring(g,   at, round) {
+  at = g; inner = outer = 0
+  for (round = 1; round <= 2; round++) do {
+    if (cause[at] > 0 && !inner) inner = cause[at]
+    if (cause[at] < 0 && inner && !outer && slot_of[-cause[at]] != slot_of[inner]) outer = -cause[at]
+    at = before(at)
+  } while (at != g)
+}
+
+# ---- rows
+function time_or(when) { return when == "" ? "-" : sprintf("%.0f", when) }
+function event_rows(   i, g, k) {
+  for (i = 1; i <= n; i++) {
+    g = (i in gate_row) ? gate_row[i] : 0
+    if (g) for (k = P[g - 1]; k < P[g]; k++) print "E\t" records++ "\t" sprintf("%.0f", gate_at[g]) "\t-\tt\t6\t0\t0\t-\t0"
+    if (g || (i in is_stop)) record_of[i] = records
+    print "E\t" records++ "\t" row[i]
+  }
+}
+function cycle_rows(   c, end) {
+  for (c = 1; c <= cycles; c++) {
+    end = end_gate[c]
+    print "K\t" slot_of[c] "\t" record_of[stop_row[c]] "\t" time_or(stop_at[c]) "\t" how[c] "\t" (end == "" ? "-" : record_of[row_of[end]]) "\t" \
+      (end == "" ? "-" : time_or(gate_at[end])) "\t" time_or(busy_at[c]) "\t" (c in ended_by ? ended_by[c] : "-")
+  }
+}
+function span(c) { return slot_of[c] "\t" time_or(stop_at[c]) "\t" (end_gate[c] == "" ? "-" : time_or(gate_at[end_gate[c]])) }
+function end_of_rows(   c, i) {
+  beside_until(1e17)
+  place_ticks()
+  if (loop) { print "F\t" span(inner) "\t" span(outer); return }
+  for (c = 1; c <= cycles; c++) is_stop[stop_row[c]] = 1
+  event_rows()
+  cycle_rows()
+  for (i = 1; i <= left_out; i++) print omitted[i]
+  print "N\t" exchange + 0 "\t" wires + 0 "\t" nbeside + 0 "\t" P[gates] + 0 "\t" first_time "\t" last_time
+}
+
+BEGIN { FS = "\t"; told_slots(); next_beside = 1; control = -2 }
+$1 == "X" { beside[++nbeside] = $0; beside_at[nbeside] = $2 + 0 }
+$1 == "W" { beside_until($2 + 0); wires++; take($2 + 0, $3, $4, "w", $5, 0, $6, $7) }
+$1 == "O" { omitted[++left_out] = $0 }
+END { end_of_rows() }
