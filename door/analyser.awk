@@ -112,7 +112,7 @@ function measured(upto,   s, text) {
 }
 function rule(   i) {
   if (ticks) print "Ticks are not on the wires. " ticks (ticks == 1 ? " was" : " were") " placed, so that a write cycle ends before the exchange in which its slot acknowledges again, or"
-  if (ticks) print "once it has had its milliseconds. How long a cycle took is so not judged, only measured; everything else is judged."
+  if (ticks) print "once it has had its milliseconds. So how long a cycle took is not judged, only measured; everything else is judged."
   else print "Ticks are not on the wires. None was placed, since no write cycle was seen to end."
   for (i = 1; i <= omissions; i++) print "Left out: " omitted[i] "."
 }
@@ -243,9 +243,10 @@ function bytes_written(   i, text, n) {
   }
   return text (n > 20 ? " .., " n " bytes" : "")
 }
-function write_line(s,   text) {
+function write_line(s, memory,   text) {
   if (wrote_from < 0) {
-    print "  nothing was written to slot " s " before this exchange; its memory begins with " (given ~ ("^(.* )?" s "( .*)?$") ? "what --memory told, then FFh" : "FFh in every byte, since --memory told nothing of it")
+    text = "; its memory begins with " ((" " given " ") ~ (" " s " ") ? "the bytes that --memory told" : "FFh in every byte, since --memory told no other")
+    print "  nothing was written to slot " s " before this exchange" (memory ? text : "")
     return
   }
   text = bytes_written()
@@ -274,6 +275,14 @@ function late_line(c, s) {
   if (f[6] == 2 && f[9] == "N" && model == "A") print "  " since(f[3], stop_at[c]) " ms after the stop the cycle of " plural(ticks_of[s], "tick") " had ended by the clock"
 }
 
+# A command in the slot's write cycle, while nobody saw whether the cycle still ran: ticks.awk takes it to run.
+function doubt_line(s) {
+  if (!(s in doubt_at)) return
+  print "  " show(doubt_byte[s]) " at " ms(doubt_at[s]) " ms, " since(doubt_at[s], doubt_stop[s]) " ms after a stop, is taken as not heard by slot " s ", whose write cycle counts as running;"
+  print "  the wires do not show that: ask the slot before such a command, or tell a shorter write cycle"
+}
+function doubt_row() { if ($3 <= at) { doubt_at[$2 + 0] = $4; doubt_byte[$2 + 0] = $5; doubt_stop[$2 + 0] = $6 } }
+
 function led_there(   s, was, any_slot, limit) {
   get(at)
   limit = f[10] ? first_of[f[10]] : at
@@ -285,9 +294,10 @@ function led_there(   s, was, any_slot, limit) {
     any_slot = 1
     state_line(s)
     look_back(s, limit)
-    write_line(s)
+    write_line(s, family(was) == 10)
     if (family(was) == 10) half_line()
     cycle_line(s)
+    doubt_line(s)
   }
   if (!any_slot) nobody(was)
 }
@@ -325,6 +335,7 @@ $1 == "E" && mode == "tell" && $2 <= at {
   follow($6, $8)
 }
 $1 == "K" { cycle_row() }
+$1 == "U" && mode == "tell" { doubt_row() }
 $1 == "O" { omission() }
 $1 == "N" { exchanges = $2; wires = $3; besides = $4; ticks = $5; first_time = $6; last_time = $7 }
 $1 == "F" && mode == "unfit" { end_unfit() }

@@ -53,13 +53,17 @@ function in_order(when, told) {
   return when
 }
 function rounded(x) { return (x < 0 ? -int(0.5 - x) : int(x + 0.5)) + 0 }
-function quoted(text) { return "\"" (length(text) > 60 ? substr(text, 1, 60) ".." : text) "\"" }
+function quoted(text) {
+  if (length(text) > 60) text = substr(text, 1, 60) ".."
+  gsub(/[^ -~]/, "?", text)
+  return "\"" text "\""
+}
 
 # What a file may be that is not what it was said to be.
 function looks() {
   if (/^\$(date|version|comment|timescale|scope|var)( |$)/) return "a VCD file: " (form == "sigrok" ? "run sigrok-cli on it" : "its wires are not decoded")
-  if (/^"?name"?,"?type"?,/) return "Logic 2's data table: it is checked with --saleae"
-  if (/^[0-9]+-[0-9]+ [^:]*: /) return "the lines of sigrok-cli: they are checked with --sigrok"
+  if (form == "sigrok" && /^"?name"?,"?type"?,/) return "Logic 2's data table: it is checked with --saleae"
+  if (form == "saleae" && /^[0-9]+-[0-9]+ [^:]*: /) return "the lines of sigrok-cli: they are checked with --sigrok"
   if (/^"?Time \[s\]"?,"?Packet ID"?/) return "the older export of the analyser alone: export the data table instead"
   if (/^"?Time \[s\]"?,/) return "raw samples as CSV: add the analyser I2C in Logic 2, and export its data table"
   if (/^; ?CSV|^; ?Channels/) return "raw samples as sigrok writes them: let its decoder i2c read them"
@@ -105,13 +109,13 @@ function said(text,   at, name, short) {
   return text
 }
 function same_decoder(name) {
-  if (tolower(name) !~ /^i.*2c(-[0-9]+)?$/) unlike("this is no line of sigrok's decoder i2c: " quoted($0))
-  if (decoder != "") bad("the lines of two decoders, " decoder " and " name ": keep those of one bus")
+  if (tolower(name) !~ /^i(2|\302\262)c(-[0-9]+)?$/) unlike("this is no line of sigrok's decoder i2c: " quoted($0))
+  if (decoder != "") bad("the lines of two decoders, " quoted(decoder) " and " quoted(name) ": keep those of one bus")
   decoder = name
 }
 function not_numbered() {
-  if (/^[^ :]*[iI].*2[cC](-[0-9]+)?: /) bad("the line has no sample numbers: run sigrok-cli with --protocol-decoder-samplenum")
-  unlike("this is no line of sigrok's decoder i2c, as in 125-195 i2c-1: Address write: 50: " quoted($0))
+  if (/^[iI](2|\302\262)[cC](-[0-9]+)?: /) bad("the line has no sample numbers: run sigrok-cli with --protocol-decoder-samplenum")
+  unlike("this is no line of sigrok's decoder i2c (such as 125-195 i2c-1: Address write: 50): " quoted($0))
 }
 function strange(text) {
   if (text ~ /^(Address|Data) (read|write): /) bad("a byte has two hex digits here, and not " quoted(substr(text, index(text, ":") + 2)))

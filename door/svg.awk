@@ -50,6 +50,8 @@ function wrap(s, most, cut,   n, i) {
   return n
 }
 
+function add_line(lines, i, says) { if (i in lines) lines[i] = lines[i] "\n" says; else lines[i] = says }
+
 # ---- elements
 function text(x, y, class, says) { return "<text x=\"" x "\" y=\"" y "\" class=\"" class "\">" escaped(says) "</text>\n" }
 function rect(x, y, w, h, class) { return "<rect x=\"" x "\" y=\"" y "\" width=\"" w "\" height=\"" h "\" class=\"" class "\"/>\n" }
@@ -95,7 +97,8 @@ function joins(n) {
 function build_pieces(   n, open, fresh) {
   for (n = 1; n <= events; n++) {
     if (joins(n)) { last[pieces] = n; continue }
-    first[++pieces] = last[pieces] = n
+    pieces++
+    first[pieces] = last[pieces] = n
     wide[pieces] = width_of(n)
     idle[pieces] = !open
     if (kind[n] == BYTE && fresh) control[n] = 1
@@ -110,8 +113,8 @@ function note_at(p) { return first[p] == begins[line[first[p]]] && (line[first[p
 function note_width(p) { return note_at(p) == "" ? 0 : 6 * (length(note_at(p)) > NOTE ? NOTE : length(note_at(p))) + 8 }
 
 # ---- pieces to strips
-# The room that the pieces from p on want, with their notes: p alone (0), those up to the next start (1), those up to the end of an exchange and of the
-# ticks behind it (2).
+# The room that the pieces from p on want, with their notes, and with the words in a lane or the time that stand behind them: p alone (0), those up to
+# the next start (1), those up to the end of an exchange and of the ticks behind it (2).
 function reach(p, how,   q, n, x, far, started) {
   for (q = p; q <= pieces && x <= WIDE; q++) {
     n = first[q]
@@ -119,7 +122,7 @@ function reach(p, how,   q, n, x, far, started) {
     if (kind[n] == START) started = 1
     far = max(far, x + note_width(q))
     x += wide[q]
-    far = max(far, x + (last[q] in tells ? 135 : 0))
+    far = max(far, x + (last[q] in tells ? 135 : kind[n] == TICK ? 25 : 0))
   }
   return far
 }
@@ -193,29 +196,30 @@ function hint(p,   n) {
   n = first[p]
   return "<title>" escaped("event " n (last[p] > n ? " to " last[p] : "") ", line " line[n] ", at " ms(from[n]) ": " words[n] ": " in_words(answer[n])) "</title>"
 }
-function draw_byte(n, x, y,   bit, sent) {
-  sent = kind[n] == BYTE
-  bit = sent ? answer[n] : value[n] ? "A" : "N"
-  return shape((sent ? "w" : "r") bit, x, y) text(x + 17, y + (sent ? 16 : 21), "value", sent ? sprintf("%02Xh", value[n]) : in_words(answer[n]))
+# The ninth bit: a slot's answer to a byte from the master, the master's to a byte from a slot.
+function ninth(n) { return kind[n] == BYTE ? answer[n] : value[n] ? "A" : "N" }
+function draw_byte(n, x, y) {
+  if (kind[n] == BYTE) return shape("w" ninth(n), x, y) text(x + 17, y + 16, "value", sprintf("%02Xh", value[n]))
+  return shape("r" ninth(n), x, y) text(x + 17, y + 21, "value", in_words(answer[n]))
 }
 # A piece that is no byte: a mark, words in a frame, or nothing but the time that goes by.
 function draw_other(p, n, y) {
   if (kind[n] == START || kind[n] == STOP) return shape(kind[n] == START ? "S" : "P", middle(p) - 5, y)
   if (kind[n] == TICK) return text(middle(p), y + 10, "strong mid", ms(to[last[p]] - from[n])) zigzag(at[p], y + 20, wide[p])
   if (kind[n] != REFUSED && kind[n] != TIMEOUT) return path("M" at[p] " " y + 14.5 "h" wide[p], "dots")
-  return rect(at[p] + 2, y + 4, wide[p] - 4, 20, kind[n] == TIMEOUT ? "timeout" : "refused") text(middle(p), y + 17, "small mid", kind[n] == TIMEOUT ? "timeout" : in_words(answer[n]))
+  return rect(at[p] + 2, y + 4, wide[p] - 4, 20, kind[n] == TIMEOUT ? "timeout" : "refused") \
+    text(middle(p), y + 17, "small mid", kind[n] == TIMEOUT ? "timeout" : in_words(answer[n]))
 }
-function draw_piece(p,   n, w, svg, class) {
+function draw_piece(p,   n, w, svg, y) {
   n = first[p]
   if (split(words_above(n), w, "|")) svg = text(middle(p), words_y + 8, "small mid", w[1]) (2 in w ? text(middle(p), words_y + 17, "small mid", w[2]) : "")
-  if (kind[n] == BYTE || kind[n] == READ) {
-    class = differs(n) ? "X" : kind[n] == BYTE ? answer[n] : value[n] ? "A" : "N"
-    svg = svg "<g class=\"" class "\">" hint(p) draw_byte(n, at[p], bus_y) "</g>\n"
-  } else svg = svg "<g>" hint(p) (differs(n) ? rect(at[p], bus_y, wide[p], 29, "differs") : "") draw_other(p, n, bus_y) "</g>\n"
+  if (kind[n] == BYTE || kind[n] == READ) svg = svg "<g class=\"" (differs(n) ? "X" : ninth(n)) "\">" hint(p) draw_byte(n, at[p], bus_y) "</g>\n"
+  else svg = svg "<g>" hint(p) (differs(n) ? rect(at[p], bus_y, wide[p], 29, "differs") : "") draw_other(p, n, bus_y) "</g>\n"
   if (differs(n)) svg = svg text(middle(p), bus_y + 40, "due mid red", "expected") text(middle(p), bus_y + 49, "due mid red", in_words(expected[n]))
   if (kind[n] == POWER) svg = svg path("M" middle(p) " " bus_y + 1 "V" axis_y, "power")
-  if (kind[n] == VOLTAGE) svg = svg text(middle(p), lane_y[slot[n]] + 10, "small mid", value[n] ? "SA0 on" : "SA0 off")
-  if (kind[n] == TEMPERATURE) svg = svg text(middle(p), lane_y[slot[n]] + 10, "small mid", degrees(value[n])) path("M" middle(p) " " lane_y[slot[n]] + 13 "v6", "axis")
+  y = lane_y[slot[n]]
+  if (kind[n] == VOLTAGE) svg = svg text(middle(p), y + 10, "small mid", value[n] ? "SA0 on" : "SA0 off")
+  if (kind[n] == TEMPERATURE) svg = svg text(middle(p), y + 10, "small mid", degrees(value[n])) path("M" middle(p) " " y + 13 "v6", "axis")
   return svg
 }
 
@@ -278,14 +282,10 @@ function draw_labels(n,   i, svg) {
 function is_fold(p) { return p > 0 && kind[first[p]] == TICK }
 function is_exact(s, p) { return p == strip_from[s] || is_fold(p - 1) }
 function time_label(x, time) { labelled = x; return path("M" x " " axis_y - 3 "v6", "axis") text(x, axis_y + 14, "small mid", ms(time)) }
-# Where a strip ends in a fold; near the edge of the sheet the label stands to the left.
-function end_label(x, time) {
-  if (x < RIGHT - 30) return time_label(x, time)
-  return path("M" x " " axis_y - 3 "v6", "axis") (x - labelled < 90 ? "" : text(WIDE - 2, axis_y + 14, "small end", ms(time)))
-}
-# Is a time at x clear of the one before, of the next that has to stand, and of the edge?
+
+# Is a time at x clear of the one before, of the next that has to stand, and of the sheet's edge?
 function label_fits(s, p, x,   q) {
-  if (x - labelled < 50 || x > RIGHT - 30) return 0
+  if (x - labelled < 50 || x > RIGHT - 25) return 0
   for (q = p + 1; q <= strip_to[s] && at[q] - x < 50; q++) if (is_exact(s, q)) return 0
   return 1
 }
@@ -305,13 +305,13 @@ function draw_axis(s,   p, n, svg, solid, dots, time, x) {
     }
   }
   p = strip_to[s]
-  return svg (is_fold(p) ? end_label(at[p] + wide[p], to[last[p]]) : "") path(solid, "axis") path(dots, "dots")
+  return svg (is_fold(p) ? time_label(at[p] + wide[p], to[last[p]]) : "") path(solid, "axis") path(dots, "dots")
 }
 
 # ---- a strip as a whole
 # Where its rows are, from y on: notes, words above the bus, the bus, the lanes, the time.
 function measure(s, y, notes,   p, i) {
-  words_y = y + 13 * notes + 5
+  words_y = y + 13 * notes + 4
   bus_y = words_y + 2
   for (p = strip_from[s]; p <= strip_to[s]; p++) if (words_above(first[p]) != "") bus_y = words_y + 20
   y = bus_y + 31
@@ -321,16 +321,17 @@ function measure(s, y, notes,   p, i) {
 }
 function draw_strip(s,   p, x_end, svg, notes) {
   p = strip_from[s]
-  svg = comment_lines(comments[first[p]], "caption", 4, 15, 140)
+  tall = 2
+  if (first[p] in comments) { svg = comment_lines(comments[first[p]], "caption", 8, 15, 140); tall += 3 }
   if (events && p > pieces) { block(svg, tall + 12); return }
   notes = stack_notes(s)
-  measure(s, tall + (notes ? 6 : 0), notes)
+  measure(s, tall + (notes ? 4 : 0), notes)
   x_end = p > pieces ? LEFT + 100 : at[strip_to[s]] + wide[strip_to[s]]
   svg = svg draw_notes(s, words_y - 2) draw_labels(first[p])
   for (; p <= strip_to[s]; p++) if (is_fold(p)) svg = svg rect(at[p], bus_y, wide[p], axis_y - bus_y, "fold")
   svg = svg draw_lanes(s, x_end)
   for (p = strip_from[s]; p <= strip_to[s]; p++) svg = svg draw_piece(p)
-  block(svg draw_axis(s), axis_y + 22)
+  block(svg draw_axis(s), axis_y + 18)
 }
 
 # ---- the whole
@@ -342,7 +343,7 @@ function heading(   i, svg) {
   i = index(title "\n", "\n")
   svg = comment_lines(substr(title, 1, i - 1), "title", 0, 21, 100)
   svg = svg comment_lines(substr(title, i + 1), "caption", tall + 2, 16, 140)
-  svg = svg text(6, tall + 19, "strong", name ": " events (events == 1 ? " event, " : " events, ") ms(ending) " on wires at 100 kHz")
+  svg = svg text(6, tall + 19, "strong", name ": " events (events == 1 ? " event, " : " events, ") ms(to[events] - from[1]) " on wires at 100 kHz")
   if (events) svg = svg text(6, tall + 34, unlike ? "strong red" : "strong", verdict())
   block(svg, tall + 42)
 }
@@ -353,7 +354,8 @@ function legend(   svg, i) {
   svg = svg shape("S", 6, 14) text(20, 31, "small", "start") shape("P", 56, 14) text(70, 31, "small", "stop")
   svg = svg byte_mark("A", "wA", 112, 14) text(163, 31, "small", "byte from the master, ACK") byte_mark("N", "wN", 312, 14) text(363, 31, "small", "NACK")
   svg = svg byte_mark("A", "rA", 408, 14) text(459, 31, "small", "byte from a slot, the master's ACK") byte_mark("X", "wN", 650, 14)
-  svg = svg text(701, 31, "small red", "not what the case expects") rect(866, 18, 56, 20, "refused") text(894, 31, "small mid", "refused 4") text(928, 31, "small", "takes no time")
+  svg = svg text(701, 31, "small red", "not what the case expects") rect(866, 18, 56, 20, "refused") text(894, 31, "small mid", "refused 4")
+  svg = svg text(928, 31, "small", "takes no time")
   svg = svg zigzag(6, 59, 40) text(52, 62, "small", "ticks, folded") path("M134 59h40", "dots") text(180, 62, "small", "not to scale")
   svg = svg rect(264, 53, 56, 11, "cycle") text(326, 62, "small", "write cycle") rect(408, 52, 45, 15, "voltage") text(459, 62, "small", "high voltage on SA0")
   for (i = 0; i < 4; i++) svg = svg rect(580, 52 + 4 * i, 45, 3, i ? "open" : "safe")
@@ -367,20 +369,22 @@ function define_mark(id, d, x) { print "<g id=\"" id "\"><path d=\"" d "\" class
 # The page's margins leave 190 mm less a hair of its height, which a browser takes as 718 pixels; 190 mm would be 719.
 function head(high) {
   print "<?xml version=\"1.0\" encoding=\"UTF-8\"?>"
-  print "<svg xmlns=\"http://www.w3.org/2000/svg\" xmlns:xlink=\"http://www.w3.org/1999/xlink\" width=\"" WIDE "\" height=\"" high "\" viewBox=\"0 0 " WIDE " " high "\">"
+  print "<svg xmlns=\"http://www.w3.org/2000/svg\" xmlns:xlink=\"http://www.w3.org/1999/xlink\""
+  print "  width=\"" WIDE "\" height=\"" high "\" viewBox=\"0 0 " WIDE " " high "\">"
   print "<title>" escaped(name) "</title>"
   print "<style>"
   print "@page { size: A4 landscape; margin: 10mm 10mm 10.05mm }"
   print "text { font-family: sans-serif; font-size: 12px; fill: #222; stroke: none }"
   print ".title { font-size: 15px; font-weight: bold } .strong { font-size: 10px; font-weight: bold } .note { font-size: 10px; font-style: italic; fill: #234 }"
-  print ".small { font-size: 9px } .due { font-size: 8px } .mid { text-anchor: middle } .end { text-anchor: end } .red { fill: #c00000; font-weight: bold } .grey { fill: #666 }"
+  print ".small { font-size: 9px } .due { font-size: 8px } .mid { text-anchor: middle } .grey { fill: #666 } .red { fill: #c00000; font-weight: bold }"
   print ".value { font-family: monospace; font-size: 11px; text-anchor: middle; fill: currentColor }"
   print ".bit { font-size: 8px; font-weight: bold; text-anchor: middle; fill: currentColor } .white { fill: #fff } .mark { fill: #222; stroke: none }"
   print ".A { fill: #d8f0d2; stroke: #3b7a3f; color: #111 } .N { fill: #f2a860; stroke: #7a4200; color: #111 } .X { fill: #c80000; stroke: #600000; color: #fff }"
-  print ".differs { fill: #ffc9c9; stroke: #c80000; stroke-width: 2 } .refused { fill: #f4f4f4; stroke: #777; stroke-dasharray: 3 2 } .timeout { fill: #fff; stroke: #222 }"
+  print ".differs { fill: #ffc9c9; stroke: #c80000; stroke-width: 2 } .refused { fill: #f4f4f4; stroke: #777; stroke-dasharray: 3 2 }"
   print ".axis { fill: none; stroke: #333 } .dots { fill: none; stroke: #333; stroke-dasharray: 1.5 2.5 } .pole { fill: none; stroke: #89a }"
-  print ".power { fill: none; stroke: #222; stroke-width: 2; stroke-dasharray: 6 2 } .frame { fill: none; stroke: #bbb } .fold { fill: #f1f1f1 }"
-  print ".cycle { fill: #33628f } .voltage { fill: #ffe680; fill-opacity: .8 } .safe { fill: #5b2a86 } .open { fill: #d8d8d8 }"
+  print ".power { fill: none; stroke: #222; stroke-width: 2; stroke-dasharray: 6 2 } .frame { fill: none; stroke: #bbb }"
+  print ".timeout { fill: #fff; stroke: #222 } .fold { fill: #f1f1f1 } .cycle { fill: #33628f }"
+  print ".voltage { fill: #ffe680; fill-opacity: .8 } .safe { fill: #5b2a86 } .open { fill: #d8d8d8 }"
   print "</style>"
   print "<defs>"
   define_byte("wA", "M.5 .5h44v23l-22 5l-22 -5z", 15); define_byte("wN", "M.5 .5h44v23l-22 5l-22 -5z", 15)
@@ -405,7 +409,7 @@ function print_pages(   b, y, page, n) {
 $1 == "P" { module[$2] = ($3 == 1 ? "memory, " : "sensor, ") $4 " ms" }
 $1 == "C" && $2 !~ /^ *#/ { setup = 1 }
 $1 == "C" && $2 ~ /^ *#/ {
-  if (setup || events) comments[events + 1] = ((events + 1) in comments ? comments[events + 1] "\n" : "") bare($2)
+  if (setup || events) add_line(comments, events + 1, bare($2))
   else title = (title == "" ? "" : title "\n") bare($2)
 }
 $1 == "E" {
@@ -420,12 +424,11 @@ $1 == "E" {
 $1 == "S" {
   shown = ($4 > 0) " " $5 " " $6
   if (!events) { busy[$3] = $4 > 0; volts[$3] = $6; safe[$3] = protection[$3] = $5 }
-  else if (shown != was[$3]) changes[events] = (events in changes ? changes[events] "\n" : "") $3 " " $4 " " $5 " " $6
+  else if (shown != was[$3]) add_line(changes, events, $3 " " $4 " " $5 " " $6)
   if ($5 != protection[$3]) tells[events] = 1
   if ($5 ~ /1/) guarded[$3] = 1
   was[$3] = shown; protection[$3] = $5
 }
-$1 == "Z" { ending = $2 }
 END {
   events += 0
   name = ENVIRON["CASE"] == "" ? "a case" : clean(ENVIRON["CASE"])

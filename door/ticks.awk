@@ -6,6 +6,7 @@
 #   E  record's number from 0, time, line number, w (on the wires), b (beside) or t (a tick), kind, slot, value, answer, exchange (0 outside of any)
 #   K  slot, record and time of the stop that may have begun a write cycle of it, how the cycle ended (seen, clock, power, open), record and time of
 #      the event before which it ended, time at which it was last seen to run (behind that end: first seen to run longer), control byte that it ended by
+#   U  slot, record and time of a command that it may have heard or not, the command, time of the stop that began its write cycle
 #   O  what was left out, as exports.awk has it
 #   N  exchanges, events on the wires, events beside them, ticks, time of the first event, time of the last
 #
@@ -76,13 +77,28 @@ function asked(val, ack,   s, upper) {
     if (ack) answers(s, val)
     else if (upper == 10 || kind_of[s] == 2) declines(s)
   }
-  else if (upper == 6 && ack) for (s = 0; s < 8; s++) heard(s, val)
+  else if (upper == 6 && ack) {
+    s = readiest()
+    if (s >= 0) answers(s, val)
+    for (s = 0; s < 8; s++) if (s in kind_of) heard(s, val)
+  }
 }
-# Some slot acknowledged a command; if only one is told, it was that one. A protect or clear is for each whose high voltage is on and that is in no
-# cycle, but for a block that is protected already.
+# Which slot it was that acknowledged a command, if no told slot is free: the only one, or the one whose cycle has had the most of its time.
+function readiest(   s, part, most, best) {
+  best = -1
+  for (s = 0; s < 8; s++) {
+    if (!(s in kind_of)) continue
+    if (alone) return s
+    if (!(s in open)) return -1
+    part = (gate_at[start_gate] - stop_at[open[s]]) / ticks_of[s]
+    if (best < 0 || part > most) { most = part; best = s }
+  }
+  return best
+}
+# Some slot acknowledged a command. A protect or clear is for each whose high voltage is on and that is in no cycle, but for a block that is protected
+# already.
 function heard(s, val) {
-  if (!(s in kind_of)) return
-  if (alone) answers(s, val)
+  if (s in open) { doubt[++doubts] = open[s]; doubt_row[doubts] = n; doubt_at[doubts] = gate_at[start_gate]; doubt_byte[doubts] = val }
   delete armed[s]
   if (voltage[s] && !(s in open) && !((s, val) in protected)) armed[s] = 1
 }
@@ -209,7 +225,7 @@ function event_rows(   i, g, k) {
   for (i = 1; i <= n; i++) {
     g = (i in gate_row) ? gate_row[i] : 0
     if (g) for (k = P[g - 1]; k < P[g]; k++) print "E\t" records++ "\t" sprintf("%.0f", gate_at[g]) "\t-\tt\t6\t0\t0\t-\t0"
-    if (g || (i in is_stop)) record_of[i] = records
+    if (g || (i in is_named)) record_of[i] = records
     print "E\t" records++ "\t" row[i]
   }
 }
@@ -220,14 +236,23 @@ function cycle_rows(   c, end) {
       (end == "" ? "-" : time_or(gate_at[end])) "\t" time_or(busy_at[c]) "\t" (c in ended_by ? ended_by[c] : "-")
   }
 }
+# A command that some slot acknowledged while a cycle of this one counts as running, and no later NACK shows that it did.
+function doubt_rows(   i, c) {
+  for (i = 1; i <= doubts; i++) {
+    c = doubt[i]
+    if (busy_at[c] == "" || busy_at[c] < doubt_at[i]) print "U\t" slot_of[c] "\t" record_of[doubt_row[i]] "\t" time_or(doubt_at[i]) "\t" doubt_byte[i] "\t" time_or(stop_at[c])
+  }
+}
 function span(c) { return slot_of[c] "\t" time_or(stop_at[c]) "\t" (end_gate[c] == "" ? "-" : time_or(gate_at[end_gate[c]])) }
 function end_of_rows(   c, i) {
   beside_until(1e17)
   place_ticks()
   if (loop) { print "F\t" span(inner) "\t" span(outer); return }
-  for (c = 1; c <= cycles; c++) is_stop[stop_row[c]] = 1
+  for (c = 1; c <= cycles; c++) is_named[stop_row[c]] = 1
+  for (i = 1; i <= doubts; i++) is_named[doubt_row[i]] = 1
   event_rows()
   cycle_rows()
+  doubt_rows()
   for (i = 1; i <= left_out; i++) print omitted[i]
   print "N\t" exchange + 0 "\t" wires + 0 "\t" nbeside + 0 "\t" P[gates] + 0 "\t" first_time "\t" last_time
 }
