@@ -89,7 +89,7 @@ function seen_words(w,   low, high, text) {
   text = "; " (w == "first" && count["seen"] ? "" : "ready ") "after " low (low == high ? "" : " to " high) " ms"
   if (w == "first") text = text ", when it was first asked"
   else if (count[w] == 1) text = text ", still busy at " since(busy[only[w]], stop_at[only[w]]) " ms"
-  return text times(w)
+  return text so_many(w)
 }
 # A slot that was last seen to run behind the clock's end ran longer than told.
 function clock_words(s,   c, text) {
@@ -98,15 +98,15 @@ function clock_words(s,   c, text) {
   if (busy[c] == "-" || count["clock"] > 1) text = "not asked within "
   else text = "still busy at " since(busy[c], stop_at[c]) " ms, not asked again within "
   if (busy[c] != "-" && busy[c] - end_at[c] >= 0) text = "still busy at " since(busy[c], stop_at[c]) " ms, and told as "
-  return "; " text ticks_of[s] " ms" times("clock")
+  return "; " text ticks_of[s] " ms" so_many("clock")
 }
-function times(w) { return count["all"] == 1 ? "" : ", " plural(count[w], "cycle") }
+function so_many(w) { return count["all"] == 1 ? "" : ", " plural(count[w], "cycle") }
 function measured(upto,   s, text) {
   for (s = 0; s < 8; s++) {
     measure(s, upto)
     text = seen_words("seen") seen_words("first") clock_words(s)
-    if (count["power"]) text = text "; cut by power" times("power")
-    if (count["open"]) text = text "; not seen to end" times("open")
+    if (count["power"]) text = text "; cut by power" so_many("power")
+    if (count["open"]) text = text "; not seen to end" so_many("open")
     if (text != "") print "slot " s ": " substr(text, 3)
   }
 }
@@ -304,7 +304,7 @@ function led_there(   s, was, any_slot, limit) {
 function nobody(byte) {
   if (family(byte) == 10 || family(byte) == 3) print "  slot " int(byte / 2) % 8 " is not told (--slot): in the model nobody answers to " show(byte)
   else if (byte >= 0) print "  in the model nobody answers to " show(byte)
-  else print "  there was no control byte"
+  else print "  in the model no exchange is under way here: a stop, a timeout or power has ended it"
 }
 function end_tell() {
   if (!(at in raw)) fail("there is no record " at)
@@ -322,7 +322,7 @@ function end_tell() {
 function end_unfit(   way) {
   if (ticks_of[$2] > 1) way = "a shorter write cycle for slot " $2 ", the faster one"
   if (ticks_of[$5] < 5) way = way (way == "" ? "" : ", or ") "a longer " (way == "" ? "write cycle" : "one") " for slot " $5
-  print "slot " $2 "'s write cycle from " ms($3) " ms was over" ($4 == "-" ? "" : " before " ms($4) " ms") ", while slot " $5 "'s from " ms($6) " ms " \
+  print "from " ms($8) " ms on it is not judged (up to there it agrees): slot " $2 "'s write cycle from " ms($3) " ms was over" ($4 == "-" ? "" : " before " ms($4) " ms") ", while slot " $5 "'s from " ms($6) " ms " \
     ($7 == "-" ? "was not" : "ran until " ms($7) " ms") "; as the two are told, no number of ticks fits both. Tell " way
 }
 

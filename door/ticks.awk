@@ -10,12 +10,14 @@
 #   O  what was left out, as exports.awk has it
 #   N  exchanges, events on the wires, events beside them, ticks, time of the first event, time of the last
 #
-# or, alone, F: slot, stop and end of one cycle, then of another with which no ticks fit.
+# and, behind these, F: slot, stop and end of one cycle, then of another with which no ticks fit. The rows E then end with the stop before them.
 #
-# The rule. A cycle is over (seen) before the start of the first exchange whose control byte the slot acknowledged, or (clock) once as many milliseconds
-# have passed as it has ticks; until then it runs. Ticks stand before gates only, which are the starts and the events beside the wires. With P(g) ticks
-# up to gate g, a cycle of n ticks from gate b on that ends before gate e asks for P(e) >= P(b) + n and P(e - 1) <= P(b) + n - 1. The least P that do
-# are taken. What the model then says of it all is not known here.
+# The rule. A stop may begin a cycle of a slot if it comes directly behind a write with data, or a protect or clear command, of which every byte was
+# acknowledged. The cycle is over (seen) before the start of the first exchange whose control byte the slot acknowledged, or (clock) once as many
+# milliseconds have passed as it has ticks; until then it runs, if no power is lost. Ticks stand before gates only, which are the starts and the events
+# beside the wires. With P(g) ticks up to gate g, a cycle of n ticks from gate b on that ends before gate e asks for P(e) >= P(b) + n and P(e - 1) <=
+# P(b) + n - 1. The least P that do are taken. Where none do, a cycle need only run as long as it was seen to; where still none do, it is not judged.
+# What the model then says of it all is not known here.
 
 function told_slots(   w, n, i, part) {
   n = split(slots, w, " ")
@@ -166,7 +168,8 @@ function place_group(c1, c2, lo, hi,   c, base) {
   base = P[lo]
   if (fits(c1, c2, lo, hi, base)) return
   for (c = c1; c <= c2; c++) if (how[c] != "power") still[c] = busy_gate[c]
-  loop = !fits(c1, c2, lo, hi, base)
+  if (fits(c1, c2, lo, hi, base)) return
+  P[lo] = base; loop = c1
 }
 function fits(c1, c2, lo, hi, base,   g, changed) {
   for (g = lo; g <= hi; g++) { P[g] = base; delete cause[g] }
@@ -221,40 +224,41 @@ function ring(g,   at, round) {
 
 # ---- rows
 function time_or(when) { return when == "" ? "-" : sprintf("%.0f", when) }
-function event_rows(   i, g, k) {
-  for (i = 1; i <= n; i++) {
+function event_rows(last,   i, g, k) {
+  for (i = 1; i <= last; i++) {
     g = (i in gate_row) ? gate_row[i] : 0
     if (g) for (k = P[g - 1]; k < P[g]; k++) print "E\t" records++ "\t" sprintf("%.0f", gate_at[g]) "\t-\tt\t6\t0\t0\t-\t0"
     if (g || (i in is_named)) record_of[i] = records
     print "E\t" records++ "\t" row[i]
   }
 }
-function cycle_rows(   c, end) {
-  for (c = 1; c <= cycles; c++) {
+function cycle_rows(last,   c, end) {
+  for (c = 1; c <= last; c++) {
     end = end_gate[c]
     print "K\t" slot_of[c] "\t" record_of[stop_row[c]] "\t" time_or(stop_at[c]) "\t" how[c] "\t" (end == "" ? "-" : record_of[row_of[end]]) "\t" \
       (end == "" ? "-" : time_or(gate_at[end])) "\t" time_or(busy_at[c]) "\t" (c in ended_by ? ended_by[c] : "-")
   }
 }
 # A command that some slot acknowledged while a cycle of this one counts as running, and no later NACK shows that it did.
-function doubt_rows(   i, c) {
-  for (i = 1; i <= doubts; i++) {
+function doubt_rows(last,   i, c) {
+  for (i = 1; i <= doubts && doubt_row[i] <= last; i++) {
     c = doubt[i]
     if (busy_at[c] == "" || busy_at[c] < doubt_at[i]) print "U\t" slot_of[c] "\t" record_of[doubt_row[i]] "\t" time_or(doubt_at[i]) "\t" doubt_byte[i] "\t" time_or(stop_at[c])
   }
 }
 function span(c) { return slot_of[c] "\t" time_or(stop_at[c]) "\t" (end_gate[c] == "" ? "-" : time_or(gate_at[end_gate[c]])) }
-function end_of_rows(   c, i) {
+function end_of_rows(   c, i, last) {
   beside_until(1e17)
   place_ticks()
-  if (loop) { print "F\t" span(inner) "\t" span(outer); return }
+  last = loop ? stop_row[loop] : n
   for (c = 1; c <= cycles; c++) is_named[stop_row[c]] = 1
   for (i = 1; i <= doubts; i++) is_named[doubt_row[i]] = 1
-  event_rows()
-  cycle_rows()
-  doubt_rows()
+  event_rows(last)
+  cycle_rows(loop ? loop - 1 : cycles)
+  doubt_rows(last)
   for (i = 1; i <= left_out; i++) print omitted[i]
-  print "N\t" exchange + 0 "\t" wires + 0 "\t" nbeside + 0 "\t" P[gates] + 0 "\t" first_time "\t" last_time
+  print "N\t" exchange + 0 "\t" wires + 0 "\t" nbeside + 0 "\t" P[loop ? from_gate[loop] : gates] + 0 "\t" first_time "\t" last_time
+  if (loop) print "F\t" span(inner) "\t" span(outer) "\t" time_or(stop_at[loop])
 }
 
 BEGIN { FS = "\t"; told_slots(); next_beside = 1; control = -2 }
