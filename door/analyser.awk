@@ -1,5 +1,5 @@
 # The verdict on a logic analyser's export put in words, for ./plungerhen capture --sigrok and --saleae (analyser). Reads the rows of ticks.awk;
-# ../tests/words.awk is read before this. `slots` has the told slots, as in `2:1:5 3:2:5`: slot, kind, write cycle in ticks.
+# ../tests/words.awk and told.awk are read before this.
 #
 #   mode  bytes  the records as a capture has them, in lines of octal escapes of printf
 #         asked  the text for the program `edges` that leads to record number `at` and shows the slots that it concerns
@@ -9,13 +9,6 @@
 #                line that says why.
 #         unfit  the sentence on a row F
 
-function told_slots(   w, n, i, part) {
-  n = split(slots, w, " ")
-  for (i = 1; i <= n; i++) {
-    split(w[i], part, ":")
-    kind_of[part[1] + 0] = part[2] + 0; ticks_of[part[1] + 0] = part[3] + 0
-  }
-}
 function plural(n, word) { return n " " word (n == 1 ? "" : "s") }
 function listed(list, n,   i, text) {
   for (i = 1; i <= n; i++) text = text (i == 1 ? "" : i < n ? ", " : " and ") list[i]
@@ -23,7 +16,6 @@ function listed(list, n,   i, text) {
 }
 function ms(time) { return sprintf("%.3f", time / 1e6) }
 function since(time, stop) { return sprintf("%.1f", (time - stop) / 1e6) }
-function from_hex(digits) { number(digits "h"); return value }
 
 # ---- bytes
 function octals(   i) { for (i = 0; i < 256; i++) oct[i] = octal(i) }

@@ -1,7 +1,5 @@
 # The plan of a case (../tests/reading.awk) as a text for the program `edges`: its setup, then each event on a line of its own, and behind each the
-# numbers of every present slot.
-
-function octal_at(i) { return 64 * substr(bytes, 4 * i + 2, 1) + 8 * substr(bytes, 4 * i + 3, 1) + substr(bytes, 4 * i + 4, 1) }
+# numbers of every present slot. octal.awk is read before this.
 
 $1 == "I" {
   bytes = $4

@@ -1,5 +1,5 @@
 # What happened beside the wires, told in the words of the cases with a time in front, read for ./plungerhen capture --beside (analyser).
-# ../tests/words.awk is read before this. `slots` has the told slots, as in `2:1:5 3:2:5`: slot, kind, write cycle in ticks.
+# ../tests/words.awk and told.awk are read before this.
 #
 # From lines such as `at 12.5 ms voltage 0 on` to rows, fields parted by tabs, the time in nanoseconds:
 #
@@ -7,11 +7,6 @@
 #   Z  the end
 #
 # or, last, B: line number, what is wrong there.
-
-function told_slots(   w, n, i, part) {
-  n = split(slots, w, " ")
-  for (i = 1; i <= n; i++) { split(w[i], part, ":"); kind_of[part[1] + 0] = part[2] }
-}
 
 # ---- the time in front
 function time_of(digits, unit,   scale) {
@@ -29,7 +24,6 @@ function allowed(word) {
   if (word == "tick") bad("ticks are not told: they are placed where the wires show that a write cycle has ended")
   if (word == "event" || word == "raw") bad("\"" word "\" can't stand here: say voltage, temperature, power or timeout")
 }
-function from_hex(digits) { number(digits "h"); return value }
 function one(i,   kind, slot, v) {
   kind = from_hex(substr(code[i], 1, 2)); slot = from_hex(substr(code[i], 3, 2)); v = from_hex(substr(code[i], 5))
   if (v >= 32768) v -= 65536

@@ -12,8 +12,6 @@
 #
 # An answer is written as the programs write it, an unknown code as ? and its number.
 
-function from_hex(digits) { number(digits "h"); return value }
-
 # ---- read
 function row(text) { rows[++nrows] = text }
 function answer_bytes(a) {

@@ -61,4 +61,4 @@ read_case() {
     esac
 }
 # telling_case MODE: what that plan tells (save.awk)
-telling_case() { awk -F '\t' -f "$here/save.awk" -v mode="$1" <<<"$plan"; }
+telling_case() { awk -F '\t' -f "$here/octal.awk" -f "$here/save.awk" -v mode="$1" <<<"$plan"; }

@@ -9,7 +9,6 @@
 
 function fail(sentence) { print sentence; exit 1 }
 function plural(n, word) { return n " " word (n == 1 ? "" : "s") }
-function octal_at(i) { return 64 * substr(bytes, 4 * i + 2, 1) + 8 * substr(bytes, 4 * i + 3, 1) + substr(bytes, 4 * i + 4, 1) }
 
 # Each event in its turn: an exchange begins with a start and ends with a stop, a timeout or power; a write cycle begins with a stop, and takes ticks.
 function power_in_range(i) { return octal_at(i + 2) == 0 && octal_at(i + 3) <= 16 }

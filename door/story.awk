@@ -9,10 +9,9 @@
 #   S  time, slot, ticks left of the write cycle, protection of blocks 0 to 3 (as 0110), high voltage (0, 1)      each slot at first, then where it changes
 #   Z  time                                                                                   the end
 #
-# What the two programs disagree on ends with status 1 and a line that says so.
+# What the two programs disagree on ends with status 1 and a line that says so. octal.awk is read before this.
 
-function fail(sentence) { print sentence; failed = 1; exit 1 }
-function octal_at(i) { return 64 * substr(bytes, 4 * i + 2, 1) + 8 * substr(bytes, 4 * i + 3, 1) + substr(bytes, 4 * i + 4, 1) }
+function fail(sentence) { print sentence; exit 1 }
 
 # How long an event takes: nine clocks for a byte, a millisecond for a tick; a condition, and what is not on the wires, as two clocks. What is refused
 # takes no time.
@@ -85,5 +84,6 @@ END {
     if ($1 == "C") print "C\t" $3
     if ($1 == "E") event_row()
   }
+  if (got[n + 1] != "") fail("the program script says more than there are events: " got[n + 1])
   print "Z\t" now + 100
 }

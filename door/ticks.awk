@@ -1,7 +1,7 @@
 # Places the ticks, which are not on the wires, among the events of a logic analyser's export, for ./plungerhen capture --sigrok and --saleae (analyser).
 #
-# Reads the rows of beside.awk, then those of exports.awk; `slots` has the told slots, as in `2:1:5 3:2:5`: slot, kind, write cycle in ticks. Writes
-# rows, fields parted by tabs, times in nanoseconds; `-` where there is no number:
+# Reads the rows of beside.awk, then those of exports.awk; told.awk is read before this. Writes rows, fields parted by tabs, times in nanoseconds; `-` where
+# there is no number:
 #
 #   E  record's number from 0, time, line number, w (on the wires), b (beside) or t (a tick), kind, slot, value, answer, exchange (0 outside of any)
 #   K  slot, record and time of the stop that may have begun a write cycle of it, how the cycle ended (seen, clock, power, open), record and time of
@@ -18,15 +18,6 @@
 # beside the wires. With P(g) ticks up to gate g, a cycle of n ticks from gate b on that ends before gate e asks for P(e) >= P(b) + n and P(e - 1) <=
 # P(b) + n - 1. The least P that do are taken. Where none do, a cycle need only run as long as it was seen to; where still none do, it is not judged.
 # What the model then says of it all is not known here.
-
-function told_slots(   w, n, i, part) {
-  n = split(slots, w, " ")
-  for (i = 1; i <= n; i++) {
-    split(w[i], part, ":")
-    kind_of[part[1] + 0] = part[2] + 0; ticks_of[part[1] + 0] = part[3] + 0
-  }
-  alone = n == 1
-}
 
 # ---- the events in order, those beside the wires before one on the wires of the same time
 function take(when, from, line, source, kind, slot, val, answer) {
@@ -261,7 +252,7 @@ function end_of_rows(   c, i, last) {
   if (loop) print "F\t" span(inner) "\t" span(outer) "\t" time_or(stop_at[loop])
 }
 
-BEGIN { FS = "\t"; told_slots(); next_beside = 1; control = -2 }
+BEGIN { FS = "\t"; alone = told_slots() == 1; next_beside = 1; control = -2 }
 $1 == "X" { beside[++nbeside] = $0; beside_at[nbeside] = $2 + 0 }
 $1 == "W" { beside_until($2 + 0); wires++; take($2 + 0, $3, $4, "w", $5, 0, $6, $7) }
 $1 == "O" { omitted[++left_out] = $0 }
