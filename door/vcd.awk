@@ -33,8 +33,9 @@ function hold(t) { scl(t, 0); sda(t + 2, 1) }
 function from_hex(digits) { return 16 * (index("0123456789ABCDEF", substr(digits, 1, 1)) - 1) + index("0123456789ABCDEF", substr(digits, 2, 1)) - 1 }
 
 # ---- what comes before the first time
-function header(   i) {
-  print "$comment the run of " ENVIRON["CASE"] " on the two wires, made by ./plungerhen wave $end"
+function header(   i, name) {
+  name = ENVIRON["CASE"]; gsub(/\$/, "?", name)      # a $ could end the comment
+  print "$comment the run of " name " on the two wires, made by ./plungerhen wave $end"
   for (i = 1; i <= ncomments; i++) print "$comment at " comments[i] " $end"
   print "$timescale 1 us $end"
   print "$scope module plungerhen $end"
