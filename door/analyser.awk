@@ -8,6 +8,9 @@
 #                is what `edges` showed, `given` names the slots whose memory was told. What is no verdict on these rows ends with status 1 and a
 #                line that says why.
 #         unfit  the sentence on a row F
+#         doubts the words of rows U up to record number `at`, or of all where it is empty, the latest first: of the slots that this record concerns
+#         begun  the write cycles that these rows have, a line `SLOT RECORD` each; `model` has those of the model, from what `edges` says of mode stops
+#         stops  the text for `edges` that shows every told slot before each stop and behind it
 
 function plural(n, word) { return n " " word (n == 1 ? "" : "s") }
 function listed(list, n,   i, text) {
@@ -97,6 +100,8 @@ function measured(upto,   s, text) {
   for (s = 0; s < 8; s++) {
     measure(s, upto)
     text = seen_words("seen") seen_words("first") clock_words(s)
+    if (count["with"]) text = text "; not asked before another slot was ready" so_many("with")
+    if (count["heard"]) text = text "; over before a command that it heard" so_many("heard")
     if (count["power"]) text = text "; cut by power" so_many("power")
     if (count["open"]) text = text "; not seen to end" so_many("open")
     if (text != "") print "slot " s ": " substr(text, 3)
@@ -104,7 +109,7 @@ function measured(upto,   s, text) {
 }
 function rule(   i) {
   if (ticks) print "Ticks are not on the wires. " ticks (ticks == 1 ? " was" : " were") " placed, so that a write cycle ends before the exchange in which its slot acknowledges again, or"
-  if (ticks) print "once it has had its milliseconds. So how long a cycle took is not judged, only measured; everything else is judged."
+  if (ticks) print "once it has had its milliseconds. A cycle that is shorter than told is not judged, only measured; all else is judged."
   else print "Ticks are not on the wires. None was placed, since no write cycle was seen to end."
   for (i = 1; i <= omissions; i++) print "Left out: " omitted[i] "."
 }
@@ -257,14 +262,20 @@ function cycle_line(s,   c, latest, text, w) {
   text = "  slot " s "'s write cycle began with the stop at " ms(stop_at[c]) " ms and "
   if (w == "seen" || w == "first") text = text "counts as ended before " ms(end_at[c]) " ms, since the chip acknowledged " show(by[c]) " there"
   if (w == "clock") text = text "counts as ended before " ms(end_at[c]) " ms, since " ticks_of[s] " ms had passed"
+  if (w == "with") text = text "counts as ended before " ms(end_at[c]) " ms, as another slot's had that began no earlier and has no fewer ticks"
+  if (w == "heard") text = text "counts as ended before " ms(end_at[c]) " ms, since only so it heard " show(by[c]) " there, as what follows shows"
   if (w == "power") text = text "was cut by power at " ms(end_at[c]) " ms"
   if (w == "open") text = text "runs still"
   print text
   if (w == "clock") late_line(c, s)
 }
-function late_line(c, s) {
+# Of a control byte that was not acknowledged: its start came too late for the cycle.
+function late_line(c, s,   seen_at) {
+  get(at - 1)
+  if (f[6] != 1) return
+  seen_at = f[3]
   get(at)
-  if (f[6] == 2 && f[9] == "N" && model == "A") print "  " since(f[3], stop_at[c]) " ms after the stop the cycle of " plural(ticks_of[s], "tick") " had ended by the clock"
+  if (f[6] == 2 && f[9] == "N" && model == "A") print "  " since(seen_at, stop_at[c]) " ms after the stop the cycle of " plural(ticks_of[s], "tick") " had ended by the clock"
 }
 
 # A command in the slot's write cycle, while nobody saw whether the cycle still ran: ticks.awk takes it to run.
@@ -310,17 +321,48 @@ function end_tell() {
   rule()
 }
 
+# ---- doubts, and the write cycles of these rows and of the model
+function end_doubts(   i) {
+  for (i = keys; i; i--) if (at == "" || (key_record[i] <= at && (concerns(key_slot[i]) || family(control) == 0))) print key[i]
+}
+function asked_stop(   s, shows) {
+  for (s = 0; s < 8; s++) if (s in kind_of) shows = shows "; show " s
+  if ($6 == 4) { print "then" shows "; event 4 0 0" shows; asks = 0 }
+  else print "then; event " $6 " " $7 " " $8
+}
+function left_of(part,   n, w, i) {
+  n = split(part, w, " ")
+  for (i = 1; i < n; i++) if (w[i] == "left") return w[i + 1]
+  return ""
+}
+# A line of edges' about a stop: which slots had no cycle before it and have one behind it.
+function begun_by(line, record,   part, n, i, s, was, behind) {
+  n = split(line, part, "; ")
+  for (i = 1; i <= n; i++) {
+    if (part[i] ~ /^event 4 /) behind = 1
+    if (part[i] !~ /^show [0-7]: /) continue
+    s = substr(part[i], 6, 1)
+    if (!behind) was[s] = left_of(part[i])
+    else if (was[s] == "" && left_of(part[i]) != "") print s, record
+  }
+}
+
 # ---- unfit
 function end_unfit(   way) {
   if (ticks_of[$2] > 1) way = "a shorter write cycle for slot " $2 ", the faster one"
   if (ticks_of[$5] < 5) way = way (way == "" ? "" : ", or ") "a longer " (way == "" ? "write cycle" : "one") " for slot " $5
   print "from " ms($8) " ms on it is not judged (up to there it agrees): slot " $2 "'s write cycle from " ms($3) " ms was over" ($4 == "-" ? "" : " before " ms($4) " ms") ", while slot " $5 "'s from " ms($6) " ms " \
-    ($7 == "-" ? "was not" : "ran until " ms($7) " ms") "; as the two are told, no number of ticks fits both. Tell " way
+    ($7 == "-" ? "was not" : "was not at " ms($7) " ms") "; as the two are told, no number of ticks fits both. Tell " way
 }
 
-BEGIN { FS = "\t"; told_slots(); control = -2; if (mode == "bytes") octals(); if (mode == "tell") phases(); if (mode == "asked") print setup_words() }
+BEGIN { FS = "\t"; told_slots(); control = -2; if (mode == "bytes") octals(); if (mode == "tell") phases(); if (mode == "asked" || mode == "stops") print setup_words() }
 $1 == "E" && mode == "bytes" { record_bytes($6, $7, $8, $9) }
 $1 == "E" && mode == "asked" { asked_event() }
+$1 == "E" && mode == "stops" { asked_stop() }
+$1 == "E" && mode == "model" && $6 == 4 { while ((getline shown <states) > 0) if (shown ~ /event 4 /) { begun_by(shown, $2); break } }
+$1 == "E" && mode == "doubts" && (at == "" || $2 <= at) { follow($6, $8) }
+$1 == "K" && mode == "begun" { print $2, $3 }
+$1 == "U" && mode == "doubts" { key[++keys] = $7; key_slot[keys] = $2 + 0; key_record[keys] = $3 }
 $1 == "E" && mode == "tell" && $2 <= at {
   raw[$2 + 0] = $0
   if ($10 && !($10 in first_of)) first_of[$10] = $2
@@ -334,6 +376,7 @@ $1 == "F" && mode == "unfit" { end_unfit() }
 END {
   if (mode == "bytes") printf "\n"
   if (mode == "asked") end_asked()
+  if (mode == "doubts") end_doubts()
   if (mode == "agrees") end_agrees()
   if (mode == "tell") end_tell()
 }

@@ -4,17 +4,20 @@
 # there is no number:
 #
 #   E  record's number from 0, time, line number, w (on the wires), b (beside) or t (a tick), kind, slot, value, answer, exchange (0 outside of any)
-#   K  slot, record and time of the stop that may have begun a write cycle of it, how the cycle ended (seen, clock, power, open), record and time of
-#      the event before which it ended, time at which it was last seen to run (behind that end: first seen to run longer), control byte that it ended by
-#   U  slot, record and time of a command that it may have heard or not, the command, time of the stop that began its write cycle
+#   K  slot, record and time of the stop that may have begun a write cycle of it, how the cycle ended (seen, clock, with, heard, power, open), record and time
+#      of the event before which it ended, time at which it was last seen to run (behind that end: first seen to run longer), control byte that it ended by
+#   U  slot, record and time of a command that it is taken not to have heard, the command, time of the stop that began its write cycle, a word for it
 #   O  what was left out, as exports.awk has it
 #   N  exchanges, events on the wires, events beside them, ticks, time of the first event, time of the last
 #
-# and, behind these, F: slot, stop and end of one cycle, then of another with which no ticks fit. The rows E then end with the stop before them.
+# and, behind these, F: slot, stop and end of one cycle, then slot, stop and last time at which it ran of another with which no ticks fit, and the time of the
+# stop with which the rows E then end.
 #
 # The rule. A stop may begin a cycle of a slot if it comes directly behind a write with data, or a protect or clear command, of which every byte was
 # acknowledged. The cycle is over (seen) before the start of the first exchange whose control byte the slot acknowledged, or (clock) once as many
-# milliseconds have passed as it has ticks; until then it runs, if no power is lost. Ticks stand before gates only, which are the starts and the events
+# milliseconds have passed as it has ticks; until then it runs, if no power is lost. A tick counts for every slot: where a cycle is over, so is one that began
+# no later and has no more ticks (with). Whether a slot in a cycle heard a command that another could acknowledge, the wires do not show: it is taken not to
+# have, and its cycle to run there, but for the commands in `heard`, words of rows U (heard). Ticks stand before gates only, which are the starts and the events
 # beside the wires. With P(g) ticks up to gate g, a cycle of n ticks from gate b on that ends before gate e asks for P(e) >= P(b) + n and P(e - 1) <=
 # P(b) + n - 1. The least P that do are taken. Where none do, a cycle need only run as long as it was seen to; where still none do, it is not judged.
 # What the model then says of it all is not known here.
@@ -41,7 +44,7 @@ function beside_until(when) {
 # ---- gates
 function new_gate(when,   s) {
   gate_at[++gates] = when; gate_row[n] = gates; row_of[gates] = n
-  for (s = 0; s < 8; s++) if ((s in open) && when - stop_at[open[s]] >= 1e6 * ticks_of[s]) ends(s, gates, "clock")
+  for (s = 0; s < 8; s++) if ((s in open) && by_clock(open[s], gates)) ends(s, gates, "clock")
 }
 function on_start(when) {
   if (!inside) exchange++
@@ -70,44 +73,64 @@ function asked(val, ack,   s, upper) {
     if (ack) answers(s, val)
     else if (upper == 10 || kind_of[s] == 2) declines(s)
   }
-  else if (upper == 6 && ack) {
-    s = readiest()
-    if (s >= 0) answers(s, val)
-    for (s = 0; s < 8; s++) if (s in kind_of) heard(s, val)
+  else if (upper == 6 && ack) command(val)
+  else if (val == 108 || val == 110) for (s = 0; s < 8; s++) if (s in kind_of) declines(s)    # who is in no cycle acknowledges these
+}
+function command(val,   s) {
+  s = readiest(val)
+  if (s >= 0) answers(s, val)
+  for (s = 0; s < 8; s++) {
+    if (!(s in kind_of)) continue
+    if ((s in open) && ((n "," s) in forced)) { ended_by[open[s]] = val; ends(s, start_gate, "heard") }
+    hears(s, val)
   }
 }
-# Which slot it was that acknowledged a command, if no told slot is free: the only one, or the one whose cycle has had the most of its time.
-function readiest(   s, part, most, best) {
+# Whether a slot in no cycle acknowledges a command, by document 01's table: protect and clear want high voltage, and a protected block says no.
+function may_ack(s, val) {
+  if (is_change(val)) return voltage[s] && !((s, val) in protected)
+  return val % 2 == 0 || val == 109 || !((s, val - 1) in protected)
+}
+# Which slot it was that acknowledged a command, if none in no cycle could: the only told one, or of those that could the one whose cycle has had the most of
+# its time.
+function readiest(val,   s, part, most, best) {
   best = -1
   for (s = 0; s < 8; s++) {
     if (!(s in kind_of)) continue
     if (alone) return s
+    if (!may_ack(s, val)) continue
     if (!(s in open)) return -1
     part = (gate_at[start_gate] - stop_at[open[s]]) / ticks_of[s]
     if (best < 0 || part > most) { most = part; best = s }
   }
   return best
 }
-# Some slot acknowledged a command. A protect or clear is for each whose high voltage is on and that is in no cycle, but for a block that is protected
+# Some slot acknowledged a command. A half is for each that is in no cycle; so is a protect or clear, if its high voltage is on and the block not protected
 # already.
-function heard(s, val) {
-  if (s in open) { doubt[++doubts] = open[s]; doubt_row[doubts] = n; doubt_at[doubts] = gate_at[start_gate]; doubt_byte[doubts] = val }
+function hears(s, val) {
+  if ((s in open) && (val == 108 || val == 110 || (is_change(val) && may_ack(s, val)))) doubted(open[s], val)
   delete armed[s]
   if (voltage[s] && !(s in open) && !((s, val) in protected)) armed[s] = 1
+}
+function doubted(c, val) {
+  doubt[++doubts] = c; doubt_row[doubts] = n; doubt_at[doubts] = gate_at[start_gate]; doubt_byte[doubts] = val
+  busy_gate[c] = start_gate
 }
 # A slot acknowledged a control byte: if its cycle ran still before that exchange's start, it ended there.
 function answers(s, val,   c) {
   if (s in open) ends(s, start_gate, "seen")
   c = latest[s]
+  if (c && how[c] == "with" && !(c in told_gate)) { told_gate[c] = start_gate; ended_by[c] = val; return }
   if (!c || end_gate[c] < start_gate || how[c] == "power") return
   end_gate[c] = start_gate; how[c] = "seen"; ended_by[c] = val
 }
-# It did not: its cycle runs still, or, for the first time, longer than by the clock.
+# It did not: its cycle runs still, or, for the first time, longer than by the clock. Where it should be over since another is, no ticks fit.
 function declines(s,   c) {
   c = latest[s]
-  if (s in open) busy_gate[c] = start_gate
+  if (s in open) { busy_gate[c] = start_gate; ran_at[c] = gate_at[start_gate] }
   if ((s in open) || (c && how[c] == "clock" && busy_at[c] < gate_at[end_gate[c]])) busy_at[c] = gate_at[start_gate]
+  if (c && !(s in open) && how[c] == "with" && !(c in told_gate) && !by_clock(c, start_gate) && !unfit) { unfit = c; busy_gate[c] = start_gate }
 }
+function by_clock(c, g) { return gate_at[g] - stop_at[c] >= 1e6 * ticks_of[slot_of[c]] }
 function on_stop(when,   s) {
   if (control >= 0 && acked && !spoiled) {
     s = int(control / 2) % 8
@@ -129,11 +152,17 @@ function begins(s, when) {
   slot_of[cycles] = s; stop_at[cycles] = when; stop_row[cycles] = n; from_gate[cycles] = busy_gate[cycles] = gates
   how[cycles] = "open"; end_gate[cycles] = busy_at[cycles] = ""; order[cycles] = control
 }
-function ends(s, g, by,   c) {
+function ends(s, g, by,   c, d) {
   c = open[s]
   end_gate[c] = g; how[c] = by
   delete open[s]
-  if (by != "power") changes(s, order[c])
+  if (by == "power") return
+  changes(s, order[c])
+  for (d = 0; d < 8; d++) {
+    if (!(d in open) || from_gate[open[d]] > from_gate[c] || ticks_of[d] > ticks_of[s]) continue
+    with[open[d]] = c
+    ends(d, g, by_clock(open[d], g) ? "clock" : "with")
+  }
 }
 
 # ---- how many ticks stand before each gate: P[], the least that fit, found group by group of cycles that overlap
@@ -141,7 +170,7 @@ function ends(s, g, by,   c) {
 function place_ticks(   c, first, reach) {
   for (c = 1; c <= cycles; c++) {
     still[c] = how[c] == "open" ? gates : how[c] == "power" ? end_gate[c] : end_gate[c] - 1
-    if (how[c] == "seen" || how[c] == "clock") ending[end_gate[c]] = ending[end_gate[c]] " " c
+    if (how[c] != "open" && how[c] != "power") ending[end_gate[c]] = ending[end_gate[c]] " " c
   }
   P[0] = done = 0
   for (c = 1; c <= cycles && !loop; c = first) {
@@ -152,6 +181,7 @@ function place_ticks(   c, first, reach) {
     place_group(c, first - 1, from_gate[c], reach)
   }
   fill(gates)
+  if (unfit && (!loop || unfit < loop)) { loop = outer = unfit; inner = with[unfit] }
 }
 function fill(g) { while (done < g) { done++; P[done] = P[done - 1] } }
 # Where no numbers fit, a cycle is only held to run as long as it was seen to: up to the last control byte that was not acknowledged.
@@ -225,8 +255,8 @@ function event_rows(last,   i, g, k) {
 }
 function cycle_rows(last,   c, end) {
   for (c = 1; c <= last; c++) {
-    end = end_gate[c]
-    print "K\t" slot_of[c] "\t" record_of[stop_row[c]] "\t" time_or(stop_at[c]) "\t" how[c] "\t" (end == "" ? "-" : record_of[row_of[end]]) "\t" \
+    end = (c in told_gate) ? told_gate[c] : end_gate[c]
+    print "K\t" slot_of[c] "\t" record_of[stop_row[c]] "\t" time_or(stop_at[c]) "\t" ((c in told_gate) ? "seen" : how[c]) "\t" (end == "" ? "-" : record_of[row_of[end]]) "\t" \
       (end == "" ? "-" : time_or(gate_at[end])) "\t" time_or(busy_at[c]) "\t" (c in ended_by ? ended_by[c] : "-")
   }
 }
@@ -234,10 +264,11 @@ function cycle_rows(last,   c, end) {
 function doubt_rows(last,   i, c) {
   for (i = 1; i <= doubts && doubt_row[i] <= last; i++) {
     c = doubt[i]
-    if (busy_at[c] == "" || busy_at[c] < doubt_at[i]) print "U\t" slot_of[c] "\t" record_of[doubt_row[i]] "\t" time_or(doubt_at[i]) "\t" doubt_byte[i] "\t" time_or(stop_at[c])
+    if (ran_at[c] == "" || ran_at[c] < doubt_at[i])
+      print "U\t" slot_of[c] "\t" record_of[doubt_row[i]] "\t" time_or(doubt_at[i]) "\t" doubt_byte[i] "\t" time_or(stop_at[c]) "\t" doubt_row[i] "," slot_of[c]
   }
 }
-function span(c) { return slot_of[c] "\t" time_or(stop_at[c]) "\t" (end_gate[c] == "" ? "-" : time_or(gate_at[end_gate[c]])) }
+function span(c, g) { return slot_of[c] "\t" time_or(stop_at[c]) "\t" (g == "" ? "-" : time_or(gate_at[g])) }
 function end_of_rows(   c, i, last) {
   beside_until(1e17)
   place_ticks()
@@ -249,10 +280,14 @@ function end_of_rows(   c, i, last) {
   doubt_rows(last)
   for (i = 1; i <= left_out; i++) print omitted[i]
   print "N\t" exchange + 0 "\t" wires + 0 "\t" nbeside + 0 "\t" P[loop ? from_gate[loop] : gates] + 0 "\t" first_time "\t" last_time
-  if (loop) print "F\t" span(inner) "\t" span(outer) "\t" time_or(stop_at[loop])
+  if (loop) print "F\t" span(inner, end_gate[inner]) "\t" span(outer, busy_gate[outer]) "\t" time_or(stop_at[loop])
 }
 
-BEGIN { FS = "\t"; alone = told_slots() == 1; next_beside = 1; control = -2 }
+BEGIN {
+  FS = "\t"; alone = told_slots() == 1; next_beside = 1; control = -2
+  m = split(heard, word, " ")
+  for (i = 1; i <= m; i++) forced[word[i]] = 1
+}
 $1 == "X" { beside[++nbeside] = $0; beside_at[nbeside] = $2 + 0 }
 $1 == "W" { beside_until($2 + 0); wires++; take($2 + 0, $3, $4, "w", $5, 0, $6, $7) }
 $1 == "O" { omitted[++left_out] = $0 }
