@@ -61,6 +61,7 @@ function end_asked(   s) {
 
 # ---- the write cycles: how long they took, up to a record
 function cycle_row() {
+  began[$2 + 0, $3 + 0] = 1
   slot[++cycles] = $2; stop[cycles] = $3; stop_at[cycles] = $4; how[cycles] = $5; end[cycles] = $6; end_at[cycles] = $7; busy[cycles] = $8; by[cycles] = $9
 }
 # How it ended, up to a record: seen, first (seen, when it was first asked), clock, power or open.
@@ -111,10 +112,13 @@ function rule(   i) {
   if (ticks) print "Ticks are not on the wires. " ticks (ticks == 1 ? " was" : " were") " placed, so that a write cycle ends before the exchange in which its slot acknowledges again, or"
   if (ticks) print "once it has had its milliseconds. A cycle that is shorter than told is not judged, only measured; all else is judged."
   else print "Ticks are not on the wires. None was placed, since no write cycle was seen to end."
+  if (clock) print "The bus ran at about " clock " kHz, by the rate that was told."
   for (i = 1; i <= omissions; i++) print "Left out: " omitted[i] "."
 }
 function omission() {
-  if ($2 == "rows") omitted[++omissions] = plural($3, "row") " before the first start, from an exchange that began before the export"
+  if ($2 == "clock") clock = $3
+  else if ($2 == "cut") omitted[++omissions] = "the last row, in line " $3 ", which has no line end and may be cut"
+  else if ($2 == "rows") omitted[++omissions] = plural($3, "row") " before the first start, from an exchange that began before the export"
   else omitted[++omissions] = "the last byte, in line " $3 ", whose ninth bit is not there"
 }
 
@@ -217,9 +221,10 @@ function state_line(s,   text) {
 }
 
 # ---- tell: what was written to a slot before this exchange
-# The last stretch of events, from a start on, that wrote to slot s: wrote_from to wrote_to; and the last half command, at half_at.
-function look_back(s, limit,   i, behind, from, acked) {
-  wrote_from = half_at = -1; control = -2
+# The last stretch of events, from a start on, that wrote to slot s: wrote_from to wrote_to; and the last half command, at half_at. A protect or clear is for
+# the slot if its stop began a write cycle there.
+function look_back(s, limit,   i, behind, from, acked, order_from, order_to) {
+  wrote_from = half_at = order_from = -1; control = -2
   for (i = 0; i < limit; i++) {
     get(i)
     if (f[6] == 1) from = i
@@ -227,10 +232,12 @@ function look_back(s, limit,   i, behind, from, acked) {
     else if (f[6] == 2 && control >= 0) behind++
     follow(f[6], f[8])
     if (f[6] == 2 && acked && writes_to(s, behind)) { wrote_from = from; wrote_to = i }
+    if (f[6] == 1) order_from = -1
+    if (f[6] == 2 && acked && control ~ /^(98|104|106|96|102)$/) { order_from = from; order_to = i }
+    if (order_from >= 0 && ((s, i) in began)) { wrote_from = order_from; wrote_to = order_to }
   }
 }
 function writes_to(s, behind) {
-  if (family(control) == 6) return control ~ /^(98|104|106|96|102)$/
   return (family(control) == 10 || family(control) == 3) && control % 2 == 0 && int(control / 2) % 8 == s && behind >= 2
 }
 function bytes_written(   i, text, n) {

@@ -8,9 +8,11 @@
 #   W  when it took place, when it began, line number, kind, value, answer      an event on the wires; a byte takes place when its ninth bit does
 #   O  rows, their number                                                       left out: what stands before the first start
 #   O  byte, line number                                                        left out: the last byte, whose ninth bit is not there
+#   O  cut, line number                                                         left out: the last row of a table, which has no line end and may be cut
+#   O  clock, kHz                                                               how fast SCL was, by the rate that is told
 #   Z                                                                           the end
 #
-# or, last, B: line number, what is wrong there. Kinds, values and answers are those of a capture.
+# or, last, B: line number, what is wrong there. Kinds, values and answers are those of a capture. `unended` is the number of the last line, if it has no end.
 
 # ---- the events, as both forms give them. The last is held back: a byte has taken place before the next event begins.
 function wire(when, from, line, kind, value, answer) {
@@ -142,6 +144,7 @@ function sigrok_ninth(when, acked) {
   if (!begun) return
   if (!waiting) bad((acked ? "an ACK" : "a NACK") " without a byte before it")
   takes_byte(waiting_from, when, waiting, waiting_first, waiting_value, acked)
+  bits += 8; bits_took += when - waiting_from
   waiting = 0
 }
 function unfinished() { bad("the byte in line " waiting " has no ACK or NACK behind it") }
@@ -151,6 +154,7 @@ function saleae_line(   n, type) {
   if (length($0) > 5000) unlike("the line is too long for a row of the table")
   n = cells($0)
   if (!columns) { header(n); return }
+  if (NR == unended) { cut_row = NR; return }
   if (n != columns) bad("the row has " n (n == 1 ? " cell" : " cells") ", and the header " columns)
   if (unacked) bad("the byte in line " unacked " has neither true nor false as its ack")
   same_name()
@@ -269,6 +273,8 @@ function end_of_file() {
   release(9e15)
   if (early) print "O\trows\t" early
   if (waiting || unacked) print "O\tbyte\t" waiting + unacked
+  if (cut_row) print "O\tcut\t" cut_row
+  if (bits_took > 0) printf "O\tclock\t%.0f\n", bits * 1e6 / bits_took
   print "Z"
 }
 

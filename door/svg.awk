@@ -127,11 +127,11 @@ function reach(p, how,   q, n, x, far, started) {
   return far
 }
 # May p stand on the strip that has come to x? An exchange that fits a strip stands on one strip. Within a longer one, a start wants what is up to the
-# next start on its strip too, if the strip is half full.
+# next start on its strip too, if the strip is half full. What stands between exchanges only has to fit by itself.
 function fits(p, x,   room, all) {
   room = RIGHT - x; all = RIGHT - LEFT
   if (reach(p, 0) > room) return 0
-  if (kind[first[p]] == TICK || !idle[p] && (kind[first[p]] != START || room > all / 2)) return 1
+  if (kind[first[p]] != START || !idle[p] && room > all / 2) return 1
   if (reach(p, 2) <= all) return reach(p, 2) <= room
   return reach(p, 1) <= room || reach(p, 1) > all
 }
@@ -228,6 +228,11 @@ function blocks_of(bits, but_not,   b, list) {
   for (b = 1; b <= 4; b++) if (substr(bits, b, 1) == 1 && substr(but_not, b, 1) != 1) list = list " " b - 1
   return list
 }
+function in_a_row(list,   w, n, i, says) {
+  n = split(list, w, " ")
+  for (i = 1; i <= n; i++) says = says (i == 1 ? "" : i < n ? ", " : " and ") w[i]
+  return (n == 1 ? "block " : "blocks ") says
+}
 function end_cycle(i, x,   y, w) {
   y = lane_y[i] + bar_y[i]; w = x - since_busy[i]
   if (busy[i] && w > 0) marks = marks rect(since_busy[i], y, w, 11, "cycle") (w >= 58 ? text(since_busy[i] + 4, y + 9, "small white", "write cycle") : "")
@@ -248,8 +253,8 @@ function change(i, x, left, bits, on,   says) {
   if (on != volts[i]) { end_voltage(i, x); volts[i] = on }
   if (bits == safe[i]) return
   end_protection(i, x)
-  if (blocks_of(bits, safe[i]) != "") says = "block" blocks_of(bits, safe[i]) " protected "
-  if (blocks_of(safe[i], bits) != "") says = says "block" blocks_of(safe[i], bits) " free again"
+  if (blocks_of(bits, safe[i]) != "") says = in_a_row(blocks_of(bits, safe[i])) " protected "
+  if (blocks_of(safe[i], bits) != "") says = says in_a_row(blocks_of(safe[i], bits)) " free again"
   marks = marks text(x + 4, lane_y[i] + bar_y[i] + 9, "small", says)
   safe[i] = bits
 }
@@ -407,7 +412,10 @@ function print_pages(   b, y, page, n) {
 }
 
 $1 == "P" { module[$2] = ($3 == 1 ? "memory, " : "sensor, ") $4 " ms" }
-$1 == "C" && $2 !~ /^ *#/ { setup = 1 }
+$1 == "C" && $2 !~ /^ *#/ {
+  setup = 1
+  if (i = index($2, "#")) add_line(comments, events + 1, bare(substr($2, 1, i - 1)) ": " bare(substr($2, i)))
+}
 $1 == "C" && $2 ~ /^ *#/ {
   if (setup || events) add_line(comments, events + 1, bare($2))
   else title = (title == "" ? "" : title "\n") bare($2)
