@@ -1,8 +1,12 @@
 # shellcheck shell=bash
 # What the commands of ./plungerhen have in common; sourced, not run. Who sources it has set `here`, this folder, and `called`.
 # shellcheck disable=SC2154    # these two
-say() { printf '%s: %s\n' "$called" "${*//[[:cntrl:]]/?}" >&2; }
+say() { noted ''; printf '%s: %s\n' "$called" "${*//[[:cntrl:]]/?}" >&2; }
 die() { say "$@"; exit 2; }
+
+# Long work, where `long` is set, takes its time. On a terminal that is said, and the line erased again: noted WORDS, noted ''
+long=
+noted() { [ ! -t 2 ] || [ -z "$long" ] || printf '\r\033[K%s' "${1//[[:cntrl:]]/?}" >&2; }
 
 # readable FILE: ends with a sentence if it is not
 readable() {

@@ -128,7 +128,7 @@ function declines(s,   c) {
   c = latest[s]
   if (s in open) { busy_gate[c] = start_gate; ran_at[c] = gate_at[start_gate] }
   if ((s in open) || (c && how[c] == "clock" && busy_at[c] < gate_at[end_gate[c]])) busy_at[c] = gate_at[start_gate]
-  if (c && !(s in open) && how[c] == "with" && !(c in told_gate) && !by_clock(c, start_gate) && !unfit) { unfit = c; busy_gate[c] = start_gate }
+  if (c && !(s in open) && how[c] == "with" && !(c in told_gate) && !by_clock(c, start_gate) && !unfit) { unfit = c; unfit_gate = start_gate }
 }
 function by_clock(c, g) { return gate_at[g] - stop_at[c] >= 1e6 * ticks_of[slot_of[c]] }
 function on_stop(when,   s) {
@@ -280,7 +280,7 @@ function end_of_rows(   c, i, last) {
   doubt_rows(last)
   for (i = 1; i <= left_out; i++) print omitted[i]
   print "N\t" exchange + 0 "\t" wires + 0 "\t" nbeside + 0 "\t" P[loop ? from_gate[loop] : gates] + 0 "\t" first_time "\t" last_time
-  if (loop) print "F\t" span(inner, end_gate[inner]) "\t" span(outer, busy_gate[outer]) "\t" time_or(stop_at[loop])
+  if (loop) print "F\t" span(inner, end_gate[inner]) "\t" span(outer, outer == unfit ? unfit_gate : busy_gate[outer]) "\t" time_or(stop_at[loop])
 }
 
 BEGIN {
