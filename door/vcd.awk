@@ -22,8 +22,8 @@ function stop(t) {
   sda(t + 10, 1)
 }
 function clocked(t, bit) { scl(t, 0); sda(t + 2, bit); scl(t + 5, 1) }
-function byte(t, value, ninth,   i) {
-  for (i = 7; i >= 0; i--) { clocked(t, int(value / 2 ^ i) % 2); t += 10 }
+function byte(t, value, ninth,   weight) {
+  for (weight = 128; weight >= 1; weight /= 2) { clocked(t, int(value / weight) % 2); t += 10 }
   clocked(t, ninth)
   scl(t + 10, 0)
 }
