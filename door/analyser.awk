@@ -132,7 +132,7 @@ function end_agrees() {
 }
 
 # ---- tell: the event, and the exchange up to it
-function fail(sentence) { print sentence; failed = 1; exit 1 }
+function fail(sentence) { print sentence; exit 1 }
 function get(i) { split(raw[i], f, "\t") }
 function words_of(i) { get(i); return record_words(f[6], f[7], f[8]) }
 function heading(   text) {
@@ -334,7 +334,7 @@ function end_doubts(   i) {
 }
 function asked_stop(   s, shows) {
   for (s = 0; s < 8; s++) if (s in kind_of) shows = shows "; show " s
-  if ($6 == 4) { print "then" shows "; event 4 0 0" shows; asks = 0 }
+  if ($6 == 4) print "then" shows "; event 4 0 0" shows
   else print "then; event " $6 " " $7 " " $8
 }
 function left_of(part,   n, w, i) {
