@@ -64,7 +64,7 @@ function cycle_row() {
   began[$2 + 0, $3 + 0] = 1
   slot[++cycles] = $2; stop[cycles] = $3; stop_at[cycles] = $4; how[cycles] = $5; end[cycles] = $6; end_at[cycles] = $7; busy[cycles] = $8; by[cycles] = $9
 }
-# How it ended, up to a record: seen, first (seen, when it was first asked), clock, power or open.
+# How it ended, up to a record, as its row says; `first` if it was seen when it was first asked, `open` if it ended later.
 function how_by(c, upto) {
   if (how[c] == "open" || end[c] > upto) return "open"
   return how[c] == "seen" && busy[c] == "-" ? "first" : how[c]
@@ -270,7 +270,6 @@ function cycle_line(s,   c, latest, text, w) {
   if (w == "seen" || w == "first") text = text "counts as ended before " ms(end_at[c]) " ms, since the chip acknowledged " show(by[c]) " there"
   if (w == "clock") text = text "counts as ended before " ms(end_at[c]) " ms, since " ticks_of[s] " ms had passed"
   if (w == "with") text = text "counts as ended before " ms(end_at[c]) " ms, as another slot's had that began no earlier and has no fewer ticks"
-  if (w == "heard") text = text "counts as ended before " ms(end_at[c]) " ms, since only so it heard " show(by[c]) " there, as what follows shows"
   if (w == "power") text = text "was cut by power at " ms(end_at[c]) " ms"
   if (w == "open") text = text "runs still"
   print text
