@@ -7,12 +7,12 @@ use native.Mathlib.Omega.{arith}
 use lib.ListN.{replicate, length-replicate}
 use Rattle.rules.specs.declared.Bus.{Bus}
 use Rattle.rules.specs.declared.Event.{Event}
-use Rattle.batch.specs.Lists.{Left, eventsOf}
-use Rattle.batch.proofs.Promise.{same-places}
-use Rattle.listed.specs.declared.Told.{Told}
-use Rattle.listed.specs.Listed.{blank, toldOf}
-use Rattle.listed.proofs.Laws.{text-most}
-use Rattle.lending.specs.Given.{givenOf}
+use Rattle.list_entry.specs.Lists.{Left, eventsOf}
+use Rattle.list_entry.proofs.Promise.{same-places}
+use Rattle.list_lend.specs.declared.text.Told.{Told}
+use Rattle.list_lend.specs.Listed.{blank, toldOf}
+use Rattle.list_lend.proofs.text.Laws.{text-most}
+use Rattle.list_lend.specs.Given.{givenOf}
 
 pub given-most : (b : Bus) (m : List ℕ) (es : List Event) (count : ℕ) (out : List ℕ) (r : Told) (n o : List ℕ) → givenOf b m es (replicate count blank) out ≡ (r, n, o) → count ≤ 4096 → r .end ≤ 16388
 unfolding givenOf toldOf

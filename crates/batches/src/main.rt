@@ -36,8 +36,8 @@ struct Going {
 fn give_list(bus: Bus, mem: &mut [u8], records: &[u8], count: usize, out: &mut [u8]) -> Bus
     requires { ⌜ (count ≤ 4096) × (length (now records) ≤ 16384) × (length (now out) ≡ 262140) ⌝ }
 {
-    let told = lending::give_records(bus, mem, records, count, out);
-    opening::write(STDOUT_FILENO, out, told.end);
+    let told = list_lend::lend::give_records(bus, mem, records, count, out);
+    script_streams::opening::write(STDOUT_FILENO, out, told.end);
     told.bus
 }
 
@@ -49,8 +49,8 @@ fn read_list(bus: Bus, mem: &mut [u8], count: usize, out: &mut [u8]) -> Going
     let size = 4 * count;
     let came = io::read_full(STDIN_FILENO, &mut records[..size]);
     if came < size {
-        let end = letters::put_short(out);
-        opening::write(STDOUT_FILENO, out, end);
+        let end = script_text::letters::put_short(out);
+        script_streams::opening::write(STDOUT_FILENO, out, end);
         return Going { bus, on: false };
     }
     let next = give_list(bus, mem, &records[..size], count, out);
@@ -70,14 +70,14 @@ fn read_on(bus: Bus, mem: &mut [u8], out: &mut [u8]) -> Going
         return Going { bus, on: false };
     }
     if n < 2 {
-        let end = letters::put_short(out);
-        opening::write(STDOUT_FILENO, out, end);
+        let end = script_text::letters::put_short(out);
+        script_streams::opening::write(STDOUT_FILENO, out, end);
         return Going { bus, on: false };
     }
-    let count = listed::number_in(&number);
+    let count = list_lend::text::number_in(&number);
     if MOST < count {
-        let end = listed::put_too_many(out);
-        opening::write(STDERR_FILENO, out, end);
+        let end = list_lend::text::put_too_many(out);
+        script_streams::opening::write(STDERR_FILENO, out, end);
         return Going { bus, on: false };
     }
     read_list(bus, mem, count, out)
@@ -101,7 +101,7 @@ fn read_all(bus: Bus, mem: &mut [u8], out: &mut [u8])
 fn main() {
     let mut mem = [0u8; 4096];
     let mut out = page();
-    let begun = opening::begin(STDOUT_FILENO, &mut mem, &mut out);
+    let begun = script_streams::opening::begin(STDOUT_FILENO, &mut mem, &mut out);
     if begun.on {
         let bus = begun.bus;
         read_all(bus, &mut mem, &mut out);

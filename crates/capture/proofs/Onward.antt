@@ -9,16 +9,16 @@ use borrow.Author.Tests.{lt-ltb, le-ltb, eqb-true}
 use lib.Dec.{eqb}
 use lib.ListN.{length}
 use lib.Seq.{sets}
-use Rattle.lists.specs.Tests.{by-test, cond-true, cond-false, and-right}
+use Rattle.proof_lists.specs.Tests.{by-test, cond-true, cond-false, and-right}
 use Rattle.rules.specs.declared.Bus.{Bus}
-use Rattle.letters.specs.Letters.{shortLine}
-use Rattle.captures.specs.declared.Verdict.{Verdict}
-use Rattle.captures.specs.declared.Verdict.the-variants.{Short}
-use Rattle.captures.specs.Capture.{leftOver, closed}
-use Rattle.captures.specs.Agreement.{isAccepted}
-use Rattle.verdicts.specs.Line.{verdictLine}
-use Rattle.pieces.specs.declared.Checked.{Checked}
-use Rattle.pieces.specs.Piece.{pieceOf}
+use Rattle.script_text.specs.Letters.{shortLine}
+use Rattle.capture_rules.specs.declared.Verdict.{Verdict}
+use Rattle.capture_rules.specs.declared.Verdict.the-variants.{Short}
+use Rattle.capture_rules.specs.Capture.{leftOver, closed}
+use Rattle.capture_rules.specs.Agreement.{isAccepted}
+use Rattle.capture_pieces.specs.Line.{verdictLine}
+use Rattle.capture_pieces.specs.declared.pieces.Checked.{Checked}
+use Rattle.capture_pieces.specs.Piece.{pieceOf}
 use Rattle.capture.specs.declared.Going.{Going}
 use Rattle.capture.specs.Program.{pieceBytes, stepOf, stepsOf, Came, Reached, Ended, servedWith, Served}
 

@@ -9,24 +9,24 @@ use borrow.Author.Tests.{lt-ltb, le-ltb, ltb-true, ltb-false, eq-eqb}
 use lib.Dec.{eqb, ltb}
 use lib.ListN.{length, take, drop, length-append}
 use lib.Seq.{length-take-le, take-all, take-at, drop-at, drop-drop}
-use Rattle.lists.specs.Each.{allOf}
-use Rattle.lists.specs.Tests.{by-test}
+use Rattle.proof_lists.specs.Each.{allOf}
+use Rattle.proof_lists.specs.Tests.{by-test}
 use Rattle.rules.specs.declared.Bus.{Bus}
 use Rattle.rules.specs.Modelled.{memoryBytes}
 use Rattle.rules.specs.Refusals.{wrongLength, goodPair, setupOf}
 use Rattle.rules.specs.Runs.{Bench}
-use Rattle.records.specs.Records.{pairsOf}
-use Rattle.records.proofs.Laws.{pairs-of}
-use Rattle.frame.specs.Frame.{cutSetup, firstLine, goesOn, firstBus, beginOf}
-use Rattle.frame.proofs.Laws.{first-length, written}
-use Rattle.captures.specs.declared.Verdict.{Verdict}
-use Rattle.captures.specs.declared.Verdict.the-variants.{Accepted, Differs, Short, Refused}
-use Rattle.captures.specs.Capture.{capturedIn, leftOver, verdictFrom, benchFrom, closed, startOf, verdictOf}
-use Rattle.captures.specs.Agreement.{isAccepted, onward}
-use Rattle.captures.proofs.First.{decided}
-use Rattle.captures.proofs.Pieces.{left-pieces, verdict-pieces}
-use Rattle.verdicts.specs.Line.{verdictLine}
-use Rattle.pieces.specs.Piece.{pieceOf}
+use Rattle.script_text.specs.Records.{pairsOf}
+use Rattle.script_text.proofs.records.Laws.{pairs-of}
+use Rattle.script_turns.specs.Frame.{cutSetup, firstLine, goesOn, firstBus, beginOf}
+use Rattle.script_turns.proofs.frame.Laws.{first-length, written}
+use Rattle.capture_rules.specs.declared.Verdict.{Verdict}
+use Rattle.capture_rules.specs.declared.Verdict.the-variants.{Accepted, Differs, Short, Refused}
+use Rattle.capture_rules.specs.Capture.{capturedIn, leftOver, verdictFrom, benchFrom, closed, startOf, verdictOf}
+use Rattle.capture_rules.specs.Agreement.{isAccepted, onward}
+use Rattle.capture_rules.proofs.First.{decided}
+use Rattle.capture_rules.proofs.Pieces.{left-pieces, verdict-pieces}
+use Rattle.capture_pieces.specs.Line.{verdictLine}
+use Rattle.capture_pieces.specs.Piece.{pieceOf}
 use Rattle.capture.specs.declared.Going.{Going}
 use Rattle.capture.specs.Asked.{writtenFor}
 use Rattle.capture.specs.Program.{pieceBytes, stepOf, stepsOf, begun, servedWith, Ended, Served, serveWrites, Wrote, captureWrites, InPieces, joined}

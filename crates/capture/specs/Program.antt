@@ -9,15 +9,15 @@ use lib.Dec.{eqb, ltb}
 use lib.ListN.{length, take}
 use lib.Seq.{sets}
 use Rattle.rules.specs.declared.Bus.{Bus}
-use Rattle.frame.specs.declared.Begun.{Begun}
-use Rattle.frame.specs.Frame.{beginOf}
-use Rattle.captures.specs.declared.Verdict.{Verdict}
-use Rattle.captures.specs.declared.Verdict.the-variants.{Accepted, Short}
-use Rattle.captures.specs.Capture.{leftOver, closed}
-use Rattle.captures.specs.Agreement.{isAccepted}
-use Rattle.verdicts.specs.Line.{verdictLine}
-use Rattle.pieces.specs.declared.Checked.{Checked}
-use Rattle.pieces.specs.Piece.{pieceOf}
+use Rattle.script_turns.specs.declared.frame.Begun.{Begun}
+use Rattle.script_turns.specs.Frame.{beginOf}
+use Rattle.capture_rules.specs.declared.Verdict.{Verdict}
+use Rattle.capture_rules.specs.declared.Verdict.the-variants.{Accepted, Short}
+use Rattle.capture_rules.specs.Capture.{leftOver, closed}
+use Rattle.capture_rules.specs.Agreement.{isAccepted}
+use Rattle.capture_pieces.specs.Line.{verdictLine}
+use Rattle.capture_pieces.specs.declared.pieces.Checked.{Checked}
+use Rattle.capture_pieces.specs.Piece.{pieceOf}
 use Rattle.capture.specs.declared.Going.{Going}
 
 -- bytes of a full piece: 4,096 records

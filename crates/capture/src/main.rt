@@ -8,7 +8,7 @@ ghost use lib.ListN.{length};
 ghost use Rattle.rules.specs.Modelled.{memoryBytes};
 ghost use Rattle.rules.specs.Refusals.{inRange};
 ghost use Rattle.capture.specs.Program.{Came, Ended, Served};
-use captures::Verdict;
+use capture_rules::Verdict;
 use libc::STDIN_FILENO;
 use libc::STDOUT_FILENO;
 use rules::Bus;
@@ -36,16 +36,16 @@ fn read_on(g: Going, mem: &mut [u8], buf: &mut [u8]) -> Going
     let n = io::read_full(STDIN_FILENO, buf);
     let bus = g.bus;
     let number = g.number;
-    let checked = pieces::piece(bus, mem, number, &buf[..n]);
+    let checked = capture_pieces::pieces::piece(bus, mem, number, &buf[..n]);
     let so_far = checked.verdict;
-    let verdict = pieces::closed(so_far, n % pieces::RECORD);
+    let verdict = capture_pieces::pieces::closed(so_far, n % capture_pieces::pieces::RECORD);
     let full = n == buf.len();
     let next = checked.bus;
     Going {
         bus: next,
-        number: number + n / pieces::RECORD,
+        number: number + n / capture_pieces::pieces::RECORD,
         verdict,
-        on: pieces::accepted(verdict) & full,
+        on: capture_pieces::pieces::accepted(verdict) & full,
     }
 }
 
@@ -79,19 +79,19 @@ fn serve(bus: Bus, mem: &mut [u8], out: &mut [u8]) -> usize
 {
     let came = io::read_full(STDIN_FILENO, mem);
     if came < Bus::MEMORY {
-        return letters::put_short(out);
+        return script_text::letters::put_short(out);
     }
     let verdict = check_records(bus, mem);
-    verdicts::put_verdict(out, verdict)
+    capture_pieces::text::put_verdict(out, verdict)
 }
 
 fn main() {
     let mut mem = [0u8; 4096];
     let mut out = [0u8; 64];
-    let begun = opening::begin(STDOUT_FILENO, &mut mem, &mut out);
+    let begun = script_streams::opening::begin(STDOUT_FILENO, &mut mem, &mut out);
     if begun.on {
         let bus = begun.bus;
         let ended = serve(bus, &mut mem, &mut out);
-        opening::write(STDOUT_FILENO, &out, ended);
+        script_streams::opening::write(STDOUT_FILENO, &out, ended);
     }
 }

@@ -2,7 +2,7 @@
 // came of it. `stdin` says what a line may hold, and `stdout` has what document 01 asks for.
 ghost use Prim.Native.Nat.{_≤_};
 ghost use lib.ListN.{length};
-use listed::Told;
+use list_lend::text::Told;
 use rules::Answer;
 use rules::BlockNo;
 use rules::Bus;
@@ -11,8 +11,8 @@ use rules::Outcome;
 use rules::Pair;
 use rules::Slot;
 use rules::SlotNo;
-use saved::Saved;
-use tries::Bench;
+use save_rules::Saved;
+use edges_text::commands::Bench;
 
 fn least(a: usize, b: usize) -> usize
     ensures { λ r. ⌜ r ≤ b ⌝ }
@@ -23,15 +23,15 @@ fn least(a: usize, b: usize) -> usize
 // An event on the bus with the first `length` bytes.
 fn event(slots: [Slot; 8], mem: &mut [u8], length: usize, e: Event) -> Outcome {
     let n = least(length, mem.len());
-    bus::event(Bus { slots }, &mut mem[..n], e)
+    bus_event::event(Bus { slots }, &mut mem[..n], e)
 }
 
 // An event, and what came of it.
 fn act(b: Bench, mem: &mut [u8; 8192], t: [u32; 38]) -> Bench {
     let was = b.slots;
     let old = *mem;
-    let out = event(was, mem, b.length, tries::event(t));
-    told::came(out, was, &old, mem);
+    let out = event(was, mem, b.length, edges_text::commands::event(t));
+    edges_text::report::came(out, was, &old, mem);
     let bus = out.bus;
     let slots = bus.slots;
     let mut next = b;
@@ -43,29 +43,29 @@ fn block(slots: [Slot; 8], mem: &[u8], length: usize, n: u32, k: u32) {
     let end = least(length, mem.len());
     let s = SlotNo((n % 256) as u8);
     let b = BlockNo((k % 256) as u8);
-    told::part(reader::block(&mem[..end], Bus { slots }, s, b));
+    edges_text::report::part(bus_block::block(&mem[..end], Bus { slots }, s, b));
 }
 
 // The capture of some pairs, the first `length` bytes, and a command's bytes as records.
 fn check(pairs: [Pair; 8], mem: &[u8], length: usize, t: [u32; 38]) {
     let end = least(length, mem.len());
-    let records = tries::bytes(t);
-    let n = words::bytes(t);
-    told::verdict(checking::check(pairs, &mem[..end], &records[..n]));
+    let records = edges_text::commands::bytes(t);
+    let n = edges_text::words::bytes(t);
+    edges_text::report::verdict(capture_entry::check(pairs, &mem[..end], &records[..n]));
 }
 
 // A bench with the first `length` bytes, saved into the first `room` bytes of the shelf.
 fn saved(slots: [Slot; 8], mem: &[u8], length: usize, shelf: &mut [u8], room: usize) -> Saved {
     let end = least(length, mem.len());
     let n = least(room, shelf.len());
-    saving::save(Bus { slots }, &mem[..end], &mut shelf[..n])
+    save_entry::save(Bus { slots }, &mem[..end], &mut shelf[..n])
 }
 
 // The form's length or the refusal.
 fn tell(s: Saved) {
     match s {
-        Saved::Form(n) => told::kept(n),
-        Saved::Refused(r) => told::answer(Answer::Refused(r)),
+        Saved::Form(n) => edges_text::report::kept(n),
+        Saved::Refused(r) => edges_text::report::answer(Answer::Refused(r)),
     }
 }
 
@@ -74,14 +74,14 @@ fn save(b: Bench, mem: &[u8; 8192], shelf: &mut [u8; 8192], room: u32) {
     let slots = b.slots;
     let old = *shelf;
     tell(saved(slots, mem, b.length, shelf, room as usize));
-    told::changed(!check::same(&old, shelf));
+    edges_text::report::changed(!check::same(&old, shelf));
 }
 
 // The first `size` bytes of the shelf as a form, read into the bus with the first `length` bytes.
 fn restored(slots: [Slot; 8], mem: &mut [u8], length: usize, shelf: &[u8], size: usize) -> Outcome {
     let end = least(length, mem.len());
     let n = least(size, shelf.len());
-    restoring::restore(Bus { slots }, &mut mem[..end], &shelf[..n])
+    save_restore::restore(Bus { slots }, &mut mem[..end], &shelf[..n])
 }
 
 // A restore, and what came of it.
@@ -89,7 +89,7 @@ fn restore(b: Bench, mem: &mut [u8; 8192], shelf: &[u8; 8192], size: u32) -> Ben
     let was = b.slots;
     let old = *mem;
     let out = restored(was, mem, b.length, shelf, size as usize);
-    told::came(out, was, &old, mem);
+    edges_text::report::came(out, was, &old, mem);
     let bus = out.bus;
     let slots = bus.slots;
     let mut next = b;
@@ -105,10 +105,10 @@ fn put(shelf: &mut [u8; 8192], v: u32, n: u32, i: u32) {
 // What is done with the shelf.
 fn shelve(b: Bench, mem: &mut [u8; 8192], shelf: &mut [u8; 8192], t: [u32; 38]) -> Bench {
     match t[0] {
-        names::RESTORE => return restore(b, mem, shelf, t[1]),
-        names::SAVE => save(b, mem, shelf, t[1]),
-        names::FORM => told::at(shelf, t[1], t[2]),
-        names::PUT => put(shelf, t[1], t[2], t[3]),
+        edges_text::names::RESTORE => return restore(b, mem, shelf, t[1]),
+        edges_text::names::SAVE => save(b, mem, shelf, t[1]),
+        edges_text::names::FORM => edges_text::report::at(shelf, t[1], t[2]),
+        edges_text::names::PUT => put(shelf, t[1], t[2], t[3]),
         _ => {}
     }
     b
@@ -127,28 +127,28 @@ fn given(
 {
     let end = least(size, mem.len());
     let all = least(places, 65535);
-    lending::give_records(Bus { slots }, &mut mem[..end], records, all, text)
+    list_lend::lend::give_records(Bus { slots }, &mut mem[..end], records, all, text)
 }
 
 // The front of the text.
 fn lines(text: &[u8], end: usize) {
     let n = least(end, text.len());
-    told::lines(&text[..n]);
+    edges_text::report::lines(&text[..n]);
 }
 
 // A list, with a text for what stands at its places, and what came of it.
 fn give(b: Bench, mem: &mut [u8; 8192], text: &mut [u8; 262140], t: [u32; 38]) -> Bench {
     let was = b.slots;
     let old = *mem;
-    let all = tries::bytes(t);
+    let all = edges_text::commands::bytes(t);
     let places = all[0] as usize;
-    let n = words::bytes(t);
+    let n = edges_text::words::bytes(t);
     let from = least(1, n);
     let done = given(was, mem, b.length, &all[from..n], places, text);
     lines(text, done.end);
     let bus = done.bus;
     let slots = bus.slots;
-    told::changes(was, slots, !check::same(&old, mem));
+    edges_text::report::changes(was, slots, !check::same(&old, mem));
     let mut next = b;
     next.slots = slots;
     next
@@ -164,41 +164,41 @@ fn look(b: Bench, mem: &[u8; 8192], t: [u32; 38]) {
     let pairs = b.pairs;
     let slots = b.slots;
     match t[0] {
-        names::SHOW => told::slot(slots[(t[1] % 8) as usize]),
-        names::AT => told::at(mem, t[1], t[2]),
-        names::BLOCK => block(slots, mem, b.length, t[1], t[2]),
-        names::CHECK => check(pairs, mem, b.length, t),
+        edges_text::names::SHOW => edges_text::report::slot(slots[(t[1] % 8) as usize]),
+        edges_text::names::AT => edges_text::report::at(mem, t[1], t[2]),
+        edges_text::names::BLOCK => block(slots, mem, b.length, t[1], t[2]),
+        edges_text::names::CHECK => check(pairs, mem, b.length, t),
         _ => {}
     }
 }
 
 // A command, if it is understood.
 fn run(b: Bench, mem: &mut [u8; 8192], shelf: &mut [u8; 8192], t: [u32; 38]) -> Bench {
-    if (names::EVENT <= t[0]) & (t[0] <= names::TEMPERATURE) {
+    if (edges_text::names::EVENT <= t[0]) & (t[0] <= edges_text::names::TEMPERATURE) {
         return act(b, mem, t);
     }
-    if t[0] == names::LIST {
+    if t[0] == edges_text::names::LIST {
         return list(b, mem, t);
     }
     look(b, mem, t);
     let next = shelve(b, mem, shelf, t);
-    tries::change(next, t)
+    edges_text::commands::change(next, t)
 }
 
 // The first command of a line begins anew, unless it is `then`. A proved loop has to end, so it counts down from a number that no input uses up.
 fn main() {
     let mut mem = [0u8; 8192];
     let mut shelf = [0u8; 8192];
-    let mut b = tries::anew([Pair { kind: 0, length: 0 }; 8], &mut mem);
+    let mut b = edges_text::commands::anew([Pair { kind: 0, length: 0 }; 8], &mut mem);
     let mut end: u8 = 0;
     let mut turns = u64::MAX;
     while 0 < turns {
-        let s = words::listen(end);
+        let s = edges_text::words::listen(end);
         let t = s.words;
-        if (end != b';') & (t[0] != names::MISSING) {
+        if (end != b';') & (t[0] != edges_text::names::MISSING) {
             let pairs = b.pairs;
-            b = tries::anew(pairs, &mut mem);
-            handed::fill(&mut shelf);
+            b = edges_text::commands::anew(pairs, &mut mem);
+            edges_text::state::fill(&mut shelf);
         }
         b = run(b, &mut mem, &mut shelf, t);
         end = s.end;

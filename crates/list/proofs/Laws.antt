@@ -9,17 +9,17 @@ use borrow.Author.Tests.{lt-ltb, le-ltb, eq-eqb, ne-eqb, ltb-false}
 use lib.Dec.{ltb}
 use lib.ListN.{length, replicate, length-replicate}
 use lib.Seq.{sets}
-use Rattle.lists.specs.Tests.{by-test, cond-cases}
+use Rattle.proof_lists.specs.Tests.{by-test, cond-cases}
 use Rattle.rules.specs.declared.Event.{Event}
 use Rattle.rules.specs.Events.{letterOf, refusalNumber}
 use Rattle.rules.specs.Runs.{Bench}
-use Rattle.letters.specs.Decimal.{digit, decimalIn, decimal}
-use Rattle.letters.specs.Letters.{digitsOf, lineOf, shortLine}
-use Rattle.batch.specs.Lists.{tooFew, notTaken, taken, listed, eventsOf}
-use Rattle.listed.specs.declared.Told.{Told}
-use Rattle.listed.specs.Listed.{numberIn, eventsIn, blank, listText, toldOf, tooManyText}
-use Rattle.listed.proofs.Places.{taken-lines, taken-most}
-use Rattle.lending.specs.Given.{givenOf}
+use Rattle.script_text.specs.Decimal.{digit, decimalIn, decimal}
+use Rattle.script_text.specs.Letters.{digitsOf, lineOf, shortLine}
+use Rattle.list_entry.specs.Lists.{tooFew, notTaken, taken, listed, eventsOf}
+use Rattle.list_lend.specs.declared.text.Told.{Told}
+use Rattle.list_lend.specs.Listed.{numberIn, eventsIn, blank, listText, toldOf, tooManyText}
+use Rattle.list_lend.proofs.text.Places.{taken-lines, taken-most}
+use Rattle.list_lend.specs.Given.{givenOf}
 use Rattle.list.specs.declared.Answered.{Answered}
 use Rattle.list.specs.Asked.{linesFor, tooMany, isCut, listFor, putFor, answeredBy, answerOf}
 

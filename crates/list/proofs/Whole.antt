@@ -9,19 +9,19 @@ use borrow.Author.Tests.{lt-ltb, le-ltb, ltb-true, ltb-false}
 use lib.Dec.{ltb}
 use lib.ListN.{length, take, drop, length-append, drop-of-length-le}
 use lib.Seq.{sets, drop-at, drop-drop, take-at, take-all}
-use Rattle.lists.specs.Each.{allOf}
-use Rattle.lists.specs.Tests.{by-test}
+use Rattle.proof_lists.specs.Each.{allOf}
+use Rattle.proof_lists.specs.Tests.{by-test}
 use Rattle.rules.specs.declared.Bus.{Bus}
 use Rattle.rules.specs.Refusals.{goodPair}
 use Rattle.rules.specs.Runs.{Bench}
-use Rattle.records.specs.Records.{pairsOf}
-use Rattle.records.proofs.Laws.{pairs-of}
-use Rattle.frame.specs.Frame.{startingMemory, cutSetup, firstLine, goesOn, firstBus, beginOf}
-use Rattle.frame.proofs.Laws.{first-length, written}
-use Rattle.listed.specs.Listed.{numberIn, tooManyText}
+use Rattle.script_text.specs.Records.{pairsOf}
+use Rattle.script_text.proofs.records.Laws.{pairs-of}
+use Rattle.script_turns.specs.Frame.{startingMemory, cutSetup, firstLine, goesOn, firstBus, beginOf}
+use Rattle.script_turns.proofs.frame.Laws.{first-length, written}
+use Rattle.list_lend.specs.Listed.{numberIn, tooManyText}
 use Rattle.list.specs.declared.Answered.{Answered}
-use Rattle.opening.specs.Written.{onOutput, onErrors}
-use Rattle.lines.specs.Script.{begunAt}
+use Rattle.script_streams.specs.Written.{onOutput, onErrors}
+use Rattle.script_turns.specs.Script.{begunAt}
 use Rattle.list.specs.Asked.{tooMany, listFor, endFor, writtenFor, answeredBy, answerOf}
 use Rattle.list.specs.Program.{Served, fronted, serveWrites, listWrites}
 use Rattle.list.proofs.Laws.{list-most}

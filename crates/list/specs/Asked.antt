@@ -6,16 +6,16 @@ use mathlib.Core.List.{List, [], _∷_, _++_}
 use lib.Dec.{eqb, ltb}
 use lib.ListN.{length, take, drop}
 use lib.Seq.{sets}
-use Rattle.lists.specs.Each.{allOf}
+use Rattle.proof_lists.specs.Each.{allOf}
 use Rattle.rules.specs.declared.Event.{Event}
 use Rattle.rules.specs.Refusals.{goodPair}
 use Rattle.rules.specs.Runs.{Bench, answers}
-use Rattle.records.specs.Records.{pairsOf}
-use Rattle.letters.specs.Letters.{shortLine}
-use Rattle.frame.specs.Frame.{badSetupLine}
-use Rattle.lines.specs.Script.{begunAt}
-use Rattle.listed.specs.Listed.{numberIn, eventsIn, answerLines, dotLines, tooManyText}
-use Rattle.opening.specs.Written.{Written, onOutput, onErrors}
+use Rattle.script_text.specs.Records.{pairsOf}
+use Rattle.script_text.specs.Letters.{shortLine}
+use Rattle.script_turns.specs.Frame.{badSetupLine}
+use Rattle.script_turns.specs.Script.{begunAt}
+use Rattle.list_lend.specs.Listed.{numberIn, eventsIn, answerLines, dotLines, tooManyText}
+use Rattle.script_streams.specs.Written.{Written, onOutput, onErrors}
 use Rattle.list.specs.declared.Answered.{Answered}
 
 -- "An answer list shorter than the event list is refusal 9": its line

@@ -7,11 +7,11 @@ use mathlib.Core.List.{List}
 use lib.ListN.{length, take}
 use Rattle.rules.specs.declared.Bus.{Bus}
 use Rattle.rules.specs.Runs.{Bench}
-use Rattle.frame.specs.declared.Begun.{Begun}
-use Rattle.frame.specs.Frame.{beginOf}
-use Rattle.listed.specs.Listed.{numberIn}
+use Rattle.script_turns.specs.declared.frame.Begun.{Begun}
+use Rattle.script_turns.specs.Frame.{beginOf}
+use Rattle.list_lend.specs.Listed.{numberIn}
 use Rattle.list.specs.declared.Answered.{Answered}
-use Rattle.opening.specs.Written.{Written, onOutput, onErrors}
+use Rattle.script_streams.specs.Written.{Written, onOutput, onErrors}
 use Rattle.list.specs.Asked.{answerOf}
 
 -- what the program's reads bring, as many bytes as there is room for, and the answer to it. The bytes that come no contract can say

@@ -4,7 +4,7 @@
 ghost use mathlib.Core.Path.{_≡_};
 ghost use Prim.Native.Nat.{_≤_};
 ghost use lib.ListN.{length};
-ghost use Rattle.listed.specs.Listed.{numberIn};
+ghost use Rattle.list_lend.specs.Listed.{numberIn};
 ghost use Rattle.list.specs.Asked.{answerOf, putFor};
 ghost use Rattle.list.specs.Program.{Served};
 use libc::STDIN_FILENO;
@@ -32,8 +32,8 @@ fn given(bus: Bus, mem: &mut [u8], number: &[u8], records: &[u8], out: &mut [u8]
     requires { ⌜ (2 ≤ length (now number)) × (length (now records) ≤ 16384) × (262140 ≤ length (now out)) ⌝ }
     ensures { λ r. ⌜ putFor (record { bus = bus; memory = now (mem .entry) }) (now (number .entry)) (now (records .entry)) (now (out .entry)) ≡ (r, now (out .exit)) ⌝ }
 {
-    let places = listed::number_in(number);
-    let told = lending::give_records(bus, mem, records, places, out);
+    let places = list_lend::text::number_in(number);
+    let told = list_lend::lend::give_records(bus, mem, records, places, out);
     told.end
 }
 
@@ -44,15 +44,15 @@ fn answer(bus: Bus, mem: &mut [u8], number: &[u8], records: &[u8], out: &mut [u8
     ensures { λ r. ⌜ (numberIn (now (number .entry)) ≤ 65535) × (answerOf (record { bus = bus; memory = now (mem .entry) }) (now (number .entry)) (now (records .entry)) (now (out .entry)) ≡ (r, now (out .exit))) ⌝ }
 {
     if records.len() == TOO_MANY {
-        let end = listed::put_too_many(out);
+        let end = list_lend::text::put_too_many(out);
         return Answered { end, output: false };
     }
     if number.len() < 2 {
-        let end = letters::put_short(out);
+        let end = script_text::letters::put_short(out);
         return Answered { end, output: true };
     }
     if records.len() % 4 != 0 {
-        let end = letters::put_short(out);
+        let end = script_text::letters::put_short(out);
         return Answered { end, output: true };
     }
     let end = given(bus, mem, number, records, out);
@@ -75,10 +75,10 @@ fn serve(bus: Bus, mem: &mut [u8], out: &mut [u8]) -> Answered
 fn main() {
     let mut mem = [0u8; 4096];
     let mut out = room();
-    let begun = opening::begin(STDOUT_FILENO, &mut mem, &mut out);
+    let begun = script_streams::opening::begin(STDOUT_FILENO, &mut mem, &mut out);
     if begun.on {
         let bus = begun.bus;
         let answered = serve(bus, &mut mem, &mut out);
-        opening::write(opening::descriptor(answered.output), &out, answered.end);
+        script_streams::opening::write(script_streams::opening::descriptor(answered.output), &out, answered.end);
     }
 }

@@ -8,14 +8,14 @@ use borrow.Author.Tests.{lt-ltb, le-ltb, eq-eqb, ne-eqb}
 use lib.Dec.{eqb, ltb}
 use lib.ListN.{length, replicate}
 use lib.Seq.{sets}
-use Rattle.lists.specs.Tests.{cond-cases}
+use Rattle.proof_lists.specs.Tests.{cond-cases}
 use Rattle.rules.specs.declared.SlotNo.{SlotNo}
 use Rattle.rules.specs.Runs.{Bench}
-use Rattle.letters.specs.Letters.{shortLine}
-use Rattle.planner.specs.declared.Planned.{Planned}
-use Rattle.planner.specs.Plan.{bufferBytes, planOf, planValue}
-use Rattle.listing.specs.Listing.{textOf}
-use Rattle.listing.proofs.Laws.{text-length}
+use Rattle.script_text.specs.Letters.{shortLine}
+use Rattle.plan_rules.specs.declared.Planned.{Planned}
+use Rattle.plan_rules.specs.Plan.{bufferBytes, planOf, planValue}
+use Rattle.plan_pages.specs.Listing.{textOf}
+use Rattle.plan_pages.proofs.text.Laws.{text-length}
 use Rattle.plan.specs.Asked.{planText, lastText, jobBytes, endText, answerOf}
 use Rattle.plan.proofs.Fits.{plan-fits}
 

@@ -9,21 +9,21 @@ use borrow.Author.Tests.{lt-ltb, le-ltb, ltb-true, ltb-false}
 use lib.Dec.{ltb}
 use lib.ListN.{length, getD, take, drop, length-append, List·getD-append}
 use lib.Seq.{sets, length-take-le, take-all, take-at, drop-at, drop-drop}
-use Rattle.lists.specs.Each.{allOf}
-use Rattle.lists.specs.Tests.{by-test}
+use Rattle.proof_lists.specs.Each.{allOf}
+use Rattle.proof_lists.specs.Tests.{by-test}
 use Rattle.rules.specs.declared.Bus.{Bus}
 use Rattle.rules.specs.declared.SlotNo.{SlotNo}
 use Rattle.rules.specs.Refusals.{goodPair, setupOf}
 use Rattle.rules.specs.Runs.{Bench}
-use Rattle.records.specs.Records.{pairsOf}
-use Rattle.records.proofs.Laws.{pairs-of}
-use Rattle.letters.specs.Letters.{shortLine}
-use Rattle.frame.specs.Frame.{cutSetup, firstLine, goesOn, firstBus, beginOf}
-use Rattle.frame.proofs.Laws.{first-length, written}
-use Rattle.lines.specs.Script.{recordsIn, benchTo}
-use Rattle.lines.specs.Program.{Read, inputOf}
-use Rattle.running.specs.Program.{Ran, turnsLeave, begun}
-use Rattle.running.proofs.Whole.{turns-left}
+use Rattle.script_text.specs.Records.{pairsOf}
+use Rattle.script_text.proofs.records.Laws.{pairs-of}
+use Rattle.script_text.specs.Letters.{shortLine}
+use Rattle.script_turns.specs.Frame.{cutSetup, firstLine, goesOn, firstBus, beginOf}
+use Rattle.script_turns.proofs.frame.Laws.{first-length, written}
+use Rattle.script_turns.specs.Script.{recordsIn, benchTo}
+use Rattle.script_turns.specs.Program.{Read, inputOf}
+use Rattle.script_streams.specs.Ran.{Ran, turnsLeave, begun}
+use Rattle.script_streams.proofs.running.Whole.{turns-left}
 use Rattle.plan.specs.Asked.{endText, answerOf, askedBench, answerTo, writtenFor}
 use Rattle.plan.specs.Program.{serveWrites, planWrites}
 use Rattle.plan.specs.Went.{Served}

@@ -6,17 +6,17 @@ use mathlib.Core.List.{List}
 use lib.Dec.{eqb, ltb}
 use lib.ListN.{length, take, drop, getD, replicate}
 use lib.Seq.{sets}
-use Rattle.lists.specs.Each.{allOf}
+use Rattle.proof_lists.specs.Each.{allOf}
 use Rattle.rules.specs.declared.SlotNo.{SlotNo}
 use Rattle.rules.specs.Refusals.{goodPair, setupOf}
 use Rattle.rules.specs.Runs.{Bench}
-use Rattle.records.specs.Records.{pairsOf}
-use Rattle.letters.specs.Letters.{shortLine}
-use Rattle.frame.specs.Frame.{badSetupLine}
-use Rattle.lines.specs.Script.{benchTo, recordsIn}
-use Rattle.planner.specs.declared.Planned.{Planned}
-use Rattle.planner.specs.Plan.{bufferBytes, planOf}
-use Rattle.listing.specs.Listing.{textOf}
+use Rattle.script_text.specs.Records.{pairsOf}
+use Rattle.script_text.specs.Letters.{shortLine}
+use Rattle.script_turns.specs.Frame.{badSetupLine}
+use Rattle.script_turns.specs.Script.{benchTo, recordsIn}
+use Rattle.plan_rules.specs.declared.Planned.{Planned}
+use Rattle.plan_rules.specs.Plan.{bufferBytes, planOf}
+use Rattle.plan_pages.specs.Listing.{textOf}
 
 -- the plan for slot k of a bench and an image, in a buffer of zeros, as it is written
 unfoldable pub planText : Bench → SlotNo → List ℕ → List ℕ

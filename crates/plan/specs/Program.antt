@@ -6,10 +6,10 @@ use mathlib.Core.Bool.{cond}
 use mathlib.Core.List.{List, [], _++_}
 use lib.ListN.{length, take, getD}
 use Rattle.rules.specs.declared.Bus.{Bus}
-use Rattle.frame.specs.declared.Begun.{Begun}
-use Rattle.frame.specs.Frame.{beginOf}
-use Rattle.lines.specs.Program.{Read}
-use Rattle.running.specs.Program.{Ran, turnsLeave, begun}
+use Rattle.script_turns.specs.declared.frame.Begun.{Begun}
+use Rattle.script_turns.specs.Frame.{beginOf}
+use Rattle.script_turns.specs.Program.{Read}
+use Rattle.script_streams.specs.Ran.{Ran, turnsLeave, begun}
 use Rattle.plan.specs.Asked.{answerOf}
 
 -- what is written after a good setup

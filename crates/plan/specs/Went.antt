@@ -5,8 +5,8 @@ use mathlib.Core.Path.{_≡_}
 use mathlib.Core.List.{List}
 use lib.ListN.{length, getD}
 use Rattle.rules.specs.declared.Bus.{Bus}
-use Rattle.running.specs.declared.Going.{Going}
-use Rattle.running.specs.Went.{Ended}
+use Rattle.script_streams.specs.declared.running.Going.{Going}
+use Rattle.script_streams.specs.Running.{Ended}
 use Rattle.plan.specs.Asked.{answerOf}
 
 -- memory, slot and image as they were read, so many bytes of each; then the records, and the answer

@@ -29,14 +29,14 @@ fn answer(
     ensures { λ r. ⌜ answerOf (record { bus = bus; memory = now (mem .entry) }) slot (now (image .entry)) came left (now (out .entry)) ≡ (r, now (out .exit)) ⌝ }
 {
     if came < 4609 {
-        return letters::put_short(out);
+        return script_text::letters::put_short(out);
     }
     if left != 0 {
-        return letters::put_short(out);
+        return script_text::letters::put_short(out);
     }
     let mut records = [0u8; 4096];
-    let planned = planning::plan(bus, mem, slot, image, &mut records);
-    listing::put_plan(out, planned, &records)
+    let planned = plan_entry::plan(bus, mem, slot, image, &mut records);
+    plan_pages::text::put_plan(out, planned, &records)
 }
 
 // What follows the setup: memory, slot and image, then records to the end of the input, which may be behind us already. Where the answer ends that
@@ -51,7 +51,7 @@ fn serve(bus: Bus, mem: &mut [u8], out: &mut [u8]) -> usize
     let number = io::read_full(STDIN_FILENO, &mut slot);
     let wanted = io::read_full(STDIN_FILENO, &mut image);
     let came = bytes + number + wanted;
-    let ran = running::run_records(bus, mem, out);
+    let ran = script_streams::running::run_records(bus, mem, out);
     let after = ran.bus;
     answer(after, mem, SlotNo(slot[0]), &image, came, ran.held, out)
 }
@@ -59,10 +59,10 @@ fn serve(bus: Bus, mem: &mut [u8], out: &mut [u8]) -> usize
 fn main() {
     let mut mem = [0u8; 4096];
     let mut out = io::large_buffer();
-    let begun = opening::begin(STDOUT_FILENO, &mut mem, &mut out);
+    let begun = script_streams::opening::begin(STDOUT_FILENO, &mut mem, &mut out);
     if begun.on {
         let bus = begun.bus;
         let answered = serve(bus, &mut mem, &mut out);
-        opening::write(STDOUT_FILENO, &out, answered);
+        script_streams::opening::write(STDOUT_FILENO, &out, answered);
     }
 }

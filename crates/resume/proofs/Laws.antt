@@ -16,12 +16,12 @@ use Rattle.rules.specs.declared.Refusal.the-variants.{WrongForm}
 use Rattle.rules.specs.Events.{letterOf, refusalNumber}
 use Rattle.rules.specs.Modelled.{memoryBytes}
 use Rattle.rules.specs.Refusals.{emptyBus}
-use Rattle.letters.specs.Decimal.{digit, decimalIn, decimal}
-use Rattle.letters.specs.Letters.{digitsOf, lineOf, shortLine, refusalLine}
-use Rattle.letters.proofs.Laws.{Put, at-front}
-use Rattle.frame.specs.declared.Begun.{Begun}
-use Rattle.frame.specs.Frame.{startingMemory}
-use Rattle.saved.specs.Reading.{restoreOf}
+use Rattle.script_text.specs.Decimal.{digit, decimalIn, decimal}
+use Rattle.script_text.specs.Letters.{digitsOf, lineOf, shortLine, refusalLine}
+use Rattle.script_text.proofs.letters.Laws.{Put, at-front}
+use Rattle.script_turns.specs.declared.frame.Begun.{Begun}
+use Rattle.script_turns.specs.Frame.{startingMemory}
+use Rattle.save_rules.specs.Reading.{restoreOf}
 use Rattle.resume.specs.Asked.{badFormLine, formBytes, tooLong, wantedBytes, stoppedBy, begunBy, beginOf}
 
 -- the line of a form that is refused

@@ -8,18 +8,18 @@ use native.Mathlib.Omega.{arith}
 use borrow.Author.Tests.{not-false}
 use lib.Dec.{ltb}
 use lib.ListN.{length}
-use Rattle.lists.specs.Tests.{cond-cases}
+use Rattle.proof_lists.specs.Tests.{cond-cases}
 use Rattle.rules.specs.declared.Answer.the-variants.{Refused}
 use Rattle.rules.specs.declared.Outcome.{Outcome}
 use Rattle.rules.specs.declared.Refusal.the-variants.{MemoryLength, WrongForm}
 use Rattle.rules.specs.Refusals.{wrongLength, inRange, emptyBus}
-use Rattle.letters.specs.Letters.{refusalLine}
-use Rattle.letters.proofs.Laws.{line-length}
-use Rattle.frame.specs.declared.Begun.{Begun}
-use Rattle.frame.specs.Frame.{startingMemory}
-use Rattle.frame.proofs.Laws.{empty-in-range}
-use Rattle.saved.specs.Reading.{accepted, restoreOf}
-use Rattle.saved.proofs.Once.{accepted-in-range}
+use Rattle.script_text.specs.Letters.{refusalLine}
+use Rattle.script_text.proofs.letters.Laws.{line-length}
+use Rattle.script_turns.specs.declared.frame.Begun.{Begun}
+use Rattle.script_turns.specs.Frame.{startingMemory}
+use Rattle.script_turns.proofs.frame.Laws.{empty-in-range}
+use Rattle.save_rules.specs.Reading.{accepted, restoreOf}
+use Rattle.save_rules.proofs.Once.{accepted-in-range}
 use Rattle.resume.specs.Asked.{formBytes, tooLong, stoppedBy, begunBy, beginOf}
 
 abbrev Good : ℕ → Begun × List ℕ × List ℕ → Type 0

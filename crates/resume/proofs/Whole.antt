@@ -9,19 +9,19 @@ use borrow.Author.Tests.{lt-ltb, le-ltb, eq-eqb}
 use lib.Dec.{eqb, ltb}
 use lib.ListN.{length, take, drop, length-append, length-replicate, List·getD-append}
 use lib.Seq.{sets, take-at, drop-at}
-use Rattle.lists.specs.Tests.{by-test}
+use Rattle.proof_lists.specs.Tests.{by-test}
 use Rattle.rules.specs.declared.Answer.the-variants.{Refused}
 use Rattle.rules.specs.declared.Refusal.the-variants.{WrongForm}
 use Rattle.rules.specs.Modelled.{memoryBytes}
 use Rattle.rules.specs.Refusals.{wrongLength, emptyBus}
-use Rattle.letters.specs.Letters.{shortLine, refusalLine}
-use Rattle.frame.specs.declared.Begun.{Begun}
-use Rattle.frame.specs.Frame.{startingMemory}
-use Rattle.frame.proofs.Laws.{written}
-use Rattle.lines.specs.Program.{Read, inputOf, Fits, turnsWrite}
-use Rattle.lines.proofs.Whole.{turns-whole}
-use Rattle.saved.specs.Reading.{accepted, restored, restoreOf}
-use Rattle.saved.proofs.Back.{restores-form}
+use Rattle.script_text.specs.Letters.{shortLine, refusalLine}
+use Rattle.script_turns.specs.declared.frame.Begun.{Begun}
+use Rattle.script_turns.specs.Frame.{startingMemory}
+use Rattle.script_turns.proofs.frame.Laws.{written}
+use Rattle.script_turns.specs.Program.{Read, inputOf, Fits, turnsWrite}
+use Rattle.script_turns.proofs.turns.Whole.{turns-whole}
+use Rattle.save_rules.specs.Reading.{accepted, restored, restoreOf}
+use Rattle.save_rules.proofs.Back.{restores-form}
 use Rattle.resume.specs.Asked.{badFormLine, formBytes, tooLong, stoppedBy, begunBy, beginOf, resumed, writtenFor}
 use Rattle.resume.specs.Program.{Opened, resumeWrites}
 use Rattle.resume.proofs.Laws.{bad-form}

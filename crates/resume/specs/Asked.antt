@@ -9,11 +9,11 @@ use lib.Seq.{sets}
 use Rattle.rules.specs.declared.Outcome.{Outcome}
 use Rattle.rules.specs.Refusals.{emptyBus}
 use Rattle.rules.specs.Runs.{Bench}
-use Rattle.letters.specs.Letters.{shortLine, refusalLine}
-use Rattle.frame.specs.declared.Begun.{Begun}
-use Rattle.frame.specs.Frame.{startingMemory}
-use Rattle.lines.specs.Script.{linesTo, recordsIn, ending}
-use Rattle.saved.specs.Reading.{accepted, restored, restoreOf}
+use Rattle.script_text.specs.Letters.{shortLine, refusalLine}
+use Rattle.script_turns.specs.declared.frame.Begun.{Begun}
+use Rattle.script_turns.specs.Frame.{startingMemory}
+use Rattle.script_turns.specs.Script.{linesTo, recordsIn, ending}
+use Rattle.save_rules.specs.Reading.{accepted, restored, restoreOf}
 
 -- "`R10` alone for a form that is refused"
 abbrev pub badFormLine : List ℕ

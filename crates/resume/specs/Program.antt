@@ -6,8 +6,8 @@ use mathlib.Core.Path.{_≡_}
 use mathlib.Core.Bool.{cond}
 use mathlib.Core.List.{List, [], _++_}
 use lib.ListN.{length, take}
-use Rattle.frame.specs.declared.Begun.{Begun}
-use Rattle.lines.specs.Program.{Read, turnsWrite}
+use Rattle.script_turns.specs.declared.frame.Begun.{Begun}
+use Rattle.script_turns.specs.Program.{Read, turnsWrite}
 use Rattle.resume.specs.Asked.{wantedBytes, beginOf}
 
 -- four bytes at most, and no more than they say, and the beginning from them: then the memory and the output. The bytes that come no contract can say; what

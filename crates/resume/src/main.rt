@@ -9,7 +9,7 @@ ghost use Rattle.rules.specs.Modelled.{memoryBytes};
 ghost use Rattle.rules.specs.Refusals.{inRange, emptyBus};
 ghost use Rattle.resume.specs.Asked.{formBytes, wantedBytes, beginOf};
 ghost use Rattle.resume.specs.Program.{Opened};
-use frame::Begun;
+use script_turns::frame::Begun;
 use libc::STDIN_FILENO;
 use libc::STDOUT_FILENO;
 use rules::Answer;
@@ -51,7 +51,7 @@ fn wanted(head: &[u8]) -> usize
 fn stopped(end: usize) -> Begun
     ensures { λ r. ⌜ r ≡ record { bus = emptyBus; end = end; on = false } ⌝ }
 {
-    let bus = fresh::empty_bus();
+    let bus = bus_setup::empty_bus();
     Begun {
         bus,
         end,
@@ -65,22 +65,22 @@ fn begin(head: &[u8], form: &[u8], mem: &mut [u8], out: &mut [u8]) -> Begun
     requires { ⌜ (length (now mem) ≡ memoryBytes) × (6 ≤ length (now out)) ⌝ }
     ensures { λ r. ⌜ beginOf (now (head .entry)) (now (form .entry)) (now (out .entry)) ≡ (r, now (mem .exit), now (out .exit)) ⌝ }
 {
-    frame::fill(mem);
+    script_turns::frame::fill(mem);
     if head.len() < 4 {
-        return stopped(letters::put_short(out));
+        return stopped(script_text::letters::put_short(out));
     }
     let size = form_bytes(head);
     if MOST < size {
-        return stopped(letters::put_line(out, 0, Answer::Refused(Refusal::WrongForm)));
+        return stopped(script_text::letters::put_line(out, 0, Answer::Refused(Refusal::WrongForm)));
     }
     if form.len() < size {
-        return stopped(letters::put_short(out));
+        return stopped(script_text::letters::put_short(out));
     }
-    let none = fresh::empty_bus();
-    let restored = restoring::restore(none, mem, form);
+    let none = bus_setup::empty_bus();
+    let restored = save_restore::restore(none, mem, form);
     let bus = restored.bus;
     let answer = restored.answer;
-    let end = letters::put_refusal(out, answer);
+    let end = script_text::letters::put_refusal(out, answer);
     Begun {
         bus,
         end,
@@ -101,7 +101,7 @@ fn open(mem: &mut [u8], out: &mut [u8]) -> Begun
     let came = io::read_full(STDIN_FILENO, &mut form[..size]);
     let begun = begin(&head[..n], &form[..came], mem, out);
     let end = begun.end;
-    opening::write(STDOUT_FILENO, out, end);
+    script_streams::opening::write(STDOUT_FILENO, out, end);
     begun
 }
 
@@ -111,6 +111,6 @@ fn main() {
     let begun = open(&mut mem, &mut out);
     if begun.on {
         let bus = begun.bus;
-        serving::serve(bus, &mut mem, &mut out);
+        script_streams::serving::serve(bus, &mut mem, &mut out);
     }
 }

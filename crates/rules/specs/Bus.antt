@@ -3,8 +3,8 @@
 use Prim.Native.Nat.{ℕ}
 use mathlib.Core.Bool.{Bool, cond}
 use mathlib.Core.List.{List}
-use Rattle.lists.specs.Each.{mapFrom, anyFrom, firstFrom}
-use Rattle.lists.specs.Parts.{part, eachPart}
+use Rattle.proof_lists.specs.Each.{mapFrom, anyFrom, firstFrom}
+use Rattle.proof_lists.specs.Parts.{part, eachPart}
 use Rattle.rules.specs.declared.Act.{Act}
 use Rattle.rules.specs.declared.Act.the-variants.{Start, Byte, Read, Stop, Timeout, Tick, Voltage, Power, Temperature}
 use Rattle.rules.specs.declared.Answer.{Answer}

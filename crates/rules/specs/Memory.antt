@@ -5,7 +5,7 @@ use mathlib.Core.Bool.{Bool, true, false, cond}
 use mathlib.Core.List.{List}
 use lib.Dec.{eqb}
 use lib.ListN.{getD, set}
-use Rattle.lists.specs.Each.{anyFrom}
+use Rattle.proof_lists.specs.Each.{anyFrom}
 use Rattle.rules.specs.declared.Phase.the-variants.{Deaf, MemoryData, MemoryRead}
 use Rattle.rules.specs.declared.Slot.{Slot}
 use Rattle.rules.specs.Modelled.{absent, addressOf, blockOf, pageOf}

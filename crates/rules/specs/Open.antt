@@ -1,7 +1,7 @@
 -- Bundles of definitions, for `unfolding` lines: to unfold a bundle is to unfold what its own line names.
 -- Assumes nothing.
-use Rattle.lists.specs.Each
-use Rattle.lists.specs.Parts
+use Rattle.proof_lists.specs.Each
+use Rattle.proof_lists.specs.Parts
 use Rattle.rules.specs.Modelled
 use Rattle.rules.specs.Fields
 use Rattle.rules.specs.Events

@@ -6,7 +6,7 @@ use mathlib.Core.List.{List, [], _∷_, _++_}
 use mathlib.Core.Option.{Option, none, some}
 use lib.Dec.{eqb}
 use lib.IntN.{ℤ}
-use Rattle.lists.specs.Each.{allOf}
+use Rattle.proof_lists.specs.Each.{allOf}
 use Rattle.rules.specs.declared.Act.{Act}
 use Rattle.rules.specs.declared.Carried.{Carried}
 use Rattle.rules.specs.declared.Carried.the-variants as carries

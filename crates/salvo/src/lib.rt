@@ -1,6 +1,6 @@
 // Sixty-four events given as one list from arrays by value, and what their answers come to: for the benchmark of lists.
 ghost use mathlib.Core.Path.{_≡_};
-ghost use Rattle.batch.specs.Lists.{eventsOf};
+ghost use Rattle.list_entry.specs.Lists.{eventsOf};
 use rules::Answer;
 use rules::Bus;
 use rules::Event;
@@ -41,6 +41,6 @@ pub fn give(bus: Bus, mem: &mut [u8], list: [Event; 64], answers: [Answer; 64]) 
     ensures { λ r. ⌜ (r .bus ≡ eventsOf bus (now (mem .entry)) list answers .0 .bus) × (now (mem .exit) ≡ eventsOf bus (now (mem .entry)) list answers .1) ⌝ }
 {
     let mut lent = answers;
-    let done = batch::events(bus, mem, &list, &mut lent);
+    let done = list_entry::events(bus, mem, &list, &mut lent);
     sum_up(done, lent)
 }

@@ -9,19 +9,19 @@ use borrow.Author.Tests.{eq-eqb, ne-eqb, ltb-false}
 use lib.Dec.{eqb, ltb}
 use lib.ListN.{length}
 use lib.Seq.{sets}
-use Rattle.lists.specs.Tests.{cond-cases}
+use Rattle.proof_lists.specs.Tests.{cond-cases}
 use Rattle.rules.specs.declared.Answer.the-variants as answer
 use Rattle.rules.specs.declared.Bus.{Bus}
 use Rattle.rules.specs.declared.Refusal.{Refusal}
 use Rattle.rules.specs.declared.Refusal.the-variants.{MemoryLength, WrongState, Busy, TooShort}
 use Rattle.rules.specs.Refusals.{wrongLength, inRange}
 use Rattle.rules.specs.Runs.{Bench}
-use Rattle.letters.specs.Letters.{lineOf, shortLine}
-use Rattle.letters.proofs.Laws.{Put, at-front, line-length}
-use Rattle.saved.specs.declared.Saved.{Saved}
-use Rattle.saved.specs.declared.Saved.the-variants.{Form, Refused}
-use Rattle.saved.specs.Form.{formOf}
-use Rattle.saved.specs.Saving.{allQuiet, saveOf}
+use Rattle.script_text.specs.Letters.{lineOf, shortLine}
+use Rattle.script_text.proofs.letters.Laws.{Put, at-front, line-length}
+use Rattle.save_rules.specs.declared.Saved.{Saved}
+use Rattle.save_rules.specs.declared.Saved.the-variants.{Form, Refused}
+use Rattle.save_rules.specs.Form.{formOf}
+use Rattle.save_rules.specs.Saving.{allQuiet, saveOf}
 use Rattle.save.specs.declared.Answered.{Answered}
 use Rattle.save.specs.Asked.{savedAnswer, answerOf}
 

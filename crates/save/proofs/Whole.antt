@@ -9,8 +9,8 @@ use borrow.Author.Tests.{lt-ltb, le-ltb, eq-eqb}
 use lib.Dec.{eqb, ltb}
 use lib.ListN.{length, drop, length-append, length-replicate}
 use lib.Seq.{sets, take-append-seam, drop-at}
-use Rattle.lists.specs.Each.{allOf}
-use Rattle.lists.specs.Tests.{by-test}
+use Rattle.proof_lists.specs.Each.{allOf}
+use Rattle.proof_lists.specs.Tests.{by-test}
 use Rattle.rules.specs.declared.Bus.{Bus}
 use Rattle.rules.specs.declared.Refusal.the-variants.{Busy}
 use Rattle.rules.specs.Events.{letterOf, refusalNumber}
@@ -18,24 +18,24 @@ use Rattle.rules.specs.Modelled.{memoryBytes}
 use Rattle.rules.specs.Refusals.{wrongLength, inRange, goodPair}
 use Rattle.rules.specs.Runs.{Bench}
 use Rattle.rules.proofs.Range.Kept.{setup-in-range}
-use Rattle.records.specs.Records.{pairsOf}
-use Rattle.records.proofs.Laws.{pairs-of}
-use Rattle.letters.specs.Decimal.{digit, decimalIn, decimal}
-use Rattle.letters.specs.Letters.{digitsOf, lineOf, shortLine}
-use Rattle.frame.specs.Frame.{startingMemory, cutSetup, firstLine, goesOn, firstBus, beginOf}
-use Rattle.frame.proofs.Laws.{first-length, written}
-use Rattle.lines.specs.Script.{recordsIn, benchTo, begunAt}
-use Rattle.lines.specs.Program.{Read, inputOf}
-use Rattle.lines.proofs.Onward.{bench-in-range, bench-length}
-use Rattle.running.specs.Program.{Ran, begun}
-use Rattle.running.proofs.Whole.{turns-left}
-use Rattle.saved.specs.declared.Saved.the-variants.{Refused}
-use Rattle.saved.specs.Form.{formOf}
-use Rattle.saved.specs.Saving.{allQuiet, saveOf}
-use Rattle.saved.proofs.Back.{saves-form}
-use Rattle.saved.proofs.Places.{length-formOf, length-most}
+use Rattle.script_text.specs.Records.{pairsOf}
+use Rattle.script_text.proofs.records.Laws.{pairs-of}
+use Rattle.script_text.specs.Decimal.{digit, decimalIn, decimal}
+use Rattle.script_text.specs.Letters.{digitsOf, lineOf, shortLine}
+use Rattle.script_turns.specs.Frame.{startingMemory, cutSetup, firstLine, goesOn, firstBus, beginOf}
+use Rattle.script_turns.proofs.frame.Laws.{first-length, written}
+use Rattle.script_turns.specs.Script.{recordsIn, benchTo, begunAt}
+use Rattle.script_turns.specs.Program.{Read, inputOf}
+use Rattle.script_turns.proofs.turns.Onward.{bench-in-range, bench-length}
+use Rattle.script_streams.specs.Ran.{Ran, begun}
+use Rattle.script_streams.proofs.running.Whole.{turns-left}
+use Rattle.save_rules.specs.declared.Saved.the-variants.{Refused}
+use Rattle.save_rules.specs.Form.{formOf}
+use Rattle.save_rules.specs.Saving.{allQuiet, saveOf}
+use Rattle.save_rules.proofs.Back.{saves-form}
+use Rattle.save_rules.proofs.Places.{length-formOf, length-most}
 use Rattle.save.specs.declared.Answered.{Answered}
-use Rattle.opening.specs.Written.{onOutput, onErrors}
+use Rattle.script_streams.specs.Written.{onOutput, onErrors}
 use Rattle.save.specs.Asked.{longestForm, busyLine, benchText, endText, savedAnswer, answerOf, answerTo, writtenFor}
 use Rattle.save.specs.Program.{Served, fronted, serveWrites, saveWrites}
 

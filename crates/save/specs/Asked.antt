@@ -6,19 +6,19 @@ use mathlib.Core.List.{List, [], _∷_}
 use lib.Dec.{eqb, ltb}
 use lib.ListN.{length, drop}
 use lib.Seq.{sets}
-use Rattle.lists.specs.Each.{allOf}
+use Rattle.proof_lists.specs.Each.{allOf}
 use Rattle.rules.specs.declared.Answer.the-variants as answer
 use Rattle.rules.specs.Refusals.{goodPair}
 use Rattle.rules.specs.Runs.{Bench}
-use Rattle.records.specs.Records.{pairsOf}
-use Rattle.letters.specs.Letters.{lineOf, shortLine}
-use Rattle.frame.specs.Frame.{badSetupLine}
-use Rattle.lines.specs.Script.{benchTo, recordsIn, begunAt}
-use Rattle.saved.specs.declared.Saved.{Saved}
-use Rattle.saved.specs.declared.Saved.the-variants.{Form, Refused}
-use Rattle.saved.specs.Form.{formOf}
-use Rattle.saved.specs.Saving.{allQuiet, saveOf}
-use Rattle.opening.specs.Written.{Written, onOutput, onErrors}
+use Rattle.script_text.specs.Records.{pairsOf}
+use Rattle.script_text.specs.Letters.{lineOf, shortLine}
+use Rattle.script_turns.specs.Frame.{badSetupLine}
+use Rattle.script_turns.specs.Script.{benchTo, recordsIn, begunAt}
+use Rattle.save_rules.specs.declared.Saved.{Saved}
+use Rattle.save_rules.specs.declared.Saved.the-variants.{Form, Refused}
+use Rattle.save_rules.specs.Form.{formOf}
+use Rattle.save_rules.specs.Saving.{allQuiet, saveOf}
+use Rattle.script_streams.specs.Written.{Written, onOutput, onErrors}
 use Rattle.save.specs.declared.Answered.{Answered}
 
 -- bytes of the longest form, that of eight slots of kind 2 (`saved` shows that none is longer: proofs/Places.length-most): four heads of 3, and in them 16, 4,096, 32 and 120

@@ -7,14 +7,14 @@ use mathlib.Core.Bool.{cond}
 use mathlib.Core.List.{List}
 use lib.ListN.{take}
 use Rattle.rules.specs.declared.Bus.{Bus}
-use Rattle.frame.specs.declared.Begun.{Begun}
-use Rattle.frame.specs.Frame.{beginOf}
-use Rattle.lines.specs.Program.{Read}
-use Rattle.running.specs.declared.Going.{Going}
-use Rattle.running.specs.Program.{Ran, turnsLeave, begun}
-use Rattle.running.specs.Went.{Ended}
+use Rattle.script_turns.specs.declared.frame.Begun.{Begun}
+use Rattle.script_turns.specs.Frame.{beginOf}
+use Rattle.script_turns.specs.Program.{Read}
+use Rattle.script_streams.specs.declared.running.Going.{Going}
+use Rattle.script_streams.specs.Ran.{Ran, turnsLeave, begun}
+use Rattle.script_streams.specs.Running.{Ended}
 use Rattle.save.specs.declared.Answered.{Answered}
-use Rattle.opening.specs.Written.{Written, onOutput, onErrors}
+use Rattle.script_streams.specs.Written.{Written, onOutput, onErrors}
 use Rattle.save.specs.Asked.{answerOf}
 
 -- the records' reads as they ended, over some buffer for their lines, and the answer

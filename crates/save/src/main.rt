@@ -12,7 +12,7 @@ ghost use Rattle.save.specs.Program.{Served};
 use libc::STDERR_FILENO;
 use rules::Answer;
 use rules::Bus;
-use saved::Saved;
+use save_rules::Saved;
 
 // Bytes of the longest form, that of eight slots of kind 2: four heads of 3, and in them 16, 4,096, 32 and 120.
 const LONGEST: usize = 4276;
@@ -29,14 +29,14 @@ fn answer(bus: Bus, mem: &[u8], left: usize, out: &mut [u8]) -> Answered
     ensures { λ r. ⌜ answerOf (record { bus = bus; memory = now (mem .entry) }) left (now (out .entry)) ≡ (r, now (out .exit)) ⌝ }
 {
     if left != 0 {
-        let end = letters::put_short(out);
+        let end = script_text::letters::put_short(out);
         return Answered { end, form: false };
     }
-    let saved = saving::save(bus, mem, out);
+    let saved = save_entry::save(bus, mem, out);
     match saved {
         Saved::Form(n) => Answered { end: n, form: true },
         Saved::Refused(why) => {
-            let end = letters::put_line(out, 0, Answer::Refused(why));
+            let end = script_text::letters::put_line(out, 0, Answer::Refused(why));
             Answered { end, form: false }
         }
     }
@@ -49,7 +49,7 @@ fn serve(bus: Bus, mem: &mut [u8], out: &mut [u8]) -> Answered
     ensures { λ r. ⌜ (r .end ≤ length (now (out .exit))) × Served bus (now (mem .entry)) (now (out .entry)) r (now (out .exit)) ⌝ }
 {
     let mut lines = io::large_buffer();
-    let ran = running::run_records(bus, mem, &mut lines);
+    let ran = script_streams::running::run_records(bus, mem, &mut lines);
     let after = ran.bus;
     answer(after, mem, ran.held, out)
 }
@@ -57,10 +57,10 @@ fn serve(bus: Bus, mem: &mut [u8], out: &mut [u8]) -> Answered
 fn main() {
     let mut mem = [0u8; 4096];
     let mut out = [0u8; LONGEST];
-    let begun = opening::begin(STDERR_FILENO, &mut mem, &mut out);
+    let begun = script_streams::opening::begin(STDERR_FILENO, &mut mem, &mut out);
     if begun.on {
         let bus = begun.bus;
         let answered = serve(bus, &mut mem, &mut out);
-        opening::write(opening::descriptor(answered.form), &out, answered.end);
+        script_streams::opening::write(script_streams::opening::descriptor(answered.form), &out, answered.end);
     }
 }

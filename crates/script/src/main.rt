@@ -5,9 +5,9 @@ use libc::STDOUT_FILENO;
 fn main() {
     let mut mem = [0u8; 4096];
     let mut out = io::large_buffer();
-    let begun = opening::begin(STDOUT_FILENO, &mut mem, &mut out);
+    let begun = script_streams::opening::begin(STDOUT_FILENO, &mut mem, &mut out);
     if begun.on {
         let bus = begun.bus;
-        serving::serve(bus, &mut mem, &mut out);
+        script_streams::serving::serve(bus, &mut mem, &mut out);
     }
 }

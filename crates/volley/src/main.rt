@@ -43,7 +43,7 @@ fn one_by_one(bus: Bus, mem: &mut [u8], list: [Event; 64]) -> Summed {
     let mut at = bus;
     let mut sum = 0u8;
     for i in 0..64usize {
-        let done = bus::event(at, mem, list[i]);
+        let done = bus_event::event(at, mem, list[i]);
         at = done.bus;
         let answer = done.answer;
         let w = salvo::weight(answer);
@@ -100,7 +100,7 @@ fn finish(right: u64, count: u64) {
 
 // So many laps, behind one that says what a lap comes to.
 fn run(in_one_call: bool, count: u64) {
-    let made = fresh::setup([Pair { kind: 2, length: 5 }; 8]);
+    let made = bus_setup::setup([Pair { kind: 2, length: 5 }; 8]);
     let bus = made.bus;
     let mut mem = [0xFFu8; 4096];
     let list = events();

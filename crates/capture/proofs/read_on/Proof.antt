@@ -2,7 +2,7 @@
 -- Assumes nothing.
 use native.Mathlib.Omega.{arith}
 use borrow.Author.Needs.{needs}
-use Rattle.pieces.proofs.Onward.{piece-onward}
+use Rattle.capture_pieces.proofs.pieces.Onward.{piece-onward}
 use Rattle.capture.proofs.Onward.{came-by}
 use Rattle.capture.proofs.read_on.Statement.{statement}
 use Rattle.capture.proofs.read_on.Tie as tie

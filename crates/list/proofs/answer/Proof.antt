@@ -2,7 +2,7 @@
 -- Assumes nothing.
 use native.Mathlib.Omega.{arith}
 use borrow.Author.Needs.{needs}
-use Rattle.listed.specs.Listed.{numberIn}
+use Rattle.list_lend.specs.Listed.{numberIn}
 use Rattle.list.proofs.Laws.{answer-many, answer-no-number, answer-short, answer-list}
 use Rattle.list.proofs.answer.Statement.{statement}
 use Rattle.list.proofs.answer.Tie as tie

@@ -10,8 +10,8 @@ use mathlib.Core.List.{List, [], _∷_, _++_, map}
 use lib.Dec.{eqb}
 use lib.ListN.{length, getD, take, drop, replicate}
 use borrow.Author.Tests.{eq-eqb, ne-eqb}
-use Rattle.lists.specs.Tests.{cond-true, cond-false, by-test, and-left, and-right, both}
-use Rattle.lists.specs.Parts.{part, length-part, getD-part}
+use Rattle.proof_lists.specs.Tests.{cond-true, cond-false, by-test, and-left, and-right, both}
+use Rattle.proof_lists.specs.Parts.{part, length-part, getD-part}
 use Rattle.rules.specs.declared.Act.the-variants.{Tick, Power}
 use Rattle.rules.specs.declared.Cut.{Cut}
 use Rattle.rules.specs.declared.Event.{Event}

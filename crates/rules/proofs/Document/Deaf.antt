@@ -6,7 +6,7 @@ use mathlib.Core.Bool.{Bool, true, false, false≢true, _||_, or-true}
 use mathlib.Core.List.{List}
 use lib.Dec.{eqb}
 use borrow.Author.Tests.{eq-eqb, ne-eqb}
-use Rattle.lists.specs.Tests.{cond-cases}
+use Rattle.proof_lists.specs.Tests.{cond-cases}
 use Rattle.rules.specs.declared.Act.the-variants.{Byte, Read}
 use Rattle.rules.specs.declared.Heard.{Heard}
 use Rattle.rules.specs.declared.Phase.{Phase}

@@ -6,8 +6,8 @@ use mathlib.Core.Path.{_≡_, ap}
 use mathlib.Core.Bool.{Bool, true, false, cond}
 use mathlib.Core.List.{List}
 use lib.ListN.{length, getD}
-use Rattle.lists.specs.Each.{anyFrom-some, anyFrom-no, firstFrom-at, firstFrom-no}
-use Rattle.lists.specs.Parts.{part}
+use Rattle.proof_lists.specs.Each.{anyFrom-some, anyFrom-no, firstFrom-at, firstFrom-no}
+use Rattle.proof_lists.specs.Parts.{part}
 use Rattle.rules.specs.declared.Act.the-variants.{Byte, Read}
 use Rattle.rules.specs.declared.Answer.the-variants.{Ack, Nack, Data}
 use Rattle.rules.specs.declared.Bus.{Bus}

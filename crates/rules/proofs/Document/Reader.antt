@@ -9,7 +9,7 @@ use lib.Dec.{eqb, ltb}
 use lib.ListN.{length, getD, drop, length-take, length-drop, replicate}
 use lib.Seq.{getD-take, getD-drop}
 use borrow.Author.Tests.{eqb-true, not-false, ltb-false}
-use Rattle.lists.specs.Tests.{or-left-false, or-right-false}
+use Rattle.proof_lists.specs.Tests.{or-left-false, or-right-false}
 use Rattle.rules.specs.declared.BlockNo.{BlockNo}
 use Rattle.rules.specs.declared.Bus.{Bus}
 use Rattle.rules.specs.declared.SlotNo.{SlotNo}

@@ -9,8 +9,8 @@ use mathlib.Core.List.{List, [], _∷_}
 use lib.Dec.{ltb}
 use lib.ListN.{getD}
 use borrow.Author.Tests.{ltb-true, ltb-false, lt-ltb, le-ltb}
-use Rattle.lists.specs.Each.{mapFrom}
-use Rattle.lists.specs.Tests.{cond-cases, by-test, and-left, and-right, both}
+use Rattle.proof_lists.specs.Each.{mapFrom}
+use Rattle.proof_lists.specs.Tests.{cond-cases, by-test, and-left, and-right, both}
 use Rattle.rules.specs.declared.Cut.{Cut}
 use Rattle.rules.specs.Power.{latchedBelow, firstOf}
 

@@ -9,8 +9,8 @@ use mathlib.Core.List.{List, map}
 use lib.Dec.{eqb, leb}
 use lib.ListN.{length, set}
 use borrow.Author.Tests.{eqb-true}
-use Rattle.lists.specs.Tests.{cond-cases, by-test}
-use Rattle.lists.specs.Each.{length-mapFrom, map-mapFrom}
+use Rattle.proof_lists.specs.Tests.{cond-cases, by-test}
+use Rattle.proof_lists.specs.Each.{length-mapFrom, map-mapFrom}
 use Rattle.rules.specs.declared.Act.{Act}
 use Rattle.rules.specs.declared.Act.the-variants.{Start, Byte, Read, Stop, Timeout, Tick, Voltage, Power, Temperature}
 use Rattle.rules.specs.declared.BlockNo.{BlockNo}

@@ -10,8 +10,8 @@ use lib.Dec.{eqb, leb, ltb}
 use lib.ListN.{length, getD, set, length-set}
 use lib.Seq.{getD-set-same, getD-set-other}
 use borrow.Author.Tests.{eq-eqb, eqb-true, eqb-false, leb-true, ltb-true, le-leb, lt-ltb}
-use Rattle.lists.specs.Tests.{cond-cases, cond-same, by-test, cond-ap, and-left, and-right, both}
-use Rattle.lists.specs.Parts.{part, length-part, getD-part, eachPart, eachPart-same, length-eachPart, part-eachPart}
+use Rattle.proof_lists.specs.Tests.{cond-cases, cond-same, by-test, cond-ap, and-left, and-right, both}
+use Rattle.proof_lists.specs.Parts.{part, length-part, getD-part, eachPart, eachPart-same, length-eachPart, part-eachPart}
 use Rattle.rules.specs.declared.Act.{Act}
 use Rattle.rules.specs.declared.Act.the-variants.{Start, Byte, Read, Stop, Timeout, Tick, Voltage, Power, Temperature}
 use Rattle.rules.specs.declared.Bus.{Bus}

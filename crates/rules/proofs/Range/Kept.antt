@@ -8,8 +8,8 @@ use mathlib.Core.List.{List, [], _∷_, map}
 use lib.Dec.{eqb, leb, ltb}
 use lib.IntN.{ℤ, pos, negsuc, natAbs}
 use borrow.Author.Tests.{leb-true, ltb-false, le-leb}
-use Rattle.lists.specs.Each.{allOf, allOf-mapFrom}
-use Rattle.lists.specs.Tests.{cond-cases, by-test, and-left, and-right, both, or-right-false}
+use Rattle.proof_lists.specs.Each.{allOf, allOf-mapFrom}
+use Rattle.proof_lists.specs.Tests.{cond-cases, by-test, and-left, and-right, both, or-right-false}
 use Rattle.rules.specs.declared.Act.{Act}
 use Rattle.rules.specs.declared.Act.the-variants.{Start, Byte, Read, Stop, Timeout, Tick, Voltage, Power, Temperature}
 use Rattle.rules.specs.declared.Answer.{Answer}

@@ -9,7 +9,7 @@ use native.Mathlib.Omega.{arith}
 use borrow.Author.Tests.{eq-eqb, eqb-true}
 use lib.Bits.{bitAnd, bitOr, and-zero-r, or-zero-r}
 use lib.IntN.{ℤ}
-use Rattle.lists.specs.Tests.{cond-cases, cond-true, or-cases}
+use Rattle.proof_lists.specs.Tests.{cond-cases, cond-true, or-cases}
 use Rattle.rules.specs.declared.Act.{Act}
 use Rattle.rules.specs.declared.Sensor.{Sensor}
 use Rattle.rules.specs.declared.Slot.{Slot}

@@ -9,7 +9,7 @@ use borrow.Author.Tests.{ltb-true, ltb-false}
 use lib.Dec.{T, eqb, ltb}
 use lib.IntN.{ℤ, pos, negsuc, sucℤ, natAbs, _+ℤ_, _-ℤ_, _*ℤ_, sucℤ-*ℤ}
 use lib.Signed.{ltZ, leZ, shrZ}
-use Rattle.lists.specs.Tests.{cond-cases, by-test}
+use Rattle.proof_lists.specs.Tests.{cond-cases, by-test}
 use Rattle.rules.specs.declared.Sensor.{Sensor}
 use Rattle.rules.specs.Sensor.{stepOf, multipleBelow, multipleAbove, nearestOf, steppedOf}
 use Rattle.rules.proofs.Registers.Signed.{up, down, natural, same, plus, less, times, twice, le-to, le-from, lt-to, lt-from, lt-false, size, size-least, size-most}

@@ -7,7 +7,7 @@ use borrow.Author.Tests.{eq-eqb}
 use lib.Bits.{bitAnd}
 use lib.Dec.{leb}
 use lib.IntN.{ℤ}
-use Rattle.lists.specs.Tests.{cond-cases, and-left, and-right}
+use Rattle.proof_lists.specs.Tests.{cond-cases, and-left, and-right}
 use Rattle.rules.specs.declared.Act.{Act}
 use Rattle.rules.specs.declared.Sensor.{Sensor}
 use Rattle.rules.specs.declared.Slot.{Slot}

@@ -8,8 +8,8 @@ use borrow.Author.Tests.{not-true}
 use lib.Bits.{bitAnd}
 use lib.Dec.{eqb, leb}
 use lib.IntN.{ℤ}
-use Rattle.lists.specs.Each.{allOf}
-use Rattle.lists.specs.Tests.{cond-cases, and-left, and-right}
+use Rattle.proof_lists.specs.Each.{allOf}
+use Rattle.proof_lists.specs.Tests.{cond-cases, and-left, and-right}
 use Rattle.rules.specs.declared.Act.{Act}
 use Rattle.rules.specs.declared.Act.the-variants.{Start, Byte, Read, Stop, Timeout, Tick, Voltage, Power, Temperature}
 use Rattle.rules.specs.declared.Heard.{Heard}

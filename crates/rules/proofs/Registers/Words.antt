@@ -2,7 +2,7 @@
 -- Assumes nothing.
 use mathlib.Core.Path.{_≡_, refl}
 use lib.IntN.{ℤ}
-use Rattle.lists.specs.Tests.{cond-cases}
+use Rattle.proof_lists.specs.Tests.{cond-cases}
 use Rattle.rules.specs.declared.Sensor.{Sensor}
 use Rattle.rules.specs.Fields.{withTemperature}
 use Rattle.rules.specs.Sensor.{shutDown, converted}

@@ -3,7 +3,7 @@
 use Prim.Native.Nat.{ℕ}
 use mathlib.Core.Path.{_≡_, refl, sym, ap}
 use mathlib.Core.Bool.{Bool, true, false, not, _&&_, _||_}
-use Rattle.lists.specs.Tests.{cond-cases}
+use Rattle.proof_lists.specs.Tests.{cond-cases}
 use Rattle.rules.specs.declared.Act.{Act}
 use Rattle.rules.specs.declared.Act.the-variants.{Byte, Read}
 use Rattle.rules.specs.declared.Phase.{Phase}

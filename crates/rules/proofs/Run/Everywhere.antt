@@ -4,8 +4,8 @@ use Prim.Native.Nat.{ℕ}
 use mathlib.Core.Path.{_≡_}
 use mathlib.Core.Bool.{true}
 use mathlib.Core.List.{List, [], _∷_, map}
-use Rattle.lists.specs.Each.{Every, every-mapFrom, every-replicate, allOf}
-use Rattle.lists.specs.Tests.{cond-cases, and-left, and-right}
+use Rattle.proof_lists.specs.Each.{Every, every-mapFrom, every-replicate, allOf}
+use Rattle.proof_lists.specs.Tests.{cond-cases, and-left, and-right}
 use Rattle.rules.specs.declared.Act.{Act}
 use Rattle.rules.specs.declared.Event.{Event}
 use Rattle.rules.specs.declared.Outcome.{Outcome}

@@ -6,8 +6,8 @@ use mathlib.Core.Path.{_≡_, refl, sym, _∙_, ap, subst}
 use mathlib.Core.Bool.{true, false≢true, not}
 use mathlib.Core.List.{List, []}
 use lib.ListN.{length}
-use Rattle.lists.specs.Each.{every-at}
-use Rattle.lists.specs.Tests.{and-left, and-right}
+use Rattle.proof_lists.specs.Each.{every-at}
+use Rattle.proof_lists.specs.Tests.{and-left, and-right}
 use lib.Dec.{eqb}
 use borrow.Author.Tests.{eqb-true, eq-eqb}
 use Rattle.rules.specs.declared.Act.{Act}

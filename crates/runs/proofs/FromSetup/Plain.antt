@@ -10,9 +10,9 @@ use mathlib.Core.List.{List, [], _∷_}
 use lib.Dec.{eqb, ltb}
 use lib.ListN.{length, getD, length-set, List·getD-map}
 use borrow.Author.Tests.{not-false, eqb-true, eqb-false, eq-eqb, ltb-false}
-use Rattle.lists.specs.Alike.{every-from}
-use Rattle.lists.specs.Each.{Every, every-at, mapFrom, length-mapFrom, mapFrom-at}
-use Rattle.lists.specs.Tests.{cond-cases, by-test, and-right, or-left-false, or-right-false}
+use Rattle.proof_lists.specs.Alike.{every-from}
+use Rattle.proof_lists.specs.Each.{Every, every-at, mapFrom, length-mapFrom, mapFrom-at}
+use Rattle.proof_lists.specs.Tests.{cond-cases, by-test, and-right, or-left-false, or-right-false}
 use Rattle.rules.specs.declared.Act.{Act}
 use Rattle.rules.specs.declared.Act.the-variants.{Start, Byte, Read, Stop, Timeout, Tick, Voltage, Power, Temperature}
 use Rattle.rules.specs.declared.Bus.{Bus}

@@ -9,7 +9,7 @@ use mathlib.Core.Bool.{Bool, true, false, false≢true, not, cond, _&&_, _||_}
 use mathlib.Core.List.{List}
 use lib.Dec.{eqb, leb}
 use borrow.Author.Tests.{eqb-true, eqb-false, ne-eqb, leb-true, not-false}
-use Rattle.lists.specs.Tests.{cond-cases, by-test, and-left, and-right}
+use Rattle.proof_lists.specs.Tests.{cond-cases, by-test, and-left, and-right}
 use Rattle.rules.specs.declared.Act.{Act}
 use Rattle.rules.specs.declared.Act.the-variants.{Start, Byte, Read, Stop, Timeout, Tick, Voltage, Power, Temperature}
 use Rattle.rules.specs.declared.Event.{Event}

@@ -10,8 +10,8 @@ use mathlib.Core.List.{List, [], _∷_, _++_, append-nil, append-assoc}
 use lib.Dec.{eqb}
 use lib.ListN.{getD, set, replicate}
 use borrow.Author.Tests.{eqb-true, eqb-false, ne-eqb}
-use Rattle.lists.specs.Each.{anyFrom}
-use Rattle.lists.specs.Tests.{cond-cases, by-test, and-left, cond-true, cond-false}
+use Rattle.proof_lists.specs.Each.{anyFrom}
+use Rattle.proof_lists.specs.Tests.{cond-cases, by-test, and-left, cond-true, cond-false}
 use Rattle.rules.specs.declared.Act.{Act}
 use Rattle.rules.specs.declared.Act.the-variants.{Start, Byte, Read, Stop, Timeout, Tick, Voltage, Power, Temperature}
 use Rattle.rules.specs.declared.BlockNo.{BlockNo}

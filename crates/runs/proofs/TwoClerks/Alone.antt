@@ -6,8 +6,8 @@ use mathlib.Core.Path.{_≡_, refl, _∙_, ap, ap₂}
 use mathlib.Core.Bool.{Bool, false, cond}
 use mathlib.Core.List.{List, [], _∷_}
 use lib.ListN.{length, getD}
-use Rattle.lists.specs.Each.{mapFrom-at, anyFrom-one, firstFrom-one}
-use Rattle.lists.specs.Parts.{part}
+use Rattle.proof_lists.specs.Each.{mapFrom-at, anyFrom-one, firstFrom-one}
+use Rattle.proof_lists.specs.Parts.{part}
 use Rattle.rules.specs.declared.Act.{Act}
 use Rattle.rules.specs.declared.Carried.{Carried}
 use Rattle.rules.specs.declared.Carried.the-variants as carries

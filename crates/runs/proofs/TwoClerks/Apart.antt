@@ -6,8 +6,8 @@ use mathlib.Core.Path.{_≡_, refl, sym, _∙_, ap, ap₂, subst}
 use mathlib.Core.Bool.{true, false≢true}
 use mathlib.Core.List.{List, [], _∷_}
 use lib.ListN.{length}
-use Rattle.lists.specs.Each.{allOf}
-use Rattle.lists.specs.Tests.{by-test, and-right}
+use Rattle.proof_lists.specs.Each.{allOf}
+use Rattle.proof_lists.specs.Tests.{by-test, and-right}
 use Rattle.rules.specs.declared.Act.{Act}
 use Rattle.rules.specs.declared.Act.the-variants.{Start}
 use Rattle.rules.specs.declared.Slot.{Slot}

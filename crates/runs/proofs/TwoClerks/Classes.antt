@@ -7,8 +7,8 @@ use mathlib.Core.Bool.{Bool, true, false, false≢true, not, _&&_, _||_, and-fal
 use mathlib.Core.List.{List, [], _∷_}
 use lib.Dec.{eqb}
 use borrow.Author.Tests.{eqb-true, eq-eqb, ne-eqb}
-use Rattle.lists.specs.Each.{allOf}
-use Rattle.lists.specs.Tests.{by-test, and-left, and-right}
+use Rattle.proof_lists.specs.Each.{allOf}
+use Rattle.proof_lists.specs.Tests.{by-test, and-left, and-right}
 use Rattle.rules.specs.Modelled.{slotCount}
 use Rattle.rules.specs.Control.{selectOf}
 use Rattle.runs.specs.Exchanges.{Inside, Item, exchange, between, controls, names, mute, someOf, addressed, toNone, toOther, shared, struck, own}

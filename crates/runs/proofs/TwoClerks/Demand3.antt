@@ -6,9 +6,9 @@ use mathlib.Core.Bool.{true}
 use mathlib.Core.List.{List}
 use mathlib.Core.Option.{some}
 use lib.ListN.{length, length-map}
-use Rattle.lists.specs.Each.{allOf, every-at}
-use Rattle.lists.specs.Parts.{part}
-use Rattle.lists.specs.Tests.{cond-cases}
+use Rattle.proof_lists.specs.Each.{allOf, every-at}
+use Rattle.proof_lists.specs.Parts.{part}
+use Rattle.proof_lists.specs.Tests.{cond-cases}
 use Rattle.rules.specs.declared.Act.{Act}
 use Rattle.rules.specs.declared.Event.{Event}
 use Rattle.rules.specs.declared.Outcome.{Outcome}

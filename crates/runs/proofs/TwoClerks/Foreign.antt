@@ -7,8 +7,8 @@ use mathlib.Core.Bool.{Bool, true, false, not, _&&_, _||_}
 use mathlib.Core.List.{List, [], _∷_}
 use lib.Dec.{eqb}
 use borrow.Author.Tests.{eqb-true, eqb-false, ne-eqb, not-true}
-use Rattle.lists.specs.Each.{allOf}
-use Rattle.lists.specs.Tests.{cond-cases, by-test, and-left, and-right, or-cases}
+use Rattle.proof_lists.specs.Each.{allOf}
+use Rattle.proof_lists.specs.Tests.{cond-cases, by-test, and-left, and-right, or-cases}
 use Rattle.rules.specs.declared.Act.{Act}
 use Rattle.rules.specs.declared.Carried.{Carried}
 use Rattle.rules.specs.declared.Carried.the-variants as carries

@@ -46,7 +46,7 @@ use denote.Triple.Walked.{says, Stays, stay-dropped, gave-slice, walkOf, goes-dr
 use denote.Exit.{yes}
 use denote.Signature.{plain}
 use denote.Signature.Array.{arrayOf}
-use Rattle.batch.specs.Lists.{Left, eventsOf}
+use Rattle.list_entry.specs.Lists.{Left, eventsOf}
 use Rattle.rules.specs.declared.Bus.{Bus}
 use Rattle.rules.specs.declared.Event.{Event}
 use Rattle.rules.specs.declared.Answer.{Answer}
@@ -62,13 +62,13 @@ use Rattle.rules.proofs.Outcome as D
 use Rattle.rules.proofs.Outcome.Laws as D′
 use Rattle.salvo.proofs.Summed as R
 use Rattle.salvo.proofs.Summed.Laws as R′
-use Rattle.batch.proofs.Values.{busVal, eventsVal, answersVal, Events, Answers}
-use Rattle.walks.proofs.Lends as Lends
-use Rattle.walks.proofs.Locals.{typeOf, placed, order, span, free-all}
-use Rattle.batch.proofs.events as many
-use Rattle.batch.proofs.events.Symbol as many-def
-use Rattle.batch.proofs.events.Symbol.{name as #many}
-use Rattle.batch.proofs.events.Met as many-thm
+use Rattle.list_entry.proofs.Values.{busVal, eventsVal, answersVal, Events, Answers}
+use Rattle.proof_walks.proofs.Lends as Lends
+use Rattle.proof_walks.proofs.Locals.{typeOf, placed, order, span, free-all}
+use Rattle.list_entry.proofs.events as many
+use Rattle.list_entry.proofs.events.Symbol as many-def
+use Rattle.list_entry.proofs.events.Symbol.{name as #many}
+use Rattle.list_entry.proofs.events.Met as many-thm
 use Rattle.salvo.proofs.sum_up as up
 use Rattle.salvo.proofs.sum_up.Symbol as sum-def
 use Rattle.salvo.proofs.sum_up.Symbol.{name as #sum}

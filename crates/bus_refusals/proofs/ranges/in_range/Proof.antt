@@ -1,0 +1,34 @@
+-- Every slot passed is in range, and those to come.
+-- Assumes nothing.
+use mathlib.Core.Path.{refl, sym, _∙_, _≡_}
+use mathlib.Core.Bool.{_&&_}
+use Prim.Native.Nat.{_≤_, _<_, _-_}
+use native.Mathlib.Omega.{arith}
+use borrow.Author.Needs.{needs}
+use lib.ListN.{length, drop}
+use Rattle.proof_lists.specs.Each.{allOf, allOf-step, allOf-none}
+use Rattle.rules.specs.Refusals.{slotInRange}
+use Rattle.rules.proofs.Past.{noSlot}
+use Rattle.bus_refusals.proofs.ranges.in_range.Statement.{statement}
+use Rattle.bus_refusals.proofs.ranges.in_range.Tie as tie
+
+abbrev Inv-loop : tie.InvT-loop
+Inv-loop slots ok₀ i₀ ok i = (i ≤ 8) × (length slots ≡ 8) × ((ok && allOf slotInRange (drop i slots)) ≡ allOf slotInRange slots)
+
+abbrev μ-loop : tie.MeasureT-loop
+μ-loop slots ok₀ i₀ ok i = 8 - i
+
+pub in-range-spec : {M : Type 1} → statement M
+in-range-spec =
+    tie.close
+    (tie.spec
+    Inv-loop
+    μ-loop
+    (λ c. (omega arith, search needs, refl))
+    (λ c. search needs)
+    (λ c. search needs)
+    (λ c κs. search needs)
+    (λ c. search needs)
+    (λ c. search needs)
+    (λ c. let l = c .before .before .before .loop in let ss = c .before .before .before .before .args .t1 in let h : l .i < length ss = omega arith in (omega arith, l .inv .1, rw (c .slot-in-range .ensures) (sym (allOf-step slotInRange (l .i) ss noSlot (l .ok) h) ∙ l .inv .2)))
+    (λ c. let l = c .before .loop in sym (allOf-none slotInRange (l .i) (c .before .before .args .t1) (l .ok) (omega arith)) ∙ l .inv .2))

@@ -1,0 +1,2 @@
+pub mod ranges;
+pub mod ruling;

@@ -1,0 +1,55 @@
+// The range of a state, by document 01's row 6: docs/RANGES.md has every number.
+ghost use mathlib.Core.Path.{_≡_};
+ghost use Rattle.proof_lists.specs.Each.{allOf};
+ghost use Rattle.rules.specs.Refusals.{lengthInRange, sensorInRange, slotInRange};
+use rules::Sensor;
+use rules::Slot;
+
+// A length from 1 to 5, of an absent slot 0.
+fn length_in_range(s: Slot) -> bool
+    ensures { λ r. ⌜ r ≡ lengthInRange s ⌝ }
+{
+    if s.kind == 0 {
+        return s.length == 0;
+    }
+    (1 <= s.length) & (s.length <= 5)
+}
+
+// Whether the pointer is in its range and no register has a bit that is not kept.
+fn sensor_in_range(x: Sensor) -> bool
+    ensures { λ r. ⌜ r ≡ sensorInRange x ⌝ }
+{
+    (x.pointer <= 0x09)
+        & (x.configuration & 0x07CF == x.configuration)
+        & (x.high & 0x1FFC == x.high)
+        & (x.low & 0x1FFC == x.low)
+        & (x.critical & 0x1FFC == x.critical)
+        & (x.resolution & 0x03 == x.resolution)
+        & (x.timeout & 0x01 == x.timeout)
+}
+
+// Every number of the slot is in its range.
+fn slot_in_range(s: Slot) -> bool
+    ensures { λ r. ⌜ r ≡ slotInRange s ⌝ }
+{
+    let x = s.sensor;
+    (s.kind <= 2)
+        & length_in_range(s)
+        & (s.left <= s.length)
+        & (s.half <= 1)
+        & (s.counter <= 255)
+        & (s.place <= 15)
+        & sensor_in_range(x)
+}
+
+// Row 6 lets the state pass: every number of every slot is in its range.
+pub fn in_range(slots: [Slot; 8]) -> bool
+    ensures { λ r. ⌜ r ≡ allOf slotInRange slots ⌝ }
+{
+    let mut ok = true;
+    for i in 0..8usize {
+        let s = slots[i];
+        ok = ok & slot_in_range(s);
+    }
+    ok
+}

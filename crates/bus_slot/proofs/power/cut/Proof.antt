@@ -1,0 +1,20 @@
+-- The slot is absent, no cycle runs, or one is cut short.
+-- Assumes nothing.
+use mathlib.Core.Path.{refl}
+use borrow.Author.Needs.{needs}
+use Rattle.bus_slot.proofs.power.Laws.{cut-in-range, power-absent, power-rests, power-cuts}
+use Rattle.bus_slot.proofs.power.cut.Statement.{statement}
+use Rattle.bus_slot.proofs.power.cut.Tie as tie
+
+pub cut-spec : {M : Type 1} → statement M
+cut-spec =
+    tie.close
+    (tie.spec
+    (λ c. power-absent _ _ _ _ _ (c .if1 .taken) refl refl)
+    (λ c κs. search needs)
+    (λ c. power-rests _ _ _ _ _ (c .before .before .before .if1 .left) (c .before .if2 .taken) (c .powered .ensures) refl)
+    (λ c κs. search needs)
+    (λ c κs. (rw (c .before .shortened .ensures) (cut-in-range _ _ (c .before .before .before .before .before .before .before .pre .0)), c .before .before .before .before .before .before .before .pre .1))
+    (λ c κs. search needs)
+    (λ c. search needs)
+    (λ c. power-cuts _ _ _ _ _ (c .before .before .before .before .before .before .before .before .if1 .left) (c .before .before .before .before .before .before .if2 .left) _ _ (c .before .before .before .before .before .shortened .ensures) (c .before .before .before .ended .ensures .0) (c .before .before .before .ended .ensures .1) (c .powered2 .ensures)))

@@ -1,0 +1,5 @@
+pub mod Foreseen
+pub mod Heeded
+pub mod ReadOut
+pub mod Shown
+pub mod Signals

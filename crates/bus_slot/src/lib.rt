@@ -1,0 +1,13 @@
+pub mod phase;
+pub mod leaving;
+pub mod blocks;
+pub mod memory;
+pub mod cycle;
+pub mod obey;
+pub mod listen;
+pub mod drive;
+pub mod signal;
+pub mod power;
+pub mod pins;
+pub mod foreseen;
+pub mod step;

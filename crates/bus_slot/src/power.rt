@@ -1,0 +1,69 @@
+// A power cycle at one slot, and what it still does of a write cycle that is running.
+ghost use mathlib.Core.Path.{_≡_};
+ghost use mathlib.Core.Bool.{true};
+ghost use lib.ListN.{length};
+ghost use Rattle.rules.specs.Fresh.{powered};
+ghost use Rattle.rules.specs.Modelled.{slotBytes};
+ghost use Rattle.rules.specs.Power.{firstOf, cut, cutPart};
+ghost use Rattle.rules.specs.Refusals.{slotInRange};
+ghost use Rattle.rules.specs.Slot.{slotNext};
+use super::cycle;
+use rules::Act;
+use rules::Cut;
+use rules::Slot;
+
+// Of the latched bytes, in ascending page offset, the first so many.
+fn first_of(k: Cut, marks: [bool; 16]) -> [bool; 16]
+    ensures { λ r. ⌜ r ≡ firstOf k marks ⌝ }
+{
+    let mut first = marks;
+    let mut below: u8 = 0;
+    for i in 0..16usize {
+        if marks[i] {
+            first[i] = below < k.0;
+            below = below + 1;
+        }
+    }
+    first
+}
+
+// A running cycle with the rest lost: of its bytes the first so many are left, and of the protection to come all or nothing.
+fn shortened(k: Cut, s: Slot) -> Slot
+    ensures { λ r. ⌜ r ≡ cut k s ⌝ }
+{
+    let marks = s.marks;
+    let protection = s.protection;
+    let first = first_of(k, marks);
+    let mut next = s;
+    next.marks = first;
+    if k.0 == 0 {
+        next.coming = protection;
+    }
+    next
+}
+
+// Power keeps protection and voltage, and all else is fresh.
+fn powered(s: Slot) -> Slot
+    ensures { λ r. ⌜ r ≡ powered s ⌝ }
+{
+    let protection = s.protection;
+    let mut next = Slot::fresh(s.kind, s.length);
+    next.protection = protection;
+    next.coming = protection;
+    next.voltage = s.voltage;
+    next
+}
+
+// A power cycle; part is the slot's own 512 bytes, which change where it cuts a write cycle short. An absent slot is left alone.
+pub fn cut(k: Cut, s: Slot, part: &mut [u8]) -> Slot
+    requires { ⌜ (slotInRange s ≡ true) × (length (now part) ≡ slotBytes) ⌝ }
+    ensures { λ r. ⌜ (r ≡ slotNext 0 (Act.Power k) s) × (now (part .exit) ≡ cutPart k s (now (part .entry))) ⌝ }
+{
+    if s.kind == 0 {
+        return s;
+    }
+    if s.left == 0 {
+        return powered(s);
+    }
+    powered(cycle::ended(shortened(k, s), part))
+}

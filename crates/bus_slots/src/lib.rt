@@ -1,0 +1,2 @@
+pub mod shown;
+pub mod every;

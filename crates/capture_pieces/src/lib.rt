@@ -1,0 +1,2 @@
+pub mod pieces;
+pub mod text;

@@ -1,0 +1,5 @@
+pub mod names;
+pub mod state;
+pub mod report;
+pub mod words;
+pub mod commands;

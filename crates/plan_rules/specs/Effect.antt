@@ -1,0 +1,65 @@
+-- What a plan does on the bus, in the words that the theorems of proofs/ use: over the law's own steps, and without a look at how plans are made.
+-- Assumes nothing.
+use Prim.Native.Nat.{ℕ, zero, suc, _/_}
+use mathlib.Core.Bool.{Bool, false, not, cond, _&&_, _||_}
+use mathlib.Core.List.{List, [], _∷_, _++_}
+use lib.Dec.{eqb}
+use Rattle.rules.specs.declared.Act.{Act}
+use Rattle.rules.specs.declared.Answer.{Answer}
+use Rattle.rules.specs.declared.Answer.the-variants.{Nothing, Ack}
+use Rattle.rules.specs.declared.Event.{Event}
+use Rattle.rules.specs.declared.Phase.the-variants.{Idle}
+use Rattle.rules.specs.declared.Slot.{Slot}
+use Rattle.rules.specs.Modelled.{addressOf}
+use Rattle.rules.specs.Fields.{inPhase, inHalf, atCounter, withLeft}
+use Rattle.rules.specs.Memory.{abandoned, cancelled}
+use Rattle.rules.specs.Slot.{standing, letGo, slotNext}
+use Rattle.plan_rules.specs.Plan.{pageBytes, pageHalf, pageCounter, differs, halfBefore}
+
+-- every byte of a plan is acknowledged, and nothing else of it is answered
+unfoldable pub due : Event → Answer
+due e = cond (eqb (e .kind) 2) Ack Nothing
+
+-- the write cycles that a run begins at slot n alone, each by the page that the slot's address lies in
+unfoldable pub begunPages : ℕ → List Act → Slot → List ℕ
+begunPages n [] s = []
+begunPages n (a ∷ r) s =
+    cond (eqb (s .left) 0 && not (eqb (slotNext n a s .left) 0)) (addressOf (slotNext n a s) .0 / pageBytes ∷ []) [] ++ begunPages n r (slotNext n a s)
+
+-- a slot that has left the exchange it stood in
+unfoldable pub leaving : Slot → Slot
+leaving s = inPhase Idle (letGo (standing s) s)
+
+-- the slot that was written: it has left its exchange, is in no cycle, and nothing is latched or to come
+unfoldable pub rested : ℕ → ℕ → Slot → Slot
+rested half counter s = withLeft 0 (cancelled (abandoned (atCounter counter (inHalf half (leaving s)))))
+
+-- the pages that differ, of pages 0 to p - 1, in ascending order
+module _ (old image : List ℕ) where
+  unfoldable pub differing : ℕ → List ℕ
+  differing zero = []
+  differing (suc p) = differing p ++ cond (differs old image p) (p ∷ []) []
+
+  -- some of them does
+  unfoldable pub touched : ℕ → Bool
+  touched zero = false
+  touched (suc p) = touched p || differs old image p
+
+  module _ (s : Slot) where
+    -- the counter when pages 0 to p - 1 are done
+    unfoldable pub counterBefore : ℕ → ℕ
+    counterBefore zero = s .counter
+    counterBefore (suc p) = cond (differs old image p) (pageCounter p) (counterBefore p)
+
+    -- the half that another slot, which stood in half h, then stands in: the one that was selected last
+    unfoldable pub feltBefore : ℕ → ℕ → ℕ
+    feltBefore h zero = h
+    feltBefore h (suc p) =
+        cond (differs old image p && not (eqb (pageHalf p) (halfBefore old image s p))) (pageHalf p) (feltBefore h p)
+
+    -- the slot itself, and another slot t, when pages 0 to p - 1 are done
+    unfoldable pub ownBefore : ℕ → Slot
+    ownBefore p = cond (touched p) (rested (halfBefore old image s p) (counterBefore p) s) s
+
+    unfoldable pub otherBefore : Slot → ℕ → Slot
+    otherBefore t p = cond (touched p) (inHalf (feltBefore (t .half) p) (leaving t)) t

@@ -1,7 +1,0 @@
--- `sensor::limit_after`: the lock chooses the same branch.
--- Assumes nothing.
-use Rattle.registers.proofs.limit_after.Statement.{statement}
-use Rattle.registers.proofs.limit_after.Tie as tie
-
-pub limit-after-spec : {M : Type 1} → statement M
-limit-after-spec = tie.close (tie.spec (λ c. rw (c .if1 .taken)) (λ c. rw (c .if1 .left)))

@@ -1,0 +1,153 @@
+-- A form in full, byte by byte, and what is refused of it: a bench with a memory in slot 0 and a memory with sensor in slot 2.
+-- Assumes nothing.
+use Prim.Native.Nat.{ℕ}
+use mathlib.Core.Path.{_≡_, refl}
+use mathlib.Core.Bool.{true, false}
+use mathlib.Core.List.{List, [], _∷_, _++_}
+use lib.ListN.{length, take, set, replicate}
+use Rattle.rules.specs.declared.Bus.{Bus}
+use Rattle.rules.specs.declared.Phase.the-variants.{Control, Deaf}
+use Rattle.rules.specs.declared.Refusal.the-variants.{MemoryLength, WrongState, Busy, TooShort}
+use Rattle.rules.specs.declared.Sensor.{Sensor}
+use Rattle.rules.specs.declared.Slot.{Slot}
+use Rattle.rules.specs.Modelled.{memoryBytes}
+use Rattle.rules.specs.Fields.{inPhase, withLeft}
+use Rattle.rules.specs.Fresh.{freshSensor, absentSlot, atRest}
+use Rattle.save_rules.specs.declared.Saved.the-variants.{Form, Refused}
+use Rattle.save_rules.specs.Form.{formOf}
+use Rattle.save_rules.specs.Saving.{saveOf}
+use Rattle.save_rules.specs.Reading.{busIn, memoryIn, accepted}
+use Rattle.save_rules.specs.Open.{open-saved}
+
+-- slot 0: length 3, half 1, counter 80h, block 1 protected, high voltage off; slot 2: length 5, blocks 0 and 2 protected, high voltage on
+abbrev registers : Sensor
+registers = record { pointer = 5; configuration = 0x0241; high = 0x0500; low = 0x0104; critical = 0x0640; temperature = 0xC190; resolution = 3; timeout = 1; word = 0 }
+
+abbrev memoryOne : Slot
+memoryOne = atRest 1 3 1 0x80 (false ∷ true ∷ false ∷ false ∷ []) false freshSensor
+
+abbrev sampleBus : Bus
+sampleBus = record { slots = memoryOne ∷ absentSlot ∷ atRest 2 5 0 0x07 (true ∷ false ∷ true ∷ false ∷ []) true registers ∷ replicate 5 absentSlot }
+
+-- memory: A0h, A1h, A2h in slots 0, 1 and 2
+abbrev sampleMemory : List ℕ
+sampleMemory = replicate 512 0xA0 ++ replicate 512 0xA1 ++ replicate 512 0xA2 ++ replicate 2560 0xFF
+
+abbrev sampleForm : List ℕ
+sampleForm =
+    (0x01 ∷ 0x00 ∷ 0x10 ∷ 1 ∷ 3 ∷ 0 ∷ 0 ∷ 2 ∷ 5 ∷ replicate 10 0)
+    ++ (0x02 ∷ 0x04 ∷ 0x00 ∷ []) ++ replicate 512 0xA0 ++ replicate 512 0xA2
+    ++ (0x03 ∷ 0x00 ∷ 0x08 ∷ 0x02 ∷ 1 ∷ 0x80 ∷ 0 ∷ 0x05 ∷ 0 ∷ 0x07 ∷ 1 ∷ [])
+    ++ (0x04 ∷ 0x00 ∷ 0x0F ∷ 0x05 ∷ 0x02 ∷ 0x41 ∷ 0x05 ∷ 0x00 ∷ 0x01 ∷ 0x04 ∷ 0x06 ∷ 0x40 ∷ 0xC1 ∷ 0x90 ∷ 0x00 ∷ 0x03 ∷ 0x00 ∷ 0x01 ∷ [])
+
+-- any other memory, to read into
+abbrev blank : List ℕ
+blank = replicate memoryBytes 0
+
+-- what it is saved as, bytes past the form staying; that this is accepted; and what it restores to, bytes of absent slots staying
+pub record Sample : Type 0 where
+  pub form : formOf sampleBus sampleMemory ≡ sampleForm
+  pub saved : saveOf sampleBus sampleMemory (replicate 1080 0xEE) ≡ (Form 1075, sampleForm ++ replicate 5 0xEE)
+  pub accepts : accepted sampleForm blank ≡ true
+  pub bus : busIn sampleForm ≡ sampleBus
+  pub memory : memoryIn sampleForm blank ≡ replicate 512 0xA0 ++ replicate 512 0 ++ replicate 512 0xA2 ++ replicate 2560 0
+
+pub sample : Sample
+unfolding open-saved
+sample = record { form = refl; saved = refl; accepts = refl; bus = refl; memory = refl }
+
+-- Saving refused: slot 1, which is present, in a write cycle or in an exchange; with these a wrong memory and a number out of range come first; and a buffer
+-- that is one byte short comes last. An absent slot may be in any phase.
+abbrev withSlots : Slot → Slot → Bus
+withSlots s r = record { slots = s ∷ r ∷ replicate 6 absentSlot }
+
+pub record Savings : Type 0 where
+  pub in-cycle : saveOf (withSlots absentSlot (withLeft 1 memoryOne)) blank [] ≡ (Refused Busy, [])
+  pub in-exchange : saveOf (withSlots absentSlot (inPhase Control memoryOne)) blank [] ≡ (Refused Busy, [])
+  pub deaf : saveOf (withSlots absentSlot (inPhase Deaf memoryOne)) blank [] ≡ (Refused Busy, [])
+  pub wrong-memory : saveOf (withSlots absentSlot (withLeft 9 memoryOne)) [] [] ≡ (Refused MemoryLength, [])
+  pub wrong-state : saveOf (withSlots absentSlot (withLeft 9 memoryOne)) blank [] ≡ (Refused WrongState, [])
+  pub short : saveOf (withSlots (inPhase Deaf absentSlot) memoryOne) blank (replicate 543 0xEE) ≡ (Refused TooShort, replicate 543 0xEE)
+  pub long-enough : saveOf (withSlots (inPhase Deaf absentSlot) memoryOne) blank (replicate 544 0xEE) .0 ≡ Form 544
+  pub none : saveOf (withSlots absentSlot absentSlot) blank (replicate 28 0xEE) .0 ≡ Form 28
+
+pub savings : Savings
+unfolding open-saved
+savings = record { in-cycle = refl; in-exchange = refl; deaf = refl; wrong-memory = refl; wrong-state = refl; short = refl; long-enough = refl; none = refl }
+
+-- The form of a bench with a memory with sensor in slot 0 alone, in its fields: the setup pairs, the memory, the state, the sensor.
+abbrev pairs : List ℕ
+pairs = 0x01 ∷ 0x00 ∷ 0x10 ∷ 2 ∷ 5 ∷ replicate 14 0
+
+abbrev bytes : List ℕ
+bytes = 0x02 ∷ 0x02 ∷ 0x00 ∷ replicate 512 0xFF
+
+abbrev state : List ℕ
+state = 0x03 ∷ 0x00 ∷ 0x04 ∷ 0x0F ∷ 1 ∷ 0xFF ∷ 1 ∷ []
+
+abbrev sensor : List ℕ
+sensor = 0x04 ∷ 0x00 ∷ 0x0F ∷ 0x09 ∷ 0x02 ∷ 0x41 ∷ 0x05 ∷ 0x00 ∷ 0x01 ∷ 0x04 ∷ 0x06 ∷ 0x40 ∷ 0xC1 ∷ 0x90 ∷ 0x00 ∷ 0x03 ∷ 0x00 ∷ 0x01 ∷ []
+
+-- it is accepted, and nothing that differs from it in one of these ways
+abbrev Departs : List ℕ → Type 0
+Departs f = accepted f blank ≡ false
+
+pub record Table : Type 0 where
+  pub right : accepted (pairs ++ bytes ++ state ++ sensor) blank ≡ true
+  -- tags
+  pub wrong-tag : Departs (set pairs 0 0x05 ++ bytes ++ state ++ sensor)
+  pub wrong-order : Departs (pairs ++ bytes ++ sensor ++ state)
+  pub twice : Departs (pairs ++ bytes ++ state ++ state ++ sensor)
+  pub left-out : Departs (pairs ++ bytes ++ state)
+  -- lengths
+  pub wrong-length : Departs (pairs ++ bytes ++ set state 2 0x05 ++ sensor)
+  pub low-byte-first : Departs (pairs ++ set (set bytes 1 0x00) 2 0x02 ++ state ++ sensor)
+  pub byte-behind : Departs (pairs ++ bytes ++ state ++ sensor ++ 0x00 ∷ [])
+  pub byte-missing : Departs (pairs ++ bytes ++ state ++ take 17 sensor)
+  pub nothing : Departs []
+  -- the setup pairs: an absent slot's length, a kind and a present slot's length out of range
+  pub absent-length : Departs (set pairs 6 0x01 ++ bytes ++ state ++ sensor)
+  pub unknown-kind : Departs (set pairs 5 0x03 ++ bytes ++ state ++ sensor)
+  pub long : Departs (set pairs 4 0x06 ++ bytes ++ state ++ sensor)
+  pub no-length : Departs (set pairs 4 0x00 ++ bytes ++ state ++ sensor)
+  -- the state: protection above 15, half 2, high voltage 2
+  pub fifth-block : Departs (pairs ++ bytes ++ set state 3 0x10 ++ sensor)
+  pub third-half : Departs (pairs ++ bytes ++ set state 4 0x02 ++ sensor)
+  pub wrong-voltage : Departs (pairs ++ bytes ++ set state 6 0x02 ++ sensor)
+  -- the sensor: pointer 0Ah, a bit of 01h and of 02h that is not kept, 08h and 09h with a high byte or with bits that are not kept
+  pub wrong-pointer : Departs (pairs ++ bytes ++ state ++ set sensor 3 0x0A)
+  pub wrong-configuration : Departs (pairs ++ bytes ++ state ++ set sensor 4 0x08)
+  pub wrong-limit : Departs (pairs ++ bytes ++ state ++ set sensor 7 0x01)
+  pub high-resolution : Departs (pairs ++ bytes ++ state ++ set sensor 14 0x01)
+  pub wrong-resolution : Departs (pairs ++ bytes ++ state ++ set sensor 15 0x04)
+  pub high-timeout : Departs (pairs ++ bytes ++ state ++ set sensor 16 0x01)
+  pub wrong-timeout : Departs (pairs ++ bytes ++ state ++ set sensor 17 0x02)
+
+pub departures : Table
+unfolding open-saved
+departures = record {
+  right = refl;
+  wrong-tag = refl;
+  wrong-order = refl;
+  twice = refl;
+  left-out = refl;
+  wrong-length = refl;
+  low-byte-first = refl;
+  byte-behind = refl;
+  byte-missing = refl;
+  nothing = refl;
+  absent-length = refl;
+  unknown-kind = refl;
+  long = refl;
+  no-length = refl;
+  fifth-block = refl;
+  third-half = refl;
+  wrong-voltage = refl;
+  wrong-pointer = refl;
+  wrong-configuration = refl;
+  wrong-limit = refl;
+  high-resolution = refl;
+  wrong-resolution = refl;
+  high-timeout = refl;
+  wrong-timeout = refl;
+}

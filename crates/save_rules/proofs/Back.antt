@@ -1,0 +1,171 @@
+-- Request P5: "What was saved reads back the same, the rest as fresh, absent slots' bytes untouched".
+-- Assumes nothing.
+use Prim.Native.Nat.{ℕ, zero, suc, _+_, _≤_, _<_}
+use native.Mathlib.Omega.{arith}
+use mathlib.Core.Path.{_≡_, refl, sym, _∙_, ap, ap₂}
+use mathlib.Core.Bool.{Bool, true, false, cond}
+use mathlib.Core.List.{List, map, _++_}
+use lib.Dec.{eqb}
+use lib.ListN.{length, getD, take, drop, getD-replicate, length-map, List·getD-map}
+use lib.Seq.{ext-getD, take-append-seam}
+use borrow.Author.Tests.{eq-eqb, le-ltb}
+use Rattle.proof_lists.specs.Alike.{allOf-map}
+use Rattle.proof_lists.specs.Each.{allOf-at, every-at}
+use Rattle.proof_lists.specs.Parts.{part}
+use Rattle.proof_lists.specs.Same.{same, same-refl}
+use Rattle.proof_lists.specs.Tests.{by-test, both}
+use Rattle.rules.specs.declared.Answer.the-variants as answer
+use Rattle.rules.specs.declared.Bus.{Bus}
+use Rattle.rules.specs.declared.Slot.{Slot}
+use Rattle.rules.specs.Modelled.{slotCount, slotBytes, memoryBytes, absent}
+use Rattle.rules.specs.Fresh.{freshSlot, absentSlot}
+use Rattle.rules.specs.Refusals.{wrongLength, slotInRange, inRange}
+use Rattle.rules.proofs.Range.Kept.{InRange, facts, test}
+use Rattle.save_rules.specs.declared.Saved.{Saved}
+use Rattle.save_rules.specs.declared.Saved.the-variants.{Form}
+use Rattle.save_rules.specs.Form.{fieldCount, fieldAt, shareOf, formOf}
+use Rattle.save_rules.specs.Saving.{allQuiet, saveOf, savedValue}
+use Rattle.save_rules.specs.Reading.{sizeIn, begins, place, readTo, busIn, memoryRow, memoryIn, accepted, restoreOf}
+use Rattle.save_rules.specs.Rested.{rested, restedBus, Typed}
+use Rattle.save_rules.proofs.Places.{share-at, bytes-of-form, length-form, same-place, begins-by-kinds, place-by-kinds, same-form, length-readTo, read-at}
+use Rattle.save_rules.proofs.Stages.{stage, stage-next, stage-size, share-rested, rested-in-range, rested-kind}
+use Rattle.save_rules.proofs.Bytes.{part-read}
+
+-- what is kept of an absent slot is an absent slot
+rested-absent : rested absentSlot ≡ absentSlot
+unfolding rested absentSlot freshSlot absent
+rested-absent = refl
+
+pub rested-at : (ss : List Slot) (k : ℕ) → getD (map rested ss) k absentSlot ≡ rested (getD ss k absentSlot)
+rested-at ss k = ap (getD (map rested ss) k) (sym rested-absent) ∙ List·getD-map rested ss k absentSlot
+
+rested-bus-in-range : (b : Bus) → inRange b ≡ true → inRange (restedBus b) ≡ true
+unfolding inRange restedBus
+rested-bus-in-range b h = allOf-map rested slotInRange slotInRange (λ s r. test (rested s) (rested-in-range s (facts s r))) (b .slots) h
+
+module _ (b : Bus) (m : List ℕ) (typed : Typed b) (ranged : inRange b ≡ true) (sized : length m ≡ memoryBytes) where
+  abbrev ss : List Slot
+  ss = b .slots
+
+  abbrev slot : ℕ → Slot
+  slot k = getD ss k absentSlot
+
+  four-blocks : (k : ℕ) → k < slotCount → length ((slot k) .protection) ≡ 4
+  four-blocks k h = every-at (λ (s : Slot). length (s .protection) ≡ 4) k ss absentSlot (rw (typed .slots) h) (typed .blocks)
+
+  in-range : (k : ℕ) → k < slotCount → InRange (slot k)
+  unfolding inRange
+  in-range k h = facts (slot k) (allOf-at slotInRange k ss absentSlot (rw (typed .slots) h) ranged)
+
+  -- each field read in its turn
+  read-stage : (t : ℕ) → t ≤ fieldCount → (k : ℕ) → k < slotCount → getD (readTo t (formOf b m)) k absentSlot ≡ stage t (slot k)
+  unfolding formOf
+  read-stage zero l k h = unfold readTo stage in getD-replicate slotCount k absentSlot absentSlot h
+  read-stage (suc t) l k h =
+      let f = formOf b m in
+      let p : place t k (readTo t f) ≡ place t k ss
+      = same-place (readTo t f) ss t k (omega arith) (λ u g j i. ap (sizeIn u) (read-stage t (omega arith) j i) ∙ stage-size t u (slot j) g) in
+      read-at t k f h
+      ∙ ap₂ (fieldAt t .reads f) p (read-stage t (omega arith) k h)
+      ∙ stage-next (slot k) (part slotBytes k m) f (place t k ss) t l (in-range k h) (four-blocks k h) (λ j g. share-at ss m sized t k j l h g)
+
+  -- "What was saved reads back the same, the rest as fresh"
+  slots-back : readTo fieldCount (formOf b m) ≡ map rested ss
+  unfolding stage
+  slots-back =
+      ext-getD absentSlot (readTo fieldCount (formOf b m)) (map rested ss) (length-readTo fieldCount (formOf b m) ∙ sym (length-map ss rested ∙ typed .slots))
+      (λ k h.
+      let l : k < slotCount = rw (length-readTo fieldCount (formOf b m)) at h in
+      read-stage fieldCount (omega arith) k l ∙ sym (rested-at ss k))
+
+  bus-back : busIn (formOf b m) ≡ restedBus b
+  unfolding busIn restedBus
+  bus-back = λ i. record { slots = slots-back i }
+
+  -- the bus read has the kinds of the one that was saved, so that everything stands where it did
+  slot-back : (k : ℕ) → getD (busIn (formOf b m) .slots) k absentSlot ≡ rested (slot k)
+  unfolding restedBus
+  slot-back k = ap (λ (c : Bus). getD (c .slots) k absentSlot) bus-back ∙ rested-at ss k
+
+  kind-back : (k : ℕ) → k < slotCount → (getD (busIn (formOf b m) .slots) k absentSlot) .kind ≡ (slot k) .kind
+  kind-back k h = ap (λ (s : Slot). s .kind) (slot-back k) ∙ rested-kind (slot k)
+
+  length-back : begins fieldCount (busIn (formOf b m) .slots) ≡ length (formOf b m)
+  unfolding formOf
+  length-back = begins-by-kinds (busIn (formOf b m) .slots) ss kind-back fieldCount ∙ sym (length-form ss m sized fieldCount)
+
+  module _ (n : List ℕ) (wide : length n ≡ memoryBytes) where
+    -- the bytes of present slots as they were saved, "absent slots' bytes untouched"
+    part-back : (k : ℕ) → k < slotCount → part slotBytes k (memoryIn (formOf b m) n) ≡ cond (absent (slot k)) (part slotBytes k n) (part slotBytes k m)
+    part-back k h =
+        let rs = busIn (formOf b m) .slots in
+        let a : absent (getD rs k absentSlot) ≡ absent (slot k) = unfold absent in ap (λ (j : ℕ). eqb j 0) (kind-back k h) in
+        let p : place memoryRow k rs ≡ place memoryRow k ss = place-by-kinds rs ss kind-back memoryRow k (omega arith) in
+        part-read (formOf b m) n k wide (omega (arith, length-back)) h
+        ∙ ap₂ (λ (c : Bool) (at : ℕ). cond c (part slotBytes k n) (take slotBytes (drop at (formOf b m)))) a p
+        ∙ by-test (absent (slot k)) (λ e. rw e) (λ e. rw e (unfold formOf in bytes-of-form ss m sized k h e))
+
+    -- what was read is written as what was saved
+    form-back : formOf (busIn (formOf b m)) (memoryIn (formOf b m) n) ≡ formOf b m
+    unfolding formOf
+    form-back =
+        same-form (busIn (formOf b m) .slots) ss (memoryIn (formOf b m) n) m fieldCount
+        (λ t k h. ap (λ (s : Slot). shareOf t s (part slotBytes k (memoryIn (formOf b m) n))) (slot-back k)
+        ∙ share-rested t (slot k) (part slotBytes k m) _ (in-range k h) (λ a. part-back k h ∙ rw a))
+
+    range-back : inRange (busIn (formOf b m)) ≡ true
+    range-back = ap inRange bus-back ∙ rested-bus-in-range b ranged
+
+    accepted-back : accepted (formOf b m) n ≡ true
+    unfolding accepted
+    accepted-back =
+        both (inRange (busIn (formOf b m))) (same (formOf (busIn (formOf b m)) (memoryIn (formOf b m) n)) (formOf b m)) range-back
+        (ap (λ (g : List ℕ). same g (formOf b m)) form-back ∙ same-refl (formOf b m))
+
+-- a saved form, read into a memory n
+pub record ReadsBack (b : Bus) (m n : List ℕ) : Type 0 where
+  pub accepts : accepted (formOf b m) n ≡ true
+  pub bus : busIn (formOf b m) ≡ restedBus b
+  pub present : (k : ℕ) → k < slotCount → absent (getD (b .slots) k absentSlot) ≡ false → part slotBytes k (memoryIn (formOf b m) n) ≡ part slotBytes k m
+  pub untouched : (k : ℕ) → k < slotCount → absent (getD (b .slots) k absentSlot) ≡ true → part slotBytes k (memoryIn (formOf b m) n) ≡ part slotBytes k n
+
+-- What is saved of a bench in range reads back: it is accepted, whatever memory it is read into; every present slot comes back as what a form keeps of
+-- it, with its bytes; and the bytes of absent slots stay.
+pub reads-back : (b : Bus) (m n : List ℕ) → Typed b → inRange b ≡ true → length m ≡ memoryBytes → length n ≡ memoryBytes → ReadsBack b m n
+reads-back b m n t r l w = record {
+  accepts = accepted-back b m t r l n w;
+  bus = bus-back b m t r l;
+  present = λ k h a. part-back b m t r l n w k h ∙ rw a;
+  untouched = λ k h a. part-back b m t r l n w k h ∙ rw a;
+}
+
+-- a bench that nothing refuses, saved into a buffer with room; and a form that is accepted, read
+pub saves-form : (b : Bus) (m buffer : List ℕ) → length m ≡ memoryBytes → inRange b ≡ true → allQuiet b ≡ true → length (formOf b m) ≤ length buffer
+    → saveOf b m buffer ≡ (Form (length (formOf b m)), formOf b m ++ drop (length (formOf b m)) buffer)
+unfolding saveOf wrongLength
+saves-form b m buffer l r q room = rw (eq-eqb (length m) memoryBytes l, r, q, le-ltb (length buffer) (length (formOf b m)) room)
+
+pub restores-form : (c : Bus) (n f : List ℕ) → length n ≡ memoryBytes → accepted f n ≡ true
+    → restoreOf c n f ≡ (record { bus = busIn f; answer = answer.Nothing }, memoryIn f n)
+unfolding restoreOf wrongLength
+restores-form c n f l a = rw (eq-eqb (length n) memoryBytes l, a)
+
+-- The same of the two entries: saving into a buffer with room gives the form's length and the form at the buffer's front, and reading these bytes back,
+-- on any bus with any memory, gives that bench.
+pub record RoundTrip (b c : Bus) (m n buffer : List ℕ) : Type 0 where
+  pub saves : saveOf b m buffer ≡ (Form (length (formOf b m)), formOf b m ++ drop (length (formOf b m)) buffer)
+  pub front : take (savedValue (saveOf b m buffer .0)) (saveOf b m buffer .1) ≡ formOf b m
+  pub restores : restoreOf c n (formOf b m) ≡ (record { bus = restedBus b; answer = answer.Nothing }, memoryIn (formOf b m) n)
+
+pub round-trip : (b c : Bus) (m n buffer : List ℕ) → Typed b → inRange b ≡ true → allQuiet b ≡ true → length m ≡ memoryBytes → length n ≡ memoryBytes
+    → length (formOf b m) ≤ length buffer → RoundTrip b c m n buffer
+unfolding savedValue
+round-trip b c m n buffer t r q l w room =
+    let f = formOf b m in
+    let s : saveOf b m buffer ≡ (Form (length f), f ++ drop (length f) buffer) = saves-form b m buffer l r q room in
+    let back : ReadsBack b m n = reads-back b m n t r l w in
+    record {
+      saves = s;
+      front = ap (λ (o : Saved × List ℕ). take (savedValue (o .0)) (o .1)) s ∙ take-append-seam f (drop (length f) buffer);
+      restores = restores-form c n f w (back .accepts) ∙ (λ i. (record { bus = back .bus i; answer = answer.Nothing }, memoryIn f n));
+    }

@@ -1,0 +1,52 @@
+-- Numbers as the form writes them: a word of two bytes, a byte of bits, and registers that fit in a byte.
+-- Assumes nothing.
+use Prim.Native.Nat.{ℕ, zero, suc, _+_, _*_, _/_, _%_, _^_, _≤_, _<_}
+use native.Mathlib.Nat.{pow-suc}
+use native.Mathlib.Omega.{arith}
+use mathlib.Core.Path.{_≡_, refl, _∙_, ap, ap₂}
+use mathlib.Core.Bool.{Bool, true, false, cond}
+use mathlib.Core.List.{List, [], _∷_}
+use lib.Bits.{bitAnd, and-le-r}
+use lib.ListN.{length}
+use borrow.Author.Tests.{eqb-true, eq-eqb, ne-eqb}
+use Rattle.rules.specs.Refusals.{keptIn}
+use Rattle.save_rules.specs.Form.{bitsOf, bitsIn}
+
+-- "with the high byte first": a word is its two bytes
+pub word-of-bytes : (v : ℕ) → 256 * (v / 256) + v % 256 ≡ v
+word-of-bytes v = omega arith
+
+-- a list of bits written as a number and read again
+pub bits-back : (bs : List Bool) → bitsIn (length bs) (bitsOf bs) ≡ bs
+unfolding bitsIn bitsOf
+bits-back [] = refl
+bits-back (true ∷ bs) =
+    let n = bitsOf bs in
+    let r : (1 + 2 * n) % 2 ≡ 1 = omega arith in
+    let q : (1 + 2 * n) / 2 ≡ n = omega arith in
+    ap₂ _∷_ (eq-eqb _ 1 r) (ap (bitsIn (length bs)) q ∙ bits-back bs)
+bits-back (false ∷ bs) =
+    let n = bitsOf bs in
+    let r : (0 + 2 * n) % 2 ≡ 1 → ⊥ = λ e. omega arith in
+    let q : (0 + 2 * n) / 2 ≡ n = omega arith in
+    ap₂ _∷_ (ne-eqb _ 1 r) (ap (bitsIn (length bs)) q ∙ bits-back bs)
+
+pub length-bits : (n v : ℕ) → length (bitsIn n v) ≡ n
+unfolding bitsIn
+length-bits zero v = refl
+length-bits (suc n) v = ap suc (length-bits n (v / 2))
+
+-- n bits make a number below 2 to the n: so four are at most 15
+pub bit-small : (b : Bool) → cond b 1 0 ≤ 1
+bit-small true = omega arith
+bit-small false = omega arith
+
+pub bits-small : (bs : List Bool) → bitsOf bs < 2 ^ length bs
+unfolding bitsOf
+bits-small [] = omega arith
+bits-small (b ∷ bs) = let i = bits-small bs in let c = bit-small b in rw pow-suc (omega arith)
+
+-- a register of which only some bits are kept is no greater than these
+pub kept-small : (bits v : ℕ) → keptIn bits v ≡ true → v ≤ bits
+unfolding keptIn
+kept-small bits v e = let h : bitAnd v bits ≤ bits = and-le-r v bits in let f : bitAnd v bits ≡ v = eqb-true (bitAnd v bits) v e in omega arith

@@ -1,0 +1,57 @@
+-- Request P5: "A restore is a shared event; demand 3 then speaks of the runs after it, from equal restored slot s."
+-- Assumes nothing.
+use Prim.Native.Nat.{ℕ, _<_}
+use mathlib.Core.Path.{_≡_, refl, sym, _∙_, ap, subst}
+use mathlib.Core.Bool.{true}
+use mathlib.Core.List.{List}
+use lib.ListN.{length, getD}
+use Rattle.proof_lists.specs.Parts.{part}
+use Rattle.proof_lists.specs.Tests.{cond-cases}
+use Rattle.rules.specs.declared.Bus.{Bus}
+use Rattle.rules.specs.declared.Event.{Event}
+use Rattle.rules.specs.declared.Slot.{Slot}
+use Rattle.rules.specs.Modelled.{slotCount, slotBytes, memoryBytes, absent}
+use Rattle.rules.specs.Open.{open-fields}
+use Rattle.rules.specs.Fresh.{freshSlot, absentSlot, atRest}
+use Rattle.rules.specs.Runs.{Bench}
+use Rattle.runs.specs.Exchanges.{Item, strike}
+use Rattle.runs.proofs.TwoClerks.Demand3.{Ready, Parts, Same, demand3}
+use Rattle.runs.proofs.TwoClerks.Struck.{Idles}
+use Rattle.save_rules.specs.Reading.{busIn, memoryIn, restored, accepted}
+use Rattle.save_rules.specs.Rested.{rested, restedBus}
+use Rattle.save_rules.proofs.Back.{rested-at}
+use Rattle.save_rules.proofs.Once.{typed-read, accepted-in-range, length-restored, restored-rested}
+
+rested-idle : (s : Slot) → Idles (rested s)
+unfolding rested absentSlot freshSlot atRest open-fields
+rested-idle s = cond-cases Idles (absent s) (λ a. refl) (λ a. refl)
+
+-- A restored bench has eight slots in range, all of them idle, and its whole memory.
+pub record AtRest (x : Bench) : Type 0 where
+  pub ready : Ready x
+  pub slots : length (x .bus .slots) ≡ slotCount
+  pub idle : (k : ℕ) → Idles (getD (x .bus .slots) k absentSlot)
+
+pub restored-at-rest : (f n : List ℕ) → accepted f n ≡ true → length n ≡ memoryBytes → AtRest (restored f n)
+unfolding restored restedBus
+restored-at-rest f n a l = record {
+  ready = record { sized = length-restored f n a l; ranged = accepted-in-range f n a };
+  slots = typed-read f .slots;
+  idle = λ k. subst Idles (sym (ap (λ (b : Bus). getD (b .slots) k absentSlot) (restored-rested f n a l) ∙ rested-at (busIn f .slots) k)) (rested-idle (getD (busIn f .slots) k absentSlot));
+}
+
+-- Demand 3 behind two restores: where these agree on slot k and on its bytes, whatever the other slots are, two runs of which the same is left for slot k
+-- leave it alike, with its bytes, and its own exchanges got the same answers.
+pub demand3-restored : (k : ℕ) → k < slotCount
+    → (f g n o : List ℕ) → accepted f n ≡ true → accepted g o ≡ true → length n ≡ memoryBytes → length o ≡ memoryBytes
+    → getD (busIn f .slots) k absentSlot ≡ getD (busIn g .slots) k absentSlot
+    → part slotBytes k (memoryIn f n) ≡ part slotBytes k (memoryIn g o)
+    → (r q : List Event) (is js : List Item) → Parts (restored f n) r is → Parts (restored g o) q js → strike k is ≡ strike k js
+    → Same k (restored f n) (restored g o) r q is js
+unfolding restored
+demand3-restored k h f g n o a b l w s e r q is js p t u =
+    let x : AtRest (restored f n) = restored-at-rest f n a l in
+    let y : AtRest (restored g o) = restored-at-rest g o b w in
+    demand3 k (restored f n) (restored g o) r q is js (x .ready) (y .ready)
+    (record { in-first = rw (x .slots) h; in-second = rw (y .slots) h; idle = x .idle k; slot = s; bytes = e })
+    p t u

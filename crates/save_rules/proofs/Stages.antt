@@ -1,0 +1,185 @@
+-- One slot: its shares of the fields, read in their turn, make it what a form keeps of it; and what is kept is written as the slot was.
+-- Assumes nothing.
+use Prim.Native.Nat.{ℕ, zero, suc, _+_, _*_, _/_, _%_, _≤_, _<_}
+use native.Mathlib.Nat.{add-zero, add-assoc}
+use native.Mathlib.Numerals.{add-one}
+use native.Mathlib.Omega.{arith}
+use mathlib.Core.Path.{_≡_, refl, sym, _∙_, ap, ap₂}
+use mathlib.Core.Bool.{Bool, true, false, cond}
+use mathlib.Core.List.{List, [], _∷_}
+use lib.Dec.{eqb}
+use lib.ListN.{length, getD}
+use borrow.Author.Tests.{eqb-true}
+use Rattle.proof_lists.specs.Tests.{cond-cases, by-test, and-left, and-right}
+use Rattle.rules.specs.declared.Sensor.{Sensor}
+use Rattle.rules.specs.declared.Slot.{Slot}
+use Rattle.rules.specs.Modelled.{absent, sensing}
+use Rattle.rules.specs.Open.{open-fields}
+use Rattle.rules.specs.Fields.{inHalf, atCounter, withVoltage, protecting, expecting, withSensor, withWord}
+use Rattle.rules.specs.Fresh.{freshSensor, freshSlot, setupSlot, absentSlot, atRest}
+use Rattle.rules.specs.Sensor.{registerOf, resolutionBits, timeoutBits}
+use Rattle.rules.specs.Refusals.{sensorInRange}
+use Rattle.rules.proofs.Registers.SensorKept.{fresh-kept, word-kept}
+use Rattle.rules.proofs.Range.Kept.{InRange}
+use Rattle.script_text.specs.Records.{pairAt}
+use Rattle.save_rules.specs.Form.{wordOf, wordAt, bitsOf, bitsIn, setupField, memoryField, stateBytes, stateFrom, stateField, registersTo, sensorBytes, sensorFrom, sensorField, fields, fieldCount, fieldAt, shareOf}
+use Rattle.save_rules.specs.Reading.{sizeIn}
+use Rattle.save_rules.specs.Rested.{rested}
+use Rattle.save_rules.proofs.Bits.{word-of-bytes, bits-back, kept-small}
+
+-- what is read of a slot after the first t fields
+unfoldable pub stage : ℕ → Slot → Slot
+stage zero s = absentSlot
+stage (suc zero) s = freshSlot (s .kind) (s .length)
+stage (suc (suc zero)) s = freshSlot (s .kind) (s .length)
+stage (suc (suc (suc zero))) s =
+    cond (absent s) absentSlot (atRest (s .kind) (s .length) (s .half) (s .counter) (s .protection) (s .voltage) freshSensor)
+stage (suc (suc (suc (suc t)))) s = rested s
+
+-- a slot in range: its registers 08h and 09h fit in a byte, and an absent one has no length
+pub resolution-small : (x : Sensor) → sensorInRange x ≡ true → x .resolution ≤ 3
+unfolding sensorInRange
+resolution-small x e = kept-small resolutionBits (x .resolution) (search (and-left, and-right) depth 9)
+
+pub timeout-small : (x : Sensor) → sensorInRange x ≡ true → x .timeout ≤ 1
+unfolding sensorInRange
+timeout-small x e = kept-small timeoutBits (x .timeout) (search (and-left, and-right) depth 9)
+
+pub length-zero : (s : Slot) → InRange s → absent s ≡ true → s .length ≡ 0
+unfolding absent
+length-zero s v a = eqb-true (s .length) 0 (rw a at (v .lengths))
+
+pub absent-fresh : (s : Slot) → InRange s → absent s ≡ true → freshSlot (s .kind) (s .length) ≡ absentSlot
+unfolding absent absentSlot
+absent-fresh s v a = ap₂ freshSlot (eqb-true (s .kind) 0 a) (length-zero s v a)
+
+set-up : (s : Slot) → InRange s → setupSlot (record { kind = s .kind; length = s .length }) ≡ freshSlot (s .kind) (s .length)
+unfolding setupSlot absent
+set-up s v = by-test (eqb (s .kind) 0) (λ a. rw a (ap (freshSlot (s .kind)) (sym (length-zero s v a)))) (λ a. rw a)
+
+-- the voltage's byte
+voltage-back : (v : Bool) → eqb (cond v 1 0) 1 ≡ v
+voltage-back true = refl
+voltage-back false = refl
+
+-- a word from its two bytes
+word-back : (f : List ℕ) (at v : ℕ) → getD f at 0 ≡ v / 256 → getD f (at + 1) 0 ≡ v % 256 → wordAt f at ≡ v
+unfolding wordAt
+word-back f at v h l = ap₂ (λ (a b : ℕ). 256 * a + b) h l ∙ word-of-bytes v
+
+module _ (s : Slot) (p f : List ℕ) (at : ℕ) where
+  -- slot s's share of the field in row t stands in f from `at` on
+  abbrev pub Stands : ℕ → Type 0
+  Stands t = (j : ℕ) → j < sizeIn t s → getD f (at + j) 0 ≡ getD (shareOf t s p) j 0
+
+  first : (t : ℕ) → Stands t → 0 < sizeIn t s → getD f at 0 ≡ getD (shareOf t s p) 0 0
+  first t h l = ap (λ (n : ℕ). getD f n 0) (sym (add-zero at)) ∙ h 0 l
+
+  pair-back : Stands 0 → pairAt f at ≡ record { kind = s .kind; length = s .length }
+  unfolding sizeIn shareOf fieldAt fields setupField pairAt
+  pair-back h = λ i. record { kind = first 0 h (omega arith) i; length = h 1 (omega arith) i }
+
+  state-back : (x : Slot) → absent s ≡ false → length (s .protection) ≡ 4 → Stands 2
+      → stateFrom f at x ≡ inHalf (s .half) (atCounter (s .counter) (withVoltage (s .voltage) (expecting (s .protection) (protecting (s .protection) x))))
+  unfolding sizeIn shareOf fieldAt fields stateField stateFrom stateBytes absent
+  state-back x a l h =
+      let g : (j : ℕ) → j < 4 → getD f (at + j) 0 ≡ getD (stateBytes s) j 0 = rw a at h in
+      let b : bitsIn 4 (getD f at 0) ≡ s .protection
+      = ap (bitsIn 4) (ap (λ (n : ℕ). getD f n 0) (sym (add-zero at)) ∙ g 0 (omega arith))
+      ∙ ap (λ (n : ℕ). bitsIn n (bitsOf (s .protection))) (sym l)
+      ∙ bits-back (s .protection) in
+      let v : eqb (getD f (at + 3) 0) 1 ≡ s .voltage = ap (λ (n : ℕ). eqb n 1) (g 3 (omega arith)) ∙ voltage-back (s .voltage) in
+      λ i. inHalf (g 1 (omega arith) i) (atCounter (g 2 (omega arith) i) (withVoltage (v i) (expecting (b i) (protecting (b i) x))))
+
+  sensor-back : sensing s ≡ true → sensorInRange (s .sensor) ≡ true → Stands 3 → sensorFrom f at ≡ withWord 0x0000 (s .sensor)
+  unfolding withWord sizeIn shareOf fieldAt fields sensorField sensorFrom sensorBytes sensing registersTo wordOf registerOf wordAt
+  sensor-back a r h =
+      let x = s .sensor in
+      let g : (j : ℕ) → j < 15 → getD f (at + j) 0 ≡ getD (sensorBytes x) j 0 = rw a at h in
+      let up : (j : ℕ) → suc j < 15 → getD f (at + j + 1) 0 ≡ getD (sensorBytes x) (suc j) 0
+      = λ j l. ap (λ (n : ℕ). getD f n 0) (add-assoc at j 1 ∙ ap (λ (n : ℕ). at + n) (add-one j)) ∙ g (suc j) l in
+      let res : x .resolution % 256 ≡ x .resolution = let e = resolution-small x r in omega arith in
+      let tim : x .timeout % 256 ≡ x .timeout = let e = timeout-small x r in omega arith in
+      λ i. record {
+        pointer = (ap (λ (n : ℕ). getD f n 0) (sym (add-zero at)) ∙ g 0 (omega arith)) i;
+        configuration = word-back f (at + 1) (x .configuration) (g 1 (omega arith)) (up 1 (omega arith)) i;
+        high = word-back f (at + 3) (x .high) (g 3 (omega arith)) (up 3 (omega arith)) i;
+        low = word-back f (at + 5) (x .low) (g 5 (omega arith)) (up 5 (omega arith)) i;
+        critical = word-back f (at + 7) (x .critical) (g 7 (omega arith)) (up 7 (omega arith)) i;
+        temperature = word-back f (at + 9) (x .temperature) (g 9 (omega arith)) (up 9 (omega arith)) i;
+        resolution = (g 12 (omega arith) ∙ res) i;
+        timeout = (g 14 (omega arith) ∙ tim) i;
+        word = 0x0000;
+      }
+
+  -- so the field in row t takes the slot from one stage to the next
+  pub stage-next : (t : ℕ) → t < fieldCount → InRange s → length (s .protection) ≡ 4 → Stands t → fieldAt t .reads f at (stage t s) ≡ stage (suc t) s
+  unfolding freshSensor stage fieldAt fields setupField memoryField stateField sensorField rested open-fields setupSlot freshSlot absentSlot atRest absent sensing
+  stage-next zero l v four h = ap setupSlot (pair-back h) ∙ set-up s v
+  stage-next (suc zero) l v four h = refl
+  stage-next (suc (suc zero)) l v four h = by-test (eqb (s .kind) 0) (λ a. rw a (absent-fresh s v a)) (λ a. rw a (state-back (freshSlot (s .kind) (s .length)) a four h))
+  stage-next (suc (suc (suc zero))) l v four h = by-test (eqb (s .kind) 0) (λ a. rw a) λ a.
+      by-test (eqb (s .kind) 2)
+      (λ b. rw (a, b)
+      (ap (λ (x : Sensor). withSensor x (atRest (s .kind) (s .length) (s .half) (s .counter) (s .protection) (s .voltage) freshSensor)) (sensor-back b (v .sensors) h)))
+      (λ b. rw (a, b))
+  stage-next (suc (suc (suc (suc t)))) l v four h = absurd (omega arith)
+
+-- every stage but the first has the slot's kind, so that its shares stand where the slot's do
+pub rested-kind : (s : Slot) → (rested s) .kind ≡ s .kind
+unfolding rested absent absentSlot freshSlot atRest open-fields
+rested-kind s = by-test (eqb (s .kind) 0) (λ a. rw a (sym (eqb-true (s .kind) 0 a))) (λ a. rw a)
+
+stage-kind : (t : ℕ) (s : Slot) → (stage (suc t) s) .kind ≡ s .kind
+unfolding stage absent absentSlot freshSlot atRest open-fields
+stage-kind zero s = refl
+stage-kind (suc zero) s = refl
+stage-kind (suc (suc zero)) s = by-test (eqb (s .kind) 0) (λ a. rw a (sym (eqb-true (s .kind) 0 a))) (λ a. rw a)
+stage-kind (suc (suc (suc t))) s = rested-kind s
+
+pub stage-size : (t u : ℕ) (s : Slot) → u ≤ t → sizeIn u (stage t s) ≡ sizeIn u s
+stage-size zero u s l = let e : u ≡ 0 = omega arith in rw e (unfold sizeIn fieldAt fields setupField in refl)
+stage-size (suc t) u s l = unfold sizeIn in ap (λ (k : ℕ). fieldAt u .size k) (stage-kind t s)
+
+-- What is kept is written as the slot was, if its bytes are the same: an absent slot's are not written.
+no-pair : (s : Slot) → InRange s → absent s ≡ true → 0 ∷ 0 ∷ [] ≡ s .kind ∷ s .length ∷ []
+unfolding absent
+no-pair s v a = ap₂ (λ (k l : ℕ). k ∷ l ∷ []) (sym (eqb-true (s .kind) 0 a)) (sym (length-zero s v a))
+
+share-of-none : (t : ℕ) (s : Slot) (p q : List ℕ) → InRange s → absent s ≡ true → shareOf t absentSlot q ≡ shareOf t s p
+unfolding shareOf fieldAt fields setupField memoryField stateField sensorField absent sensing absentSlot freshSlot
+share-of-none zero s p q v a = no-pair s v a
+share-of-none (suc zero) s p q v a = rw a
+share-of-none (suc (suc zero)) s p q v a = rw a
+share-of-none (suc (suc (suc zero))) s p q v a =
+    let b : eqb (s .kind) 2 ≡ false = ap (λ (k : ℕ). eqb k 2) (eqb-true (s .kind) 0 a) in
+    rw b
+share-of-none (suc (suc (suc (suc t)))) s p q v a = no-pair s v a
+
+share-of-some : (t : ℕ) (s : Slot) (p q : List ℕ) → (absent s ≡ false → q ≡ p)
+    → shareOf t (atRest (s .kind) (s .length) (s .half) (s .counter) (s .protection) (s .voltage) (cond (sensing s) (s .sensor) freshSensor)) q ≡ shareOf t s p
+unfolding shareOf fieldAt fields setupField memoryField stateField stateBytes sensorField sensorBytes registersTo registerOf absent sensing freshSlot atRest open-fields
+share-of-some zero s p q e = refl
+share-of-some (suc zero) s p q e = by-test (eqb (s .kind) 0) (λ a. rw a) (λ a. rw a (e a))
+share-of-some (suc (suc zero)) s p q e = refl
+share-of-some (suc (suc (suc zero))) s p q e = by-test (eqb (s .kind) 2) (λ b. rw b) (λ b. rw b)
+share-of-some (suc (suc (suc (suc t)))) s p q e = refl
+
+pub share-rested : (t : ℕ) (s : Slot) (p q : List ℕ) → InRange s → (absent s ≡ false → q ≡ p) → shareOf t (rested s) q ≡ shareOf t s p
+unfolding rested
+share-rested t s p q v e = cond-cases (λ (r : Slot). shareOf t r q ≡ shareOf t s p) (absent s) (λ a. share-of-none t s p q v a) (λ a. share-of-some t s p q e)
+
+-- and it is in range
+pub rested-in-range : (s : Slot) → InRange s → InRange (rested s)
+unfolding rested absentSlot freshSlot atRest open-fields
+rested-in-range s v = cond-cases InRange (absent s)
+    (λ a. record { kinds = omega arith; lengths = refl; lefts = omega arith; halves = omega arith; counters = omega arith; places = omega arith; sensors = fresh-kept })
+    (λ a. record {
+      kinds = v .kinds;
+      lengths = v .lengths;
+      lefts = omega arith;
+      halves = v .halves;
+      counters = v .counters;
+      places = omega arith;
+      sensors = word-kept 0x0000 _ (cond-cases (λ (x : Sensor). sensorInRange x ≡ true) (sensing s) (λ b. v .sensors) (λ b. fresh-kept));
+    })

@@ -1,0 +1,77 @@
+-- Request P5, "Saving a bench overnight": reading.
+-- Assumes nothing.
+use Prim.Native.Nat.{ℕ, zero, suc, _+_, _*_}
+use mathlib.Core.Bool.{Bool, not, cond, _&&_}
+use mathlib.Core.List.{List}
+use lib.ListN.{getD, take, drop, replicate}
+use lib.Seq.{sets}
+use Rattle.proof_lists.specs.Each.{mapFrom}
+use Rattle.proof_lists.specs.Same.{same}
+use Rattle.rules.specs.declared.Answer.the-variants as answer
+use Rattle.rules.specs.declared.Bus.{Bus}
+use Rattle.rules.specs.declared.Outcome.{Outcome}
+use Rattle.rules.specs.declared.Refusal.the-variants.{MemoryLength, WrongForm}
+use Rattle.rules.specs.declared.Slot.{Slot}
+use Rattle.rules.specs.Modelled.{slotCount, slotBytes, absent}
+use Rattle.rules.specs.Fresh.{absentSlot}
+use Rattle.rules.specs.Refusals.{wrongLength, inRange}
+use Rattle.rules.specs.Runs.{Bench}
+use Rattle.save_rules.specs.Form.{fieldCount, fieldAt, formOf}
+
+-- how many bytes a slot has in the field in row t; how many slots 0 to k - 1 have; and where that field begins
+unfoldable pub sizeIn : ℕ → Slot → ℕ
+sizeIn t s = fieldAt t .size (s .kind)
+
+unfoldable pub offset : ℕ → ℕ → List Slot → ℕ
+offset t zero ss = 0
+offset t (suc k) ss = offset t k ss + sizeIn t (getD ss k absentSlot)
+
+unfoldable pub begins : ℕ → List Slot → ℕ
+begins zero ss = 0
+begins (suc t) ss = begins t ss + 3 + offset t slotCount ss
+
+-- where slot k's share of the field in row t stands in a form: behind the fields and shares before it, whose sizes go by the slots' kinds
+unfoldable pub place : ℕ → ℕ → List Slot → ℕ
+place t k ss = begins t ss + 3 + offset t k ss
+
+-- "the rest as fresh": from absent slots on, each field in its turn says what it has to say of each slot
+unfoldable pub readField : ℕ → List ℕ → List Slot → List Slot
+readField t f ss = mapFrom (λ k s. fieldAt t .reads f (place t k ss) s) 0 ss
+
+unfoldable pub readTo : ℕ → List ℕ → List Slot
+readTo zero f = replicate slotCount absentSlot
+readTo (suc t) f = readField t f (readTo t f)
+
+unfoldable pub busIn : List ℕ → Bus
+busIn f = record { slots = readTo fieldCount f }
+
+-- the field of memory in the table
+abbrev pub memoryRow : ℕ
+memoryRow = 1
+
+-- "absent slots' bytes untouched": a memory m in which the bytes of present slots among the first k are the form's
+unfoldable pub storedTo : ℕ → List ℕ → List Slot → List ℕ → List ℕ
+storedTo zero f ss m = m
+storedTo (suc k) f ss m =
+    cond (absent (getD ss k absentSlot)) (storedTo k f ss m)
+    (sets (storedTo k f ss m) (slotBytes * k) (take slotBytes (drop (place memoryRow k ss) f)))
+
+unfoldable pub memoryIn : List ℕ → List ℕ → List ℕ
+memoryIn f m = storedTo slotCount f (busIn f .slots) m
+
+-- what a form restores to, read into a memory m
+unfoldable pub restored : List ℕ → List ℕ → Bench
+restored f m = record { bus = busIn f; memory = memoryIn f m }
+
+-- "every form that is accepted is the one the writer would give": a departure is a byte that the writer would not put there, one that is missing, or one too
+-- many; "or number out of range": of row 6
+unfoldable pub accepted : List ℕ → List ℕ → Bool
+accepted f m = inRange (busIn f) && same (formOf (busIn f) (memoryIn f m)) f
+
+-- "Reading refuses a wrong memory length with 1, then every departure or number out of range with 10, and leaves state and memory." The old state is not
+-- looked at.
+unfoldable pub restoreOf : Bus → List ℕ → List ℕ → Outcome × List ℕ
+restoreOf b m f =
+    cond (wrongLength m) (record { bus = b; answer = answer.Refused MemoryLength }, m)
+    (cond (not (accepted f m)) (record { bus = b; answer = answer.Refused WrongForm }, m)
+    (record { bus = busIn f; answer = answer.Nothing }, memoryIn f m))

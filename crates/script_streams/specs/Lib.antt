@@ -1,0 +1,5 @@
+pub mod Opened
+pub mod Ran
+pub mod Running
+pub mod Serving
+pub mod Written

@@ -1,0 +1,3 @@
+pub mod opening;
+pub mod serving;
+pub mod running;

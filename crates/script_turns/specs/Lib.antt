@@ -1,0 +1,4 @@
+pub mod Frame
+pub mod Program
+pub mod Script
+pub mod Steps
