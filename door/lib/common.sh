@@ -1,28 +1,66 @@
 # shellcheck shell=bash
-# What the commands of ./plungerhen have in common; sourced, not run. Who sources it has set `here`, this folder, and `called`.
-# shellcheck disable=SC2154    # these two
+# What the commands of ./plungerhen have in common; sourced, not run. It leaves in `lib` this folder, in `root` the
+# repository's, and in `called` by what name a person called the command.
+set -u
+export LC_ALL=C
+lib=$(dirname -- "$(readlink -f -- "${BASH_SOURCE[0]}")")
+root=${lib%/door/lib}
+called=${CALLED:-./plungerhen ${0##*/}}
+
 say() { noted ''; printf '%s: %s\n' "$called" "${*//[[:cntrl:]]/?}" >&2; }
 die() { say "$@"; exit 2; }
+help() { exec "$root/plungerhen" help "$@"; }
+plural() { if [ "$1" -eq 1 ]; then printf '1 %s' "$2"; else printf '%s %ss' "$1" "$2"; fi; }
 
-# Long work, where `long` is set, takes its time. On a terminal that is said, and the line erased again: noted WORDS, noted ''
+# Long work, where `long` is set, takes its time. On a terminal that is said, and the line erased again: noted WORDS,
+# noted ''
 long=
 noted() { [ ! -t 2 ] || [ -z "$long" ] || printf '\r\033[K%s' "${1//[[:cntrl:]]/?}" >&2; }
 
-# readable FILE: ends with a sentence if it is not
-readable() {
-    [ -e "$1" ] || die "there is no file '$1'"
-    [ ! -d "$1" ] || die "'$1' is a folder"
-    [ -f "$1" ] || die "'$1' is no plain file"
-    [ -r "$1" ] || die "'$1' is not readable"
+# program NAME LINE: runs the proved program NAME (./run NAME), or the command line, if one is given
+program() { if [ -n "$2" ]; then eval "$2"; else "$root/run" "$1"; fi; }
+
+# ---- files to read
+# is_readable FILE: whether it is; if not, `why` says so
+is_readable() {
+    why=
+    if [ ! -e "$1" ]; then why="there is no such file"
+    elif [ -d "$1" ]; then why="it is a folder"
+    elif [ ! -f "$1" ]; then why="it is no plain file"
+    elif [ ! -r "$1" ]; then why="it is not readable"
+    fi
+    [ -z "$why" ]
+}
+# is_bytes FILE: whether it has a byte that no text has: a control byte that no printer knows, or FFh, which an empty
+# module is full of
+is_bytes() { [ "$(tr -d '\11-\15\32\33\40-\176\200-\376' <"$1" | head -c 1 | wc -c)" -ne 0 ]; }
+# is_case FILE: whether it can be read and is text; if not, `why` says so
+is_case() {
+    is_readable "$1" || return
+    if [ ! -s "$1" ]; then why="it is an empty file, and a case has a setup or an event"
+    elif is_bytes "$1"; then why="it is a file of bytes, and a case is text (examples/cases/README.md has its form)"
+    fi
+    [ -z "$why" ]
+}
+# readable FILE, readable_case FILE: ends with that sentence if it is not
+readable() { is_readable "$1" || unreadable "$1"; }
+readable_case() { is_case "$1" || unreadable "$1"; }
+unreadable() {
+    case $why in
+    'it is '*) die "'$1' ${why#it }" ;;
+    *) die "there is no file '$1'" ;;
+    esac
 }
 
 # A folder for what is made on the way, `work`, and the files that are made aside: both go at the end.
 work='' made=()               # made: in turn a file aside, its place
-trap 'rm -rf -- ${work:+"$work"}; for ((i = 0; i < ${#made[@]}; i += 2)); do rm -f -- "${made[i]}"; done' EXIT
+trap 'noted ""; rm -rf -- ${work:+"$work"}; for ((i = 0; i < ${#made[@]}; i += 2)); do rm -f -- "${made[i]}"; done' EXIT
 workplace() { work=$(mktemp -d) || die "there is no place for what is made on the way"; }
 
-# ---- files to write. A file is made beside its place, and moved there when all are complete: each is written whole, or none at all.
-# target NAME [OPTION]: the place of a file that may be written, by its own name, in `target`; no file of `files`, those that are read, is lost
+# ---- files to write. A file is made beside its place, and moved there when all are complete: each is written whole, or
+# none at all.
+# target NAME [OPTION]: the place of a file that may be written, by its own name, in `target`; no file of `files`, those
+# that are read, is lost
 target() {
     local name=$1 of=${2:+$2: } file
     [ -n "$name" ] || die "${of}the file to write has no name"
@@ -52,10 +90,15 @@ put_in_place() {
     made=()
 }
 
-# ---- a case, as a plan (../tests/reading.awk), in `plan`: `events` is their number, and `input` the setup and the records, as octal escapes of printf
+# ---- a case, as a plan (reading.awk)
+# plan_of FILE STRICT BENCH: that plan; reading.awk says what the two others are
+plan_of() { awk -v strict="$2" -v bench="$3" -f "$lib/words.awk" -f "$lib/reading.awk" <"$1"; }
+# read_case FILE: the plan in `plan`; `events` is the number of events, and `input` the setup and the records, as octal
+# escapes of printf
 read_case() {
     local row loose
-    plan=$(awk -v strict=0 -f "$here/../tests/words.awk" -f "$here/../tests/reading.awk" <"$1")
+    readable_case "$1"
+    plan=$(plan_of "$1" 0 '')
     # shellcheck disable=SC2034    # for who asked
     IFS=$'\t' read -r row events loose input <<<"$plan"
     case $row in
@@ -65,4 +108,4 @@ read_case() {
     esac
 }
 # telling_case MODE: what that plan tells (save.awk)
-telling_case() { awk -F '\t' -f "$here/octal.awk" -f "$here/save.awk" -v mode="$1" <<<"$plan"; }
+telling_case() { awk -F '\t' -f "$lib/octal.awk" -f "$lib/save.awk" -v mode="$1" <<<"$plan"; }

@@ -1,8 +1,7 @@
 # shellcheck shell=bash
-# What ./plungerhen save, show and resume have in common; sourced, not run. Who sources it has set `here`, this folder, and `called`.
-# shellcheck disable=SC2154    # these two
+# What ./plungerhen save, show and resume have in common; sourced, not run.
 # shellcheck source=common.sh
-. "$here/common.sh"
+. "$(dirname -- "$(readlink -f -- "${BASH_SOURCE[0]}")")/common.sh"
 
 # words COUNT WHAT WORD...: the files that are named, in `files`
 words() {
@@ -11,22 +10,22 @@ words() {
     files=()
     while [ $# -gt 0 ]; do
         case $1 in
-        -h | --help) exec "$here/../plungerhen" help ;;
+        -h | --help) help ;;
         --) shift; files+=("$@"); break ;;
         -?*) die "there is no option '$1'" ;;
         *) files+=("$1"); shift ;;
         esac
     done
-    [ ${#files[@]} -eq "$count" ] || die "$what is wanted, and $(plural ${#files[@]} file) given (./plungerhen help says more)"
+    [ ${#files[@]} -eq "$count" ] || die "$what is wanted, and $(given ${#files[@]}) given (./plungerhen help says more)"
 }
-plural() { if [ "$1" -eq 1 ]; then printf '1 %s is' "$2"; else printf '%s %ss are' "$1" "$2"; fi; }
+given() { if [ "$1" -eq 1 ]; then printf '1 file is'; else printf '%s files are' "$1"; fi; }
 
-# ---- a file that is said to hold a form: `saved FILE` sees that it does, by the word of the proved program `resume` (./run resume), or of the
-# command line that the environment variable RESUME names. That program's word counts; where it refuses, the place is looked for here
-# (saved.awk), and where the two do not agree one of them is wrong. Then $work/form is the form with its length before it, as the program reads it.
-resume() { if [ -n "${RESUME:-}" ]; then eval "$RESUME"; else "$here/../run" resume; fi; }
+# ---- a file that is said to hold a form: `saved FILE` sees that it does, by the word of the proved program `resume`
+# (./run resume), or of the command line that the environment variable RESUME names. That program's word counts; where
+# it refuses, the place is looked for here (saved.awk), and where the two do not agree one of them is wrong. Then
+# $work/form is the form with its length before it, as the program reads it.
 # telling MODE FILE: what saved.awk says of it
-telling() { od -An -v -tu1 -N65536 <"$2" | awk -f "$here/saved.awk" -v mode="$1" -v size="$(wc -c <"$2")"; }
+telling() { od -An -v -tu1 -N65536 <"$2" | awk -f "$lib/saved.awk" -v mode="$1" -v size="$(wc -c <"$2")"; }
 
 saved() {
     local size said status departs
@@ -36,7 +35,7 @@ saved() {
     [ "$size" -le 65535 ] || size=65536      # the program takes no form that long, and does not read it
     # shellcheck disable=SC2059    # the bytes are escapes
     { printf "$(printf '\\%03o' 0 $((size / 65536)) $((size / 256 % 256)) $((size % 256)))"; head -c "$size" <"$1"; } >"$work/form"
-    said=$(resume <"$work/form")
+    said=$(program resume "${RESUME:-}" <"$work/form")
     status=$?
     departs=$(telling departs "$1") || die "'$1' could not be read (awk failed)"
     case $said,$status,$departs in

@@ -1,2 +1,4 @@
+pub mod Foreseen
 pub mod Shown
+pub mod Stepped
 pub mod Taken

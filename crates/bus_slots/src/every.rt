@@ -6,8 +6,10 @@ ghost use Rattle.proof_lists.specs.Each.{allOf};
 ghost use Rattle.rules.specs.Modelled.{memoryBytes};
 ghost use Rattle.rules.specs.Refusals.{slotInRange};
 ghost use Rattle.bus_slots.specs.Taken.{takenThen};
+use super::foreseen;
 use super::shown;
-use bus_slot::foreseen::Change;
+use super::step;
+use super::foreseen::Change;
 use rules::Act;
 use rules::Bus;
 use rules::Outcome;
@@ -22,9 +24,9 @@ pub fn taken(slots: [Slot; 8], mem: &mut [u8], a: Act) -> Outcome
     requires { ⌜ (allOf slotInRange slots ≡ true) × (length (now mem) ≡ memoryBytes) ⌝ }
     ensures { λ r. ⌜ takenThen (record { slots = slots }) (now (mem .entry)) a ≡ (r, now (mem .exit)) ⌝ }
 {
-    let c = bus_slot::foreseen::carried(a);
-    let carries = bus_slot::foreseen::carrying(c);
-    let h = bus_slot::foreseen::heard_in(c);
+    let c = foreseen::carried(a);
+    let carries = foreseen::carrying(c);
+    let h = foreseen::heard_in(c);
     let mut all = slots;
     let mut shown = Shown {
         ack: false,
@@ -33,7 +35,7 @@ pub fn taken(slots: [Slot; 8], mem: &mut [u8], a: Act) -> Outcome
     };
     for i in 0..8u8 {
         let at = i as usize;
-        let change = bus_slot::foreseen::glance(a, carries, h, SlotNo(i), all[at]);
+        let change = foreseen::glance(a, carries, h, SlotNo(i), all[at]);
         match change {
             Change::Nothing => {}
             Change::To(p) => {
@@ -42,7 +44,7 @@ pub fn taken(slots: [Slot; 8], mem: &mut [u8], a: Act) -> Outcome
             Change::More => {
                 let from = Slot::BYTES * at;
                 let to = from + Slot::BYTES;
-                let x = bus_slot::step::next(a, SlotNo(i), h, all[at], &mut mem[from..to]);
+                let x = step::next(a, SlotNo(i), h, all[at], &mut mem[from..to]);
                 let next = x.slot;
                 all[at] = next;
                 shown = shown::joined(shown, x.ack, x.drives, x.byte);

@@ -20,11 +20,11 @@ use Rattle.rules.specs.Events.{carried}
 use Rattle.rules.specs.Bus.{busNext, memoryNext, anyAck, readByte, shownFor, shown}
 use Rattle.rules.specs.Slot.{slotNext, drives, driven, partNext}
 use Rattle.rules.proofs.Memory.Stored.{length-partNext, memory-parts}
-use Rattle.bus_slot.specs.declared.foreseen.Change.{Change}
-use Rattle.bus_slot.specs.declared.foreseen.Change.the-variants as change
-use Rattle.bus_slot.specs.declared.step.Step.{Step}
-use Rattle.bus_slot.specs.Foreseen.{acksFor, drivesFor, Silent, Foreseen}
-use Rattle.bus_slot.specs.Shown.{drivenFor, stepped}
+use Rattle.bus_slots.specs.declared.foreseen.Change.{Change}
+use Rattle.bus_slots.specs.declared.foreseen.Change.the-variants as change
+use Rattle.bus_slots.specs.declared.step.Step.{Step}
+use Rattle.bus_slots.specs.Foreseen.{acksFor, drivesFor, Silent, Foreseen}
+use Rattle.bus_slots.specs.Stepped.{drivenFor, stepped}
 use Rattle.rules.proofs.Past.{noSlot}
 use Rattle.bus_slots.specs.Shown.{answerFor}
 use Rattle.bus_slots.specs.Taken.{takenThen}

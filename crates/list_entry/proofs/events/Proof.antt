@@ -73,21 +73,21 @@ use Rattle.proof_walks.proofs.Relent.{Kept, lends-again, comes-back}
 use Rattle.proof_walks.proofs.Locals.{typeOf, placed, tail, order, span, free-all}
 use Rattle.list_entry.proofs.one as one
 use Rattle.list_entry.proofs.one.Symbol as one-def
-use Rattle.list_entry.proofs.one.Symbol.{name as #batch·one}
+use Rattle.list_entry.proofs.one.Symbol.{name as #one}
 use Rattle.list_entry.proofs.one.Met as one-thm
 use Rattle.list_entry.proofs.stands as stands
 use Rattle.list_entry.proofs.stands.Symbol as stands-def
-use Rattle.list_entry.proofs.stands.Symbol.{name as #batch·stands}
+use Rattle.list_entry.proofs.stands.Symbol.{name as #stands}
 use Rattle.list_entry.proofs.stands.Met as stands-thm
 use Rattle.list_entry.proofs.taken as taken
 use Rattle.list_entry.proofs.taken.Symbol as taken-def
-use Rattle.list_entry.proofs.taken.Symbol.{name as #batch·taken}
+use Rattle.list_entry.proofs.taken.Symbol.{name as #taken}
 use Rattle.list_entry.proofs.taken.Met as taken-thm
 use Rattle.list_entry.proofs.not_taken as not-taken
 use Rattle.list_entry.proofs.not_taken.Symbol as not-taken-def
-use Rattle.list_entry.proofs.not_taken.Symbol.{name as #batch·not-taken}
+use Rattle.list_entry.proofs.not_taken.Symbol.{name as #not-taken}
 use Rattle.list_entry.proofs.not_taken.Met as not-taken-thm
-use Rattle.list_entry.proofs.events.Key.{name as #batch·events}
+use Rattle.list_entry.proofs.events.Key.{name as #events}
 use Rattle.list_entry.proofs.events as f
 use Rattle.list_entry.proofs.events.Statement as stated
 use Rattle.list_entry.proofs.events.Code as code
@@ -138,7 +138,7 @@ module _ {M : Type 1} (𝓤 : URA M) (H : Heap 𝓤) (A : Atoms 𝓤) (mem : Mem
 
   -- that the functions meet them
   abbrev Known : Tables 𝓤 H → Type 1
-  Known 𝓣 = Triple 𝓤 (𝓣 .C #batch·one) One × Triple 𝓤 (𝓣 .C #batch·stands) Stands × Triple 𝓤 (𝓣 .C #batch·taken) Taken × Triple 𝓤 (𝓣 .C #batch·not-taken) NotTaken
+  Known 𝓣 = Triple 𝓤 (𝓣 .C #one) One × Triple 𝓤 (𝓣 .C #stands) Stands × Triple 𝓤 (𝓣 .C #taken) Taken × Triple 𝓤 (𝓣 .C #not-taken) NotTaken
 
 module _ {M : Type 1} (𝓤 : URA M) (H : Heap 𝓤) (A : Atoms 𝓤) (W : Given 𝓤 H A) (at-mem : Memory → SProp 𝓤) (run : Routine → Fun 𝓤) (κ₀ κ₁ κ₂ : Lft) (q₀ q₁ q₂ : Share)
     (b₀ : Bus) (bm om : ℕ) (γ₀ : GName) (ms : List ℕ) (bl ol : ℕ) (γ₁ : GName) (es : List Event) (ba oa : ℕ) (γ₂ : GName) (ns : List Answer)
@@ -457,10 +457,10 @@ pub events-spec : {M : Type 1} → stated.statement M
 unfolding code.routine tablesOf
 events-spec 𝓤 H 𝓜 𝓖 𝓡 =
     entered 𝓤 H (tripleOf 𝓤 H (𝓖 .A) f.signature (f.spec 𝓤 H (𝓖 .A) (𝓜 .mem) (𝓡 .run)))
-    (tables 𝓤 H 𝓜 𝓡 code.env .C) (tables 𝓤 H 𝓜 𝓡 code.env .Λ) #batch·events code.function (code.unfolded 𝓤 H 𝓜 𝓡)
+    (tables 𝓤 H 𝓜 𝓡 code.env .C) (tables 𝓤 H 𝓜 𝓡 code.env .Λ) #events code.function (code.unfolded 𝓤 H 𝓜 𝓡)
     (events-meets 𝓤 H (𝓖 .A) (givenOf 𝓤 H 𝓜 𝓖) (𝓜 .mem) (𝓡 .run) (tablesOf 𝓤 H 𝓜 (tables 𝓤 H 𝓜 𝓡 code.env)) (
-      cited 𝓤 H (One 𝓤 H (𝓖 .A) (𝓜 .mem) (𝓡 .run)) 𝓜 𝓡 code.env #batch·one one-def.routine code.calls-batch·one (one-thm.met 𝓤 H 𝓜 𝓖 𝓡),
-      cited 𝓤 H (Stands 𝓤 H (𝓖 .A) (𝓜 .mem) (𝓡 .run)) 𝓜 𝓡 code.env #batch·stands stands-def.routine code.calls-batch·stands (stands-thm.met 𝓤 H 𝓜 𝓖 𝓡),
-      cited 𝓤 H (Taken 𝓤 H (𝓖 .A) (𝓜 .mem) (𝓡 .run)) 𝓜 𝓡 code.env #batch·taken taken-def.routine code.calls-batch·taken (taken-thm.met 𝓤 H 𝓜 𝓖 𝓡),
-      cited 𝓤 H (NotTaken 𝓤 H (𝓖 .A) (𝓜 .mem) (𝓡 .run)) 𝓜 𝓡 code.env #batch·not-taken not-taken-def.routine code.calls-batch·not-taken (not-taken-thm.met 𝓤 H 𝓜 𝓖 𝓡),
+      cited 𝓤 H (One 𝓤 H (𝓖 .A) (𝓜 .mem) (𝓡 .run)) 𝓜 𝓡 code.env #one one-def.routine code.calls-list-entry·one (one-thm.met 𝓤 H 𝓜 𝓖 𝓡),
+      cited 𝓤 H (Stands 𝓤 H (𝓖 .A) (𝓜 .mem) (𝓡 .run)) 𝓜 𝓡 code.env #stands stands-def.routine code.calls-list-entry·stands (stands-thm.met 𝓤 H 𝓜 𝓖 𝓡),
+      cited 𝓤 H (Taken 𝓤 H (𝓖 .A) (𝓜 .mem) (𝓡 .run)) 𝓜 𝓡 code.env #taken taken-def.routine code.calls-list-entry·taken (taken-thm.met 𝓤 H 𝓜 𝓖 𝓡),
+      cited 𝓤 H (NotTaken 𝓤 H (𝓖 .A) (𝓜 .mem) (𝓡 .run)) 𝓜 𝓡 code.env #not-taken not-taken-def.routine code.calls-list-entry·not-taken (not-taken-thm.met 𝓤 H 𝓜 𝓖 𝓡),
     ))

@@ -8,7 +8,7 @@ use lib.ListN.{length, length-take, length-drop}
 use Rattle.proof_lists.specs.Each.{allOf, allOf-at}
 use Rattle.rules.specs.Refusals.{slotInRange}
 use Rattle.rules.specs.Events.{carried}
-use Rattle.bus_slot.specs.Foreseen.{heardIn, carrying}
+use Rattle.bus_slots.specs.Foreseen.{heardIn, carrying}
 use Rattle.rules.proofs.Past.{noSlot}
 use Rattle.bus_slots.proofs.every.Laws.{Turned, turned-none, turned-all, turn-nothing, turn-to, turn-more, old}
 use Rattle.bus_slots.proofs.every.taken.Statement.{statement}
@@ -18,11 +18,11 @@ use Rattle.bus_slots.proofs.every.taken.Lts as lts
 use Rattle.bus_slots.proofs.shown.answer_of.Reads as answer-of-reads
 use Rattle.bus_slots.proofs.shown.joined.Reads as joined-reads
 use Rattle.bus_slot.proofs.phase.in_phase.Reads as in-phase-reads
-use Rattle.bus_slot.proofs.foreseen.carried.Reads as carried-reads
-use Rattle.bus_slot.proofs.foreseen.carrying.Reads as carrying-reads
-use Rattle.bus_slot.proofs.foreseen.glance.Reads as glance-reads
-use Rattle.bus_slot.proofs.foreseen.heard_in.Reads as heard-in-reads
-use Rattle.bus_slot.proofs.step.next.Reads as next-reads
+use Rattle.bus_slots.proofs.foreseen.carried.Reads as carried-reads
+use Rattle.bus_slots.proofs.foreseen.carrying.Reads as carrying-reads
+use Rattle.bus_slots.proofs.foreseen.glance.Reads as glance-reads
+use Rattle.bus_slots.proofs.foreseen.heard_in.Reads as heard-in-reads
+use Rattle.bus_slots.proofs.step.next.Reads as next-reads
 
 abbrev Inv-loop : tie.InvT-loop
 Inv-loop mem₀ a c k h all₀ shown₀ i₀ mem all shown i =
