@@ -1,6 +1,6 @@
-// Lists for tests: a setup on standard input, then lists, each two bytes its number of records, the high byte first, and the records. Each is given as one list, with as
-// many answer places, over the bench as the one before left it, and its lines are written: so a script cut into lists gives the script's lines. A list that is cut is not
-// given, and ends with `short`; one of more than 4,096 records ends with the list program's sentence.
+// Lists for tests: a setup on standard input, then lists, each two bytes its number of records, the high byte first, and the records. Each is given
+// as one list, with as many answer places, over the bench as the one before left it, and its lines are written: so a script cut into lists gives
+// the script's lines. A list that is cut is not given, and ends with `short`; one of more than 4,096 records ends with the list program's sentence.
 ghost use mathlib.Core.Path.{_≡_};
 ghost use Prim.Native.Nat.{_≤_};
 ghost use lib.ListN.{length};

@@ -15,12 +15,17 @@ fn no_block(mem: &[u8], bus: Bus, n: SlotNo, k: BlockNo) -> bool
 {
     let slots = bus.slots;
     let kind = bus_refusals::ruling::kind_at(slots, n);
-    (mem.len() != Bus::MEMORY) | !bus_refusals::ranges::in_range(slots) | (7 < n.0) | (kind == 0) | (3 < k.0)
+    (mem.len() != Bus::MEMORY)
+        | !bus_refusals::ranges::in_range(slots)
+        | (7 < n.0)
+        | (kind == 0)
+        | (3 < k.0)
 }
 
 // The 128 bytes of a block, as a part of the caller's memory, at its place there; an empty part at the memory's beginning where there is none.
 pub fn block(mem: &[u8], bus: Bus, n: SlotNo, k: BlockNo) -> &[u8]
-    ensures { λ r. ⌜ (now r ≡ blockBytes bus (now (mem .entry)) n k) × (ptr r .0 ≡ ptr (mem .entry) .0) × (ptr r .1 ≡ ptr (mem .entry) .1 + cond (noBlock bus (now (mem .entry)) n k) 0 (512 * n .0 + 128 * k .0)) ⌝ }
+    ensures { λ r. ⌜ (now r ≡ blockBytes bus (now (mem .entry)) n k) × (ptr r .0 ≡ ptr (mem .entry) .0)
+        × (ptr r .1 ≡ ptr (mem .entry) .1 + cond (noBlock bus (now (mem .entry)) n k) 0 (512 * n .0 + 128 * k .0)) ⌝ }
 {
     if no_block(mem, bus, n, k) {
         return &mem[0..0];

@@ -12,9 +12,9 @@ struct Row(u8, Heard);
 // How many commands the family 0110 has.
 const ROWS: usize = 12;
 
-// The commands of the family 0110, row by row as the datasheets have them (source document 000: Table 6-1, and for the page address 5.1.1 and 5.1.2; 003: Table
-// 7-3, 7.1.1 and 7.1.2): the byte in bits, 7:4 the family, 3:1 the identifier, 0 the read bit; the command; its block or half. Above the rows of a command
-// stand the datasheets' name for it and document 01's bytes.
+// The commands of the family 0110, row by row as the datasheets have them (source document 000: Table 6-1, and for the page address 5.1.1 and
+// 5.1.2; 003: Table 7-3, 7.1.1 and 7.1.2): the byte in bits, 7:4 the family, 3:1 the identifier, 0 the read bit; the command; its block or half.
+// Above the rows of a command stand the datasheets' name for it and document 01's bytes.
 const COMMANDS: [Row; ROWS] = [
     // Set Write Protection, Block 0 to 3: 62h 68h 6Ah 60h
     Row(0b0110_001_0, Heard::Protect(BlockNo(0))),

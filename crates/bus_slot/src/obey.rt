@@ -115,7 +115,10 @@ pub fn acks_control(h: Heard, n: SlotNo, s: Slot) -> bool
 
 // A control byte, which asks for h, at slot n.
 pub fn controlled(h: Heard, n: SlotNo, s: Slot) -> Heed
-    ensures { λ r. ⌜ r ≡ record { slot = cond (eqb (s .left) 0 && acksHeard h (n .0) s) (obeyed h s) (inPhase Phase.Deaf s); ack = eqb (s .left) 0 && acksHeard h (n .0) s } ⌝ }
+    ensures { λ r. ⌜ r ≡ record {
+      slot = cond (eqb (s .left) 0 && acksHeard h (n .0) s) (obeyed h s) (inPhase Phase.Deaf s);
+      ack = eqb (s .left) 0 && acksHeard h (n .0) s;
+    } ⌝ }
 {
     if acks_control(h, n, s) {
         return ack(obeyed(h, s));

@@ -7,15 +7,15 @@ ghost use Rattle.rules.specs.Modelled.{memoryBytes};
 ghost use Rattle.rules.specs.Refusals.{slotInRange};
 ghost use Rattle.bus_slots.specs.Taken.{takenThen};
 use super::foreseen;
-use super::shown;
-use super::step;
 use super::foreseen::Change;
+use super::shown;
+use super::shown::Shown;
+use super::step;
 use rules::Act;
 use rules::Bus;
 use rules::Outcome;
 use rules::Slot;
 use rules::SlotNo;
-use super::shown::Shown;
 
 // An act that is not refused: every slot does its step, by its number and with its own part of the memory. Slots that the act leaves
 // where they are, or only moves to another phase, are most of them, and are not taken out. The bus acknowledges if one of them does; the

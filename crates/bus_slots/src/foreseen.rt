@@ -74,7 +74,8 @@ fn unheard(s: Slot) -> bool
 
 // Of a slot whose exchange holds nothing of it a start, stop or timeout changes the phase alone.
 fn at_signal(next: Phase, s: Slot) -> Change
-    ensures { λ r. ⌜ r ≡ cond (absent s) Change.Nothing (cond (traits (standing s) .sensor || traits (standing s) .command || traits (standing s) .takes) Change.More (Change.To next)) ⌝ }
+    ensures { λ r. ⌜ r ≡ cond (absent s) Change.Nothing
+        (cond (traits (standing s) .sensor || traits (standing s) .command || traits (standing s) .takes) Change.More (Change.To next)) ⌝ }
 {
     if s.kind == 0 {
         return Change::Nothing;

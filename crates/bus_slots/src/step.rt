@@ -9,11 +9,11 @@ ghost use Rattle.rules.specs.Refusals.{slotInRange};
 ghost use Rattle.rules.specs.Events.{carried};
 ghost use Rattle.bus_slots.specs.Foreseen.{heardIn};
 ghost use Rattle.bus_slots.specs.Stepped.{stepped};
+use bus_slot::signal::Signal;
 use rules::Act;
 use rules::Heard;
 use rules::Slot;
 use rules::SlotNo;
-use bus_slot::signal::Signal;
 
 // A slot after an act, whether it acknowledges, whether it drives a byte, and which; FFh where it drives none.
 pub struct Step {

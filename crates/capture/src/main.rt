@@ -30,7 +30,8 @@ fn room() -> [u8; 24576]
 
 // One piece: as many bytes as the buffer holds, or fewer at the input's end. It goes on behind a full piece that agrees.
 fn read_on(g: Going, mem: &mut [u8], buf: &mut [u8]) -> Going
-    requires { ⌜ (inRange (g .bus) ≡ true) × (length (now mem) ≡ memoryBytes) × (length (now buf) ≡ 24576) × (g .number + 24576 ≤ 18446744073709551615) ⌝ }
+    requires { ⌜ (inRange (g .bus) ≡ true) × (length (now mem) ≡ memoryBytes) × (length (now buf) ≡ 24576)
+        × (g .number + 24576 ≤ 18446744073709551615) ⌝ }
     ensures { λ r. ⌜ (inRange (r .bus) ≡ true) × Came g (now (mem .entry)) r (now (mem .exit)) ⌝ }
 {
     let n = io::read_full(STDIN_FILENO, buf);

@@ -48,7 +48,8 @@ fn put_seen(out: &mut [u8], at: usize, s: Seen) -> usize
 // The line of a record that differs, put at the beginning; the place after it.
 fn put_difference(out: &mut [u8], n: usize, model: Answer, seen: Seen) -> usize
     requires { ⌜ 32 ≤ length (now out) ⌝ }
-    ensures { λ r. ⌜ (r ≡ length (differenceLine n model seen)) × (now (out .exit) ≡ sets (now (out .entry)) 0 (differenceLine n model seen)) × (r ≤ 30) ⌝ }
+    ensures { λ r. ⌜ (r ≡ length (differenceLine n model seen)) × (now (out .exit) ≡ sets (now (out .entry)) 0 (differenceLine n model seen))
+        × (r ≤ 30) ⌝ }
 {
     let number = script_text::letters::put_decimal(out, 0, n);
     let first = script_text::letters::put_one(out, number, b' ');

@@ -2,6 +2,7 @@
 // came of it. `stdin` says what a line may hold, and `stdout` has what document 01 asks for.
 ghost use Prim.Native.Nat.{_≤_};
 ghost use lib.ListN.{length};
+use edges_text::commands::Bench;
 use list_lend::text::Told;
 use plungerhen::Answer;
 use plungerhen::BlockNo;
@@ -9,10 +10,9 @@ use plungerhen::Bus;
 use plungerhen::Event;
 use plungerhen::Outcome;
 use plungerhen::Pair;
+use plungerhen::Saved;
 use plungerhen::Slot;
 use plungerhen::SlotNo;
-use plungerhen::Saved;
-use edges_text::commands::Bench;
 
 fn least(a: usize, b: usize) -> usize
     ensures { λ r. ⌜ r ≤ b ⌝ }
@@ -114,7 +114,8 @@ fn shelve(b: Bench, mem: &mut [u8; 8192], shelf: &mut [u8; 8192], t: [u32; 38]) 
     b
 }
 
-// Records given as one list, with so many answer places, on the bus with the first `size` bytes; what then stands at the places is put at the front of the text.
+// Records given as one list, with so many answer places, on the bus with the first `size` bytes; what then stands at the places is put at the front
+// of the text.
 fn given(
     slots: [Slot; 8],
     mem: &mut [u8],

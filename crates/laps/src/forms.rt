@@ -1,5 +1,6 @@
-// Laps of saving, reading and copying: savings (`s`) of a bench with eight slots of kind 2, restorings of its form (`r`), or copies of as many bytes (`c`).
-// Each lap counts one byte up, and `done` is written only where that byte has counted the laps, and out of the room that they have filled.
+// Laps of saving, reading and copying: savings (`s`) of a bench with eight slots of kind 2, restorings of its form (`r`), or copies of as many
+// bytes (`c`). Each lap counts one byte up, and `done` is written only where that byte has counted the laps, and out of the room that they have
+// filled.
 ghost use mathlib.Core.Path.{_≡_};
 ghost use Prim.Native.Nat.{_≤_};
 ghost use lib.ListN.{length};
@@ -72,8 +73,8 @@ fn copy_laps(from: &mut [u8], to: &mut [u8], count: u64) -> u8
     from[FIRST]
 }
 
-// The end of some laps: where the byte has counted them, from FFh on, `done` is put into the room that they have filled, and written out of it. Whoever writes
-// may look at all of a room, so the laps have to fill all of it.
+// The end of some laps: where the byte has counted them, from FFh on, `done` is put into the room that they have filled, and written out of it.
+// Whoever writes may look at all of a room, so the laps have to fill all of it.
 fn finish(last: u8, count: u64, room: &mut [u8])
     requires { ⌜ 5 ≤ length (now room) ⌝ }
 {

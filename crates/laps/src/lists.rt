@@ -1,5 +1,5 @@
-// Laps of lists: sixty-four events on a bench with eight slots of kind 2, in one call each (`l`), or one by one (`o`). Each lap's bus and memory are the next
-// one's input, and `done` is written only where the answers of every lap come to the same sum as those of a first.
+// Laps of lists: sixty-four events on a bench with eight slots of kind 2, in one call each (`l`), or one by one (`o`). Each lap's bus and memory
+// are the next one's input, and `done` is written only where the answers of every lap come to the same sum as those of a first.
 ghost use mathlib.Core.Path.{_≡_};
 ghost use Prim.Native.Nat.{_≤_};
 ghost use Rattle.list_entry.specs.Lists.{eventsOf};
@@ -44,15 +44,16 @@ fn sum_up(done: Outcome, answers: [Answer; 64]) -> Summed
 
 // Sixty-four events in one call.
 fn give(bus: Bus, mem: &mut [u8], list: [Event; 64], answers: [Answer; 64]) -> Summed
-    ensures { λ r. ⌜ (r .bus ≡ eventsOf bus (now (mem .entry)) list answers .0 .bus) × (now (mem .exit) ≡ eventsOf bus (now (mem .entry)) list answers .1) ⌝ }
+    ensures { λ r. ⌜ (r .bus ≡ eventsOf bus (now (mem .entry)) list answers .0 .bus)
+        × (now (mem .exit) ≡ eventsOf bus (now (mem .entry)) list answers .1) ⌝ }
 {
     let mut lent = answers;
     let done = plungerhen::events(bus, mem, &list, &mut lent);
     sum_up(done, lent)
 }
 
-// The kinds of a lap's events, as digits, and their values: a page of slot 3 is written and its cycle waited for, the page is read back, three events are refused, the
-// slot's temperature is set and its register read, and a control byte is for no slot.
+// The kinds of a lap's events, as digits, and their values: a page of slot 3 is written and its cycle waited for, the page is read back, three
+// events are refused, the slot's temperature is set and its register read, and a control byte is for no slot.
 const KINDS: [u8; 64] = *b"1222222222222222222466666122123333333333333333403891221233412456";
 
 const VALUES: [u8; 64] =

@@ -1,8 +1,9 @@
-// Laps for the benchmarks: a letter and a count on standard input, as `s 1000`, and so many laps of what the letter asks for: `s`, `r`, `c` in `forms`, `l`, `o` in
-// `lists`; then `done` on standard output. So that the compiler leaves no lap out, each lap's result is the next one's input.
+// Laps for the benchmarks: a letter and a count on standard input, as `s 1000`, and so many laps of what the letter asks for: `s`, `r`, `c` in
+// `forms`, `l`, `o` in `lists`; then `done` on standard output. So that the compiler leaves no lap out, each lap's result is the next one's input.
 mod count;
 mod forms;
 mod lists;
+
 use count::Count;
 use libc::STDERR_FILENO;
 use libc::STDIN_FILENO;

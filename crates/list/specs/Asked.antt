@@ -34,7 +34,8 @@ tooMany rs = not (ltb (length rs) 16388)
 unfoldable pub isCut : List ℕ → List ℕ → Bool
 isCut number rs = ltb (length number) 2 || not (eqb (length rs % 4) 0)
 
--- the bytes that came as the number of places and as records: what is written where they are whole, and on standard output where they are not too many
+-- the bytes that came as the number of places and as records: what is written where they are whole, and on standard output where they are not too
+-- many
 abbrev pub wholeFor : Bench → List ℕ → List ℕ → List ℕ
 wholeFor x number rs = linesFor x (eventsIn rs (length rs / 4)) (numberIn number)
 
@@ -45,8 +46,8 @@ listFor x number rs = cond (isCut number rs) shortLine (wholeFor x number rs)
 unfoldable pub endFor : Bench → List ℕ → List ℕ → Written
 endFor x number rs = cond (tooMany rs) (onErrors tooManyText) (onOutput (listFor x number rs))
 
--- "setup 16 bytes, two bytes number of answer places [..], records to the end of the input"; "`R5` and `short` as in the script, but alone": all that the program
--- writes, for all that it reads
+-- "setup 16 bytes, two bytes number of answer places [..], records to the end of the input"; "`R5` and `short` as in the script, but alone": all
+-- that the program writes, for all that it reads
 unfoldable pub writtenFor : List ℕ → Written
 writtenFor bs =
     cond (ltb (length bs) 16) (onOutput shortLine)

@@ -1,4 +1,5 @@
--- The program as a whole: what it writes, of its steps put together as the program does it, for the bytes that came as setup, as number of places and as records.
+-- The program as a whole: what it writes, of its steps put together as the program does it, for the bytes that came as setup, as number of places
+-- and as records.
 -- Assumes nothing.
 use Prim.Native.Nat.{ℕ, _≤_}
 use mathlib.Core.Path.{_≡_}

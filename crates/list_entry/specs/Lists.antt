@@ -1,4 +1,5 @@
--- Request P6, lists of events: "Offer one call on a lent list of event records and a lent list of answers [..]. The list is a slice of records as it comes from the driver."
+-- Request P6, lists of events: "Offer one call on a lent list of event records and a lent list of answers [..]. The list is a slice of records as
+-- it comes from the driver."
 -- Assumes nothing.
 use Prim.Native.Nat.{ℕ}
 use mathlib.Core.Bool.{Bool, cond, _&&_}

@@ -1,5 +1,5 @@
-// A list of events in one call, on records and answer places that the caller lends: the events one by one, in order. Memory and state are judged once, before the
-// first of them: no event changes how they are judged.
+// A list of events in one call, on records and answer places that the caller lends: the events one by one, in order. Memory and state are judged
+// once, before the first of them: no event changes how they are judged.
 ghost use mathlib.Core.Path.{_≡_};
 ghost use mathlib.Core.Bool.{true};
 ghost use lib.ListN.{length};
@@ -48,8 +48,8 @@ fn taken(bus: Bus) -> Outcome
     Outcome { bus, answer }
 }
 
-// Every event of a list, in order, each one's answer at its place; places past the end of the events stay as they are. Whatever is handed in is answered: where memory
-// or state is refused, each event is. Fewer places than events are refused before all else, and nothing is changed.
+// Every event of a list, in order, each one's answer at its place; places past the end of the events stay as they are. Whatever is handed in is
+// answered: where memory or state is refused, each event is. Fewer places than events are refused before all else, and nothing is changed.
 pub fn events(bus: Bus, mem: &mut [u8], list: &[Event], answers: &mut [Answer]) -> Outcome
     ensures { λ r. ⌜ eventsOf bus (now (mem .entry)) (now (list .entry)) (now (answers .entry)) ≡ (r, now (mem .exit), now (answers .exit)) ⌝ }
 {

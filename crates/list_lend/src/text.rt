@@ -1,5 +1,5 @@
-// What the list program gives a list from, and what it writes for what is left of it: records as events, and answer places as lines. There is room for 4,096 events and
-// 65,535 answer places, which is as many as two bytes can ask for.
+// What the list program gives a list from, and what it writes for what is left of it: records as events, and answer places as lines. There is room
+// for 4,096 events and 65,535 answer places, which is as many as two bytes can ask for.
 ghost use mathlib.Core.Path.{_≡_};
 ghost use Prim.Native.Nat.{_+_, _*_, _≤_};
 ghost use lib.ListN.{length, take, replicate};
@@ -82,7 +82,8 @@ fn put_place(out: &mut [u8], at: usize, a: Answer) -> usize
 // The lines of so many places, put at the front of the output; the place after them.
 fn put_places(answers: [Answer; 65535], places: usize, out: &mut [u8]) -> usize
     requires { ⌜ (places ≤ 65535) × (4 * places ≤ length (now out)) ⌝ }
-    ensures { λ r. ⌜ (r ≡ length (placeLines (take places answers))) × (now (out .exit) ≡ sets (now (out .entry)) 0 (placeLines (take places answers))) ⌝ }
+    ensures { λ r. ⌜ (r ≡ length (placeLines (take places answers)))
+        × (now (out .exit) ≡ sets (now (out .entry)) 0 (placeLines (take places answers))) ⌝ }
 {
     let mut end = 0;
     for i in 0..places {

@@ -45,7 +45,8 @@ unfoldable pub askedBench : List ℕ → Bench
 askedBench bs = record { bus = setupOf (pairsOf bs) .bus; memory = take 4096 (drop 16 bs) }
 
 unfoldable pub answerTo : List ℕ → List ℕ → List ℕ
-answerTo bs more = lastText (benchTo (askedBench bs) more (recordsIn more)) (record { 0 = getD (drop 4112 bs) 0 0 }) (take 512 (drop 4113 bs)) (length more % 4)
+answerTo bs more = lastText (benchTo (askedBench bs) more (recordsIn more)) (record { 0 = getD (drop 4112 bs) 0 0 }) (take 512 (drop 4113 bs))
+    (length more % 4)
 
 -- "sixteen setup bytes with a bad pair give `R5` whatever follows or is missing; `short` comes before `R3` and `R7`"; a setup that is cut is `short`
 unfoldable pub writtenFor : List ℕ → List ℕ

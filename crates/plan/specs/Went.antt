@@ -23,4 +23,5 @@ pub record Served (b : Bus) (out : List ℕ) (end : ℕ) (written : List ℕ) : 
   pub stored : List ℕ
   pub left : List ℕ
   pub ended : Ended b memory out going stored left
-  pub answered : answerOf (record { bus = going .bus; memory = stored }) (record { 0 = getD slot 0 0 }) image (bytes + number + wanted) (going .held) left ≡ (end, written)
+  pub answered : answerOf (record { bus = going .bus; memory = stored }) (record { 0 = getD slot 0 0 }) image (bytes + number + wanted)
+      (going .held) left ≡ (end, written)

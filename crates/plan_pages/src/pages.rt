@@ -14,7 +14,8 @@ use rules::Slot;
 // Five ticks at one slot; part is its own 512 bytes. Whatever cycle ran is over then.
 pub fn settle(s: Slot, part: &mut [u8]) -> Slot
     requires { ⌜ (slotInRange s ≡ true) × (length (now part) ≡ slotBytes) ⌝ }
-    ensures { λ r. ⌜ (r ≡ slotAfter 0 (replicate five Act.Tick) s) × (now (part .exit) ≡ partAfter 0 (replicate five Act.Tick) s (now (part .entry))) ⌝ }
+    ensures { λ r. ⌜ (r ≡ slotAfter 0 (replicate five Act.Tick) s)
+        × (now (part .exit) ≡ partAfter 0 (replicate five Act.Tick) s (now (part .entry))) ⌝ }
 {
     let mut next = s;
     for _ in 0..5usize {

@@ -36,8 +36,10 @@ fn copied(part: &[u8]) -> [u8; 512]
 
 // The plan for slot k by itself, with its own 512 bytes: pages and protection are judged as five ticks leave them, and nothing is laid before.
 pub fn alone(s: Slot, k: SlotNo, part: &[u8], image: &[u8], buffer: &mut [u8]) -> Planned
-    requires { ⌜ (slotInRange s ≡ true) × (k .0 < 8) × (length (now part) ≡ slotBytes) × (length (now image) ≡ slotBytes) × (length (now buffer) ≡ bufferBytes) ⌝ }
-    ensures { λ r. ⌜ aloneOf (slotAfter 0 (replicate five Act.Tick) s) (k .0) (partAfter 0 (replicate five Act.Tick) s (now (part .entry))) (now (image .entry)) (now (buffer .entry)) ≡ (r, now (buffer .exit)) ⌝ }
+    requires { ⌜ (slotInRange s ≡ true) × (k .0 < 8) × (length (now part) ≡ slotBytes) × (length (now image) ≡ slotBytes)
+        × (length (now buffer) ≡ bufferBytes) ⌝ }
+    ensures { λ r. ⌜ aloneOf (slotAfter 0 (replicate five Act.Tick) s) (k .0) (partAfter 0 (replicate five Act.Tick) s (now (part .entry)))
+        (now (image .entry)) (now (buffer .entry)) ≡ (r, now (buffer .exit)) ⌝ }
 {
     let mut old = copied(part);
     let settled = pages::settle(s, &mut old);

@@ -44,7 +44,8 @@ fn put_record(out: &mut [u8], at: usize, records: &[u8], from: usize) -> usize
 // The lines of the first records of a buffer, put at a place; the place after them.
 fn put_records(out: &mut [u8], at: usize, records: &[u8], count: usize) -> usize
     requires { ⌜ (at + 9 * count ≤ length (now out)) × (4 * count ≤ length (now records)) ⌝ }
-    ensures { λ r. ⌜ (r ≡ at + length (recordLines (now (records .entry)) count)) × (now (out .exit) ≡ sets (now (out .entry)) at (recordLines (now (records .entry)) count)) ⌝ }
+    ensures { λ r. ⌜ (r ≡ at + length (recordLines (now (records .entry)) count))
+        × (now (out .exit) ≡ sets (now (out .entry)) at (recordLines (now (records .entry)) count)) ⌝ }
 {
     let mut end = at;
     for i in 0..count {
@@ -56,7 +57,8 @@ fn put_records(out: &mut [u8], at: usize, records: &[u8], count: usize) -> usize
 // A plan: the number of its records, and their lines; the place after them.
 fn put_counted(out: &mut [u8], records: &[u8], count: usize) -> usize
     requires { ⌜ (count < 10000) × (5 + 9 * count ≤ length (now out)) × (4 * count ≤ length (now records)) ⌝ }
-    ensures { λ r. ⌜ (r ≡ length (textOf (Records count) (now (records .entry)))) × (now (out .exit) ≡ sets (now (out .entry)) 0 (textOf (Records count) (now (records .entry)))) ⌝ }
+    ensures { λ r. ⌜ (r ≡ length (textOf (Records count) (now (records .entry))))
+        × (now (out .exit) ≡ sets (now (out .entry)) 0 (textOf (Records count) (now (records .entry)))) ⌝ }
 {
     let at = put_count(out, count);
     put_records(out, at, records, count)
@@ -65,7 +67,8 @@ fn put_counted(out: &mut [u8], records: &[u8], count: usize) -> usize
 // What the planner gave, with the records that it put at the front of its buffer, as it is written; the place after it.
 pub fn put_plan(out: &mut [u8], p: Planned, records: &[u8]) -> usize
     requires { ⌜ (planValue p < 10000) × (5 + 9 * planValue p ≤ length (now out)) × (4 * planValue p ≤ length (now records)) ⌝ }
-    ensures { λ r. ⌜ (r ≡ length (textOf p (now (records .entry)))) × (now (out .exit) ≡ sets (now (out .entry)) 0 (textOf p (now (records .entry)))) ⌝ }
+    ensures { λ r. ⌜ (r ≡ length (textOf p (now (records .entry))))
+        × (now (out .exit) ≡ sets (now (out .entry)) 0 (textOf p (now (records .entry)))) ⌝ }
 {
     match p {
         Planned::Records(n) => put_counted(out, records, n),

@@ -36,7 +36,8 @@ fn page(
     count: u8,
 ) -> usize
     requires { ⌜ (k .0 < 8) × (length (now image) ≡ slotBytes) × (p < pageCount) × (count ≤ 5) × (4 * (n + 28) ≤ length (now buffer)) ⌝ }
-    ensures { λ r. ⌜ laidAt n (selecting stands (pageHalf p) ++ writing (k .0) (pageCounter p) (pageAt p (now (image .entry))) count) (now (buffer .entry)) ≡ (r, now (buffer .exit)) ⌝ }
+    ensures { λ r. ⌜ laidAt n (selecting stands (pageHalf p) ++ writing (k .0) (pageCounter p) (pageAt p (now (image .entry))) count)
+        (now (buffer .entry)) ≡ (r, now (buffer .exit)) ⌝ }
 {
     let half = (p / 16) as u8;
     let counter = (p % 16 * 16) as u8;
@@ -48,8 +49,10 @@ fn page(
 
 // Those of the 32 pages that differ, in ascending order, each once. The half is selected where another one stands, and stays selected.
 pub fn all_pages(buffer: &mut [u8], n: usize, s: Slot, k: SlotNo, old: &[u8], image: &[u8]) -> usize
-    requires { ⌜ (slotInRange s ≡ true) × (k .0 < 8) × (length (now old) ≡ slotBytes) × (length (now image) ≡ slotBytes) × (4 * (n + 896) ≤ length (now buffer)) ⌝ }
-    ensures { λ r. ⌜ laidAt n (pagesBefore (now (old .entry)) (now (image .entry)) s (k .0) pageCount) (now (buffer .entry)) ≡ (r, now (buffer .exit)) ⌝ }
+    requires { ⌜ (slotInRange s ≡ true) × (k .0 < 8) × (length (now old) ≡ slotBytes) × (length (now image) ≡ slotBytes)
+        × (4 * (n + 896) ≤ length (now buffer)) ⌝ }
+    ensures { λ r. ⌜ laidAt n (pagesBefore (now (old .entry)) (now (image .entry)) s (k .0) pageCount) (now (buffer .entry))
+        ≡ (r, now (buffer .exit)) ⌝ }
 {
     let mut half = s.half;
     let mut end = n;

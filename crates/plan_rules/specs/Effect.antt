@@ -24,7 +24,8 @@ due e = cond (eqb (e .kind) 2) Ack Nothing
 unfoldable pub begunPages : ℕ → List Act → Slot → List ℕ
 begunPages n [] s = []
 begunPages n (a ∷ r) s =
-    cond (eqb (s .left) 0 && not (eqb (slotNext n a s .left) 0)) (addressOf (slotNext n a s) .0 / pageBytes ∷ []) [] ++ begunPages n r (slotNext n a s)
+    cond (eqb (s .left) 0 && not (eqb (slotNext n a s .left) 0)) (addressOf (slotNext n a s) .0 / pageBytes ∷ []) []
+    ++ begunPages n r (slotNext n a s)
 
 -- a slot that has left the exchange it stood in
 unfoldable pub leaving : Slot → Slot

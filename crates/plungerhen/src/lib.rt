@@ -1,4 +1,5 @@
-// The library's face: every public entry and its types under one name. What each entry promises stands in docs/PROMISES.md, how it is called in docs/manual/library.md.
+// The library's face: every public entry and its types under one name. What each entry promises stands in docs/PROMISES.md, how it is called in
+// docs/manual/library.md.
 pub use bus_block::block;
 pub use bus_event::event;
 pub use bus_event::event_in_range;

@@ -20,7 +20,8 @@ module _ {A : Type 0} where
   every-so P Q f [] h = tt
   every-so P Q f (x ∷ xs) h = (f x (h .0), every-so P Q f xs (h .1))
 
-  pub every-map : {B : Type 0} (g : A → B) (P : A → Type 0) (Q : B → Type 0) → ((x : A) → P x → Q (g x)) → (xs : List A) → Every P xs → Every Q (map g xs)
+  pub every-map : {B : Type 0} (g : A → B) (P : A → Type 0) (Q : B → Type 0) → ((x : A) → P x → Q (g x)) → (xs : List A) → Every P xs
+      → Every Q (map g xs)
   every-map g P Q f [] h = tt
   every-map g P Q f (x ∷ xs) h = (f x (h .0), every-map g P Q f xs (h .1))
 
@@ -30,10 +31,12 @@ module _ {A : Type 0} where
   every-all p [] h = tt
   every-all p (x ∷ xs) h = (and-left (p x) (allOf p xs) h, every-all p xs (and-right (p x) (allOf p xs) h))
 
-  pub allOf-map : {B : Type 0} (g : A → B) (p : A → Bool) (q : B → Bool) → ((x : A) → p x ≡ true → q (g x) ≡ true) → (xs : List A) → allOf p xs ≡ true → allOf q (map g xs) ≡ true
+  pub allOf-map : {B : Type 0} (g : A → B) (p : A → Bool) (q : B → Bool) → ((x : A) → p x ≡ true → q (g x) ≡ true) → (xs : List A) → allOf p xs ≡ true
+      → allOf q (map g xs) ≡ true
   unfolding allOf
   allOf-map g p q f [] h = refl
-  allOf-map g p q f (x ∷ xs) h = both (q (g x)) (allOf q (map g xs)) (f x (and-left (p x) (allOf p xs) h)) (allOf-map g p q f xs (and-right (p x) (allOf p xs) h))
+  allOf-map g p q f (x ∷ xs) h = both (q (g x)) (allOf q (map g xs)) (f x (and-left (p x) (allOf p xs) h))
+      (allOf-map g p q f xs (and-right (p x) (allOf p xs) h))
 
   -- first values that are the same wherever there is one
   pub first-alike : {B : Type 0} (p : ℕ → A → Bool) (q r : ℕ → A → B) (e : B) (d : A) (n : ℕ) (xs : List A)

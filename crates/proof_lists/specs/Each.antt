@@ -68,7 +68,8 @@ module _ {A : Type 0} where
   mapTo-step f k xs d h = rw add-one (rw zero-add at (mapTo-suc f 0 k xs d h))
 
   -- one turn that leaves its element
-  pub mapTo-same : (f : ℕ → A → A) (k : ℕ) (xs : List A) (d : A) → k < length xs → f k (getD xs k d) ≡ getD xs k d → mapTo f 0 k xs ≡ mapTo f 0 (k + 1) xs
+  pub mapTo-same : (f : ℕ → A → A) (k : ℕ) (xs : List A) (d : A) → k < length xs → f k (getD xs k d) ≡ getD xs k d
+      → mapTo f 0 k xs ≡ mapTo f 0 (k + 1) xs
   mapTo-same f k xs d h e =
       sym (set-getD (mapTo f 0 k xs) k d) ∙ ap (λ (x : A). set (mapTo f 0 k xs) k x) (mapTo-next f 0 k xs d ∙ sym e) ∙ mapTo-step f k xs d h
 
@@ -128,7 +129,8 @@ module _ {A : Type 0} where
   mapFrom-at f n (x ∷ xs) (suc k) d (suc-le-suc h) = rw (add-suc, ← suc-add) (mapFrom-at f (suc n) xs k d h)
 
   -- what no change alters of an element, all of them together leave
-  pub map-mapFrom : {B : Type 0} (g : A → B) (f : ℕ → A → A) → ((n : ℕ) (x : A) → g (f n x) ≡ g x) → (n : ℕ) (xs : List A) → map g (mapFrom f n xs) ≡ map g xs
+  pub map-mapFrom : {B : Type 0} (g : A → B) (f : ℕ → A → A) → ((n : ℕ) (x : A) → g (f n x) ≡ g x) → (n : ℕ) (xs : List A)
+      → map g (mapFrom f n xs) ≡ map g xs
   unfolding mapFrom
   map-mapFrom g f k n [] = refl
   map-mapFrom g f k n (x ∷ xs) = ap₂ _∷_ (k n x) (map-mapFrom g f k (suc n) xs)
@@ -153,7 +155,8 @@ module _ {A : Type 0} where
   Every P [] = Unit {0}
   Every P (x ∷ xs) = P x × Every P xs
 
-  pub every-mapFrom : (P : A → Type 0) (f : ℕ → A → A) → ((n : ℕ) (x : A) → P x → P (f n x)) → (n : ℕ) (xs : List A) → Every P xs → Every P (mapFrom f n xs)
+  pub every-mapFrom : (P : A → Type 0) (f : ℕ → A → A) → ((n : ℕ) (x : A) → P x → P (f n x)) → (n : ℕ) (xs : List A) → Every P xs
+      → Every P (mapFrom f n xs)
   unfolding mapFrom
   every-mapFrom P f k n [] h = tt
   every-mapFrom P f k n (x ∷ xs) h = (k n x (h .0), every-mapFrom P f k (suc n) xs (h .1))
@@ -263,7 +266,8 @@ module _ {A : Type 0} where
   anyFrom-some p n (x ∷ xs) d zero l f = rw (rw add-zero at f)
   anyFrom-some p n (x ∷ xs) d (suc k) (suc-le-suc l) f = rw (anyFrom-some p (suc n) xs d k l (rw (suc-add, ← add-suc) f)) (or-true (p n x))
 
-  pub anyFrom-no : (p : ℕ → A → Bool) (n : ℕ) (xs : List A) (d : A) → ((i : ℕ) → i < length xs → p (n + i) (getD xs i d) ≡ false) → anyFrom p n xs ≡ false
+  pub anyFrom-no : (p : ℕ → A → Bool) (n : ℕ) (xs : List A) (d : A) → ((i : ℕ) → i < length xs → p (n + i) (getD xs i d) ≡ false)
+      → anyFrom p n xs ≡ false
   anyFrom-no p n xs d h = any-first p n xs ∙ firstFrom-no p (λ i x. true) false n xs d h
 
   -- an element that is there, whatever stands for one that is not

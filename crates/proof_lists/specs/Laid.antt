@@ -21,7 +21,8 @@ pub getD-sets-behind : (l : List ℕ) (i : ℕ) (vs : List ℕ) (a d : ℕ) → 
 getD-sets-behind l i [] a d h = refl
 getD-sets-behind l i (v ∷ vs) a d h = getD-sets-behind (set l i v) (suc i) vs a d (omega arith) ∙ getD-set-other l i a v d (λ e. omega arith)
 
-pub getD-sets-at : (l : List ℕ) (i : ℕ) (vs : List ℕ) (j d : ℕ) → j < length vs → i + length vs ≤ length l → getD (sets l i vs) (i + j) d ≡ getD vs j d
+pub getD-sets-at : (l : List ℕ) (i : ℕ) (vs : List ℕ) (j d : ℕ) → j < length vs → i + length vs ≤ length l
+    → getD (sets l i vs) (i + j) d ≡ getD vs j d
 getD-sets-at l i (v ∷ vs) zero d h g =
     rw add-zero (getD-sets-before (set l i v) (suc i) vs i d (omega arith) ∙ getD-set-same l i v d (omega arith))
 getD-sets-at l i (v ∷ vs) (suc j) d h g =
@@ -37,7 +38,8 @@ module _ (w k : ℕ) (l vs : List ℕ) (whole : length vs ≡ w) (fits : w * k +
 
   pub part-beside : (j : ℕ) → (j ≡ k → ⊥) → part w j (sets l (w * k) vs) ≡ part w j l
   part-beside j ne =
-      let n : length (part w j (sets l (w * k) vs)) ≡ length (part w j l) = length-part w j (sets l (w * k) vs) ∙ rw length-sets (sym (length-part w j l)) in
+      let n : length (part w j (sets l (w * k) vs)) ≡ length (part w j l) = length-part w j (sets l (w * k) vs)
+      ∙ rw length-sets (sym (length-part w j l)) in
       let o : length (part w j (sets l (w * k) vs)) ≤ w = rw (length-part, length-sets) (omega arith) in
       ext-getD 0 (part w j (sets l (w * k) vs)) (part w j l) n
       (λ i h. getD-part w j (sets l (w * k) vs) i 0 (omega arith)

@@ -134,7 +134,8 @@ module _ {A : Type 0} (w : ℕ) (f : A → List ℕ → List ℕ) where
         let P = partsTo k xs m in
         let i : w * suc k ≤ length m = rw (← add-one) h in
         sym (take-append-drop (w * k) P)
-        ∙ ap (λ (q : List ℕ). take (w * k) P ++ q) (sym (take-append-drop w (drop (w * k) P)) ∙ ap (λ (q : List ℕ). q ++ drop w (drop (w * k) P)) (sym (e (take w (drop (w * k) P)))))
+        ∙ ap (λ (q : List ℕ). take (w * k) P ++ q)
+        (sym (take-append-drop w (drop (w * k) P)) ∙ ap (λ (q : List ℕ). q ++ drop w (drop (w * k) P)) (sym (e (take w (drop (w * k) P)))))
         ∙ partsTo-suc k xs m d l i
         ∙ ap (λ (n : ℕ). partsTo n xs m) (sym (add-one k))
 
@@ -145,7 +146,8 @@ module _ {A : Type 0} (w : ℕ) (f : A → List ℕ → List ℕ) where
         → (take w (eachPart (x ∷ xs) m) ≡ f x (take w m)) × (drop w (eachPart (x ∷ xs) m) ≡ eachPart xs (drop w m))
     unfolding eachPart
     seam-eachPart x xs m =
-        seam w (length m) (f x (take w m)) (eachPart xs (drop w m)) (keeps x (take w m) ∙ length-take w m) (length-eachPart xs (drop w m) ∙ length-drop w m)
+        seam w (length m) (f x (take w m)) (eachPart xs (drop w m)) (keeps x (take w m) ∙ length-take w m)
+        (length-eachPart xs (drop w m) ∙ length-drop w m)
 
     -- each part is changed by its own element, and by nothing else
     pub part-eachPart : (xs : List A) (m : List ℕ) (k : ℕ) (d : A) → k < length xs → part w k (eachPart xs m) ≡ f (getD xs k d) (part w k m)

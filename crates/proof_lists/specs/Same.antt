@@ -38,19 +38,22 @@ unfolding same
 same-append [] zs [] vs h = refl
 same-append [] zs (y ∷ ys) vs h = absurd (omega arith)
 same-append (x ∷ xs) zs [] vs h = absurd (omega arith)
-same-append (x ∷ xs) zs (y ∷ ys) vs h = ap (λ (b : Bool). eqb x y && b) (same-append xs zs ys vs (suc-inj h)) ∙ sym (and-assoc (eqb x y) (same xs ys) (same zs vs))
+same-append (x ∷ xs) zs (y ∷ ys) vs h = ap (λ (b : Bool). eqb x y && b) (same-append xs zs ys vs (suc-inj h))
+    ∙ sym (and-assoc (eqb x y) (same xs ys) (same zs vs))
 
 -- a list stands in another from a place on
 unfoldable pub stands : List ℕ → List ℕ → ℕ → Bool
 stands xs ys at = same xs (take (length xs) (drop at ys))
 
 -- and two, one behind the other
-pub stands-append : (xs zs ys : List ℕ) (at : ℕ) → at + length xs ≤ length ys → stands (xs ++ zs) ys at ≡ (stands xs ys at && stands zs ys (at + length xs))
+pub stands-append : (xs zs ys : List ℕ) (at : ℕ) → at + length xs ≤ length ys
+    → stands (xs ++ zs) ys at ≡ (stands xs ys at && stands zs ys (at + length xs))
 unfolding stands
 stands-append xs zs ys at h =
     let e : length xs ≡ length (take (length xs) (drop at ys)) = sym (length-take (length xs) (drop at ys) ∙ rw length-drop (omega arith)) in
     ap (λ (n : ℕ). same (xs ++ zs) (take n (drop at ys))) (length-append xs zs)
-    ∙ ap (same (xs ++ zs)) (take-add (length xs) (length zs) (drop at ys) ∙ ap (λ (l : List ℕ). take (length xs) (drop at ys) ++ take (length zs) l) (drop-drop (length xs) at ys))
+    ∙ ap (same (xs ++ zs)) (take-add (length xs) (length zs) (drop at ys) ∙ ap (λ (l : List ℕ). take (length xs) (drop at ys) ++ take (length zs) l)
+    (drop-drop (length xs) at ys))
     ∙ same-append xs zs (take (length xs) (drop at ys)) (take (length zs) (drop (at + length xs) ys)) e
 
 -- none stands everywhere, and a list where it was taken from
@@ -75,7 +78,8 @@ pub stands-step : (xs ys : List ℕ) (at i : ℕ) → i < length xs → at + len
 unfolding same
 stands-step xs ys at i h g =
     let l : i < length (drop at ys) = rw length-drop (omega arith) in
-    let e : length (take i xs) ≡ length (take i (drop at ys)) = length-take-le i xs (omega arith) ∙ sym (length-take-le i (drop at ys) (omega arith)) in
+    let e : length (take i xs) ≡ length (take i (drop at ys)) = length-take-le i xs (omega arith)
+    ∙ sym (length-take-le i (drop at ys) (omega arith)) in
     rw (add-one, take-suc xs i 0 h, take-suc (drop at ys) i 0 l, getD-drop at ys i 0)
     (same-append (take i xs) (getD xs i 0 ∷ []) (take i (drop at ys)) (getD ys (at + i) 0 ∷ []) e
     ∙ ap (λ (b : Bool). same (take i xs) (take i (drop at ys)) && b) (and-true (eqb (getD xs i 0) (getD ys (at + i) 0))))

@@ -11,7 +11,8 @@ use lib.Seq.{sets, sets-eq, take-all, drop-drop}
 -- stores after stores
 pub sets-append : (l : List ℕ) (i : ℕ) (p q : List ℕ) → sets l i (p ++ q) ≡ sets (sets l i p) (i + length p) q
 sets-append l i [] q = rw add-zero
-sets-append l i (a ∷ p) q = sets-append (set l i a) (suc i) p q ∙ ap (λ (n : ℕ). sets (sets (set l i a) (suc i) p) n q) (suc-add i (length p) ∙ sym (add-suc i (length p)))
+sets-append l i (a ∷ p) q = sets-append (set l i a) (suc i) p q
+    ∙ ap (λ (n : ℕ). sets (sets (set l i a) (suc i) p) n q) (suc-add i (length p) ∙ sym (add-suc i (length p)))
 
 -- bytes copied over as many, or fewer
 pub all-copied : (all part own : List ℕ) → all ≡ take (length part) part ++ drop (length part) own → length own ≤ length part → all ≡ part

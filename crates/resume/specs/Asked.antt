@@ -54,7 +54,8 @@ resumed form more =
     let x : Bench = restored form startingMemory in
     cond (accepted form startingMemory) (linesTo x more (recordsIn more) ++ ending more) badFormLine
 
--- "A length above 65,535 is `R10` at once; a form that is cut is `short`", and so is a length that is: all that the program writes, for all that it reads
+-- "A length above 65,535 is `R10` at once; a form that is cut is `short`", and so is a length that is: all that the program writes, for all that it
+-- reads
 unfoldable pub writtenFor : List ℕ → List ℕ
 writtenFor bs =
     cond (ltb (length bs) 4) shortLine

@@ -1,5 +1,5 @@
--- The program as a whole, over any reads in which its input comes: what it writes, of its steps put together as the program does it. The bytes that came as
--- the form's length and as the form are given, and then the reads of the records.
+-- The program as a whole, over any reads in which its input comes: what it writes, of its steps put together as the program does it. The bytes that
+-- came as the form's length and as the form are given, and then the reads of the records.
 -- Assumes nothing.
 use Prim.Native.Nat.{ℕ, _≤_}
 use mathlib.Core.Path.{_≡_}
@@ -10,8 +10,8 @@ use Rattle.script_turns.specs.declared.frame.Begun.{Begun}
 use Rattle.script_turns.specs.Program.{Read, turnsWrite}
 use Rattle.resume.specs.Asked.{wantedBytes, beginOf}
 
--- four bytes at most, and no more than they say, and the beginning from them: then the memory and the output. The bytes that come no contract can say; what
--- is done with them this does.
+-- four bytes at most, and no more than they say, and the beginning from them: then the memory and the output. The bytes that come no contract can
+-- say; what is done with them this does.
 pub record Opened (out : List ℕ) (r : Begun) (memory written : List ℕ) : Type 0 where
   pub head : List ℕ
   pub form : List ℕ

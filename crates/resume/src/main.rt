@@ -1,6 +1,6 @@
-// The resume program: a saved form's length, the form and records on standard input; a line for each event on standard output, from the bench that the form
-// restores to. It reads the form, begins with what came by `begin`, and goes on by `serving`: all that decides is said and proved there and in `restoring`.
-// The status that a result has, the script `run` gives it.
+// The resume program: a saved form's length, the form and records on standard input; a line for each event on standard output, from the bench that
+// the form restores to. It reads the form, begins with what came by `begin`, and goes on by `serving`: all that decides is said and proved there
+// and in `restoring`. The status that a result has, the script `run` gives it.
 ghost use mathlib.Core.Path.{_≡_};
 ghost use mathlib.Core.Bool.{true, false};
 ghost use Prim.Native.Nat.{_+_, _*_, _≤_};
@@ -9,11 +9,11 @@ ghost use Rattle.rules.specs.Modelled.{memoryBytes};
 ghost use Rattle.rules.specs.Refusals.{inRange, emptyBus};
 ghost use Rattle.resume.specs.Asked.{formBytes, wantedBytes, beginOf};
 ghost use Rattle.resume.specs.Program.{Opened};
-use script_turns::frame::Begun;
 use libc::STDIN_FILENO;
 use libc::STDOUT_FILENO;
 use rules::Answer;
 use rules::Refusal;
+use script_turns::frame::Begun;
 
 // The most bytes that a form's length may say.
 const MOST: usize = 65535;
@@ -59,8 +59,8 @@ fn stopped(end: usize) -> Begun
     }
 }
 
-// The beginning, from the bytes that were read as the form's length and as the form: memory as it starts, and then as the form restores it; `short`, `R10` or
-// nothing put at the front of the output. Records follow where nothing is.
+// The beginning, from the bytes that were read as the form's length and as the form: memory as it starts, and then as the form restores it;
+// `short`, `R10` or nothing put at the front of the output. Records follow where nothing is.
 fn begin(head: &[u8], form: &[u8], mem: &mut [u8], out: &mut [u8]) -> Begun
     requires { ⌜ (length (now mem) ≡ memoryBytes) × (6 ≤ length (now out)) ⌝ }
     ensures { λ r. ⌜ beginOf (now (head .entry)) (now (form .entry)) (now (out .entry)) ≡ (r, now (mem .exit), now (out .exit)) ⌝ }
@@ -88,8 +88,8 @@ fn begin(head: &[u8], form: &[u8], mem: &mut [u8], out: &mut [u8]) -> Begun
     }
 }
 
-// Reads four bytes, then as many as they say, or as many as come, begins with them, and writes `short`, `R10` or nothing. Records may follow where the
-// result says so.
+// Reads four bytes, then as many as they say, or as many as come, begins with them, and writes `short`, `R10` or nothing. Records may follow where
+// the result says so.
 fn open(mem: &mut [u8], out: &mut [u8]) -> Begun
     requires { ⌜ (length (now mem) ≡ memoryBytes) × (6 ≤ length (now out)) ⌝ }
     ensures { λ r. ⌜ (inRange (r .bus) ≡ true) × Opened (now (out .entry)) r (now (mem .exit)) (now (out .exit)) ⌝ }

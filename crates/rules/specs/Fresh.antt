@@ -14,7 +14,17 @@ use Rattle.rules.specs.Fields.{inHalf, atCounter, protecting, expecting,
 -- "08h resolution, default 0001h; 09h timeout, default 0001h. The others start at 0000h." "Pointer after power: 00h."
 unfoldable pub freshSensor : Sensor
 freshSensor =
-    record { pointer = 0x00; configuration = 0x0000; high = 0x0000; low = 0x0000; critical = 0x0000; temperature = 0x0000; resolution = 0x01; timeout = 0x01; word = 0x0000 }
+    record {
+      pointer = 0x00;
+      configuration = 0x0000;
+      high = 0x0000;
+      low = 0x0000;
+      critical = 0x0000;
+      temperature = 0x0000;
+      resolution = 0x01;
+      timeout = 0x01;
+      word = 0x0000;
+    }
 
 -- an empty page latch, and four blocks without protection
 abbrev pub noBytes : List ℕ
@@ -26,7 +36,8 @@ noMarks = replicate 16 false
 abbrev pub noBlocks : List Bool
 noBlocks = replicate 4 false
 
--- "After setup: no protection, no write cycle, selected half 0, counter 0, high voltage off, sensor at defaults, temperature register 0000h, every slot idle."
+-- "After setup: no protection, no write cycle, selected half 0, counter 0, high voltage off, sensor at defaults, temperature register 0000h, every
+-- slot idle."
 unfoldable pub freshSlot : ℕ → ℕ → Slot
 freshSlot kind length =
     record {
@@ -59,4 +70,5 @@ powered s = withVoltage (s .voltage) (expecting (s .protection) (protecting (s .
 -- a slot at rest, idle and in no cycle: what it is made of, and nothing else ("every slot idle", "no write cycle")
 unfoldable pub atRest : ℕ → ℕ → ℕ → ℕ → List Bool → Bool → Sensor → Slot
 atRest kind length half counter protection voltage registers =
-    inHalf half (atCounter counter (withVoltage voltage (expecting protection (protecting protection (withSensor (withWord 0x0000 registers) (freshSlot kind length))))))
+    inHalf half (atCounter counter
+    (withVoltage voltage (expecting protection (protecting protection (withSensor (withWord 0x0000 registers) (freshSlot kind length))))))

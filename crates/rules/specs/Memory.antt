@@ -47,7 +47,8 @@ latching b s =
 unfoldable pub dataByte : ℕ → Slot → Slot
 dataByte b s = cond (guarded s) (inPhase Deaf (abandoned s)) (latching b s)
 
--- "Read: each read drives the byte at the address, and the counter goes up by one modulo 256, in the selected half. After a master NACK the slot is deaf."
+-- "Read: each read drives the byte at the address, and the counter goes up by one modulo 256, in the selected half. After a master NACK the slot is
+-- deaf."
 unfoldable pub fetched : Bool → Slot → Slot
 fetched more s = inPhase (cond more MemoryRead Deaf) (atCounter ((s .counter + 1) % 256) s)
 

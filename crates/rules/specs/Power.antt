@@ -36,7 +36,8 @@ broughtBy k s = cond (eqb (k .0) 0) (s .protection) (s .coming)
 unfoldable pub cut : Cut → Slot → Slot
 cut k s = expecting (broughtBy k s) (latched (s .latch) (firstOf k (s .marks)) s)
 
--- a present slot after the power cycle: a running cycle ends so, and then document 01's power cycle; "Without a running cycle the number has no effect."
+-- a present slot after the power cycle: a running cycle ends so, and then document 01's power cycle; "Without a running cycle the number has no
+-- effect."
 unfoldable pub powerCut : Cut → Slot → Slot
 powerCut k s = powered (cond (running s) (ended (cut k s)) s)
 

@@ -1,4 +1,5 @@
--- Document 01, "Sensor", with request P7's rounding: registers, what a write keeps, what a temperature does. A signed number is a ℤ, in sixteenths of a degree.
+-- Document 01, "Sensor", with request P7's rounding: registers, what a write keeps, what a temperature does. A signed number is a ℤ, in sixteenths
+-- of a degree.
 -- Assumes nothing.
 use Prim.Native.Nat.{ℕ, _+_, _-_, _/_, _%_}
 use mathlib.Core.Bool.{Bool, true, false, cond, _||_}
@@ -9,7 +10,8 @@ use lib.Signed.{ltZ, leZ, shrZ}
 use Rattle.rules.specs.declared.Sensor.{Sensor}
 use Rattle.rules.specs.Fields.{withConfiguration, withHigh, withLow, withCritical, withTemperature, withResolution, withTimeout}
 
--- "Registers, 16 bits [..]: 00h capability 00EFh; 01h configuration; 02h high; 03h low; 04h critical; 05h temperature; 06h 104Ah; 07h 2201h; 08h resolution [..]; 09h timeout"
+-- "Registers, 16 bits [..]: 00h capability 00EFh; 01h configuration; 02h high; 03h low; 04h critical; 05h temperature; 06h 104Ah; 07h 2201h; 08h
+-- resolution [..]; 09h timeout"
 unfoldable pub registerOf : Sensor → ℕ → ℕ
 registerOf x p =
     cond (eqb p 0x00) 0x00EF
@@ -47,7 +49,8 @@ criticalLocked c = eqb (c / 128 % 2) 1
 unfoldable pub limitsLocked : ℕ → Bool
 limitsLocked c = eqb (c / 64 % 2) 1
 
--- "Locks hold until power is cycled; the other may still be set. While either lock was set before a write, bits 10:9 and 3:0 keep, and bit 8 can only be cleared."
+-- "Locks hold until power is cycled; the other may still be set. While either lock was set before a write, bits 10:9 and 3:0 keep, and bit 8 can
+-- only be cleared."
 unfoldable pub lockedWrite : ℕ → ℕ → ℕ
 lockedWrite old v = bitOr (bitOr (bitAnd old 0x060F) (bitAnd (bitAnd old v) 0x0100)) (bitAnd (bitOr old v) 0x00C0)
 
@@ -77,8 +80,8 @@ signedOf v = cond (ltb (v % 8192) 4096) (pos (v % 8192)) (negsuc (8191 - v % 819
 unfoldable pub stepOf : ℕ → ℕ
 stepOf r = cond (eqb r 0) 8 (cond (eqb r 1) 4 (cond (eqb r 2) 2 1))
 
--- Request P7, "Rounding of temperature", in the place of document 01's "the value t is the greatest multiple not above the given one". Around the given
--- number stand "the multiple below" (shrZ divides and rounds down; a multiple stands below itself) and the one above.
+-- Request P7, "Rounding of temperature", in the place of document 01's "the value t is the greatest multiple not above the given one". Around the
+-- given number stand "the multiple below" (shrZ divides and rounds down; a multiple stands below itself) and the one above.
 unfoldable pub multipleBelow : ℕ → ℤ → ℤ
 multipleBelow step given = shrZ given step *ℤ pos step
 

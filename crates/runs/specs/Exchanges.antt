@@ -105,7 +105,8 @@ unfoldable pub flatten : List Item → List Act
 flatten [] = []
 flatten (i ∷ is) = itemActs i (flatten is)
 
--- the parse of a run; none where it is not made of whole exchanges and events between them: "In the runs of demand 3 no start stands outside an exchange"
+-- the parse of a run; none where it is not made of whole exchanges and events between them: "In the runs of demand 3 no start stands outside an
+-- exchange"
 pub record Rest : Type 0 where
   pub insides : List Inside
   pub items : List Item
@@ -189,7 +190,8 @@ unfoldable pub shared : List ℕ → Bool
 shared [] = false
 shared (c ∷ cs) = not (toNone (c ∷ cs)) && not (addressed (selectOf c .0) (c ∷ cs))
 
--- demand 3: "Strike out the refused events, the exchanges addressed to slots other than s or to none, and the pin and temperature events of other slots."
+-- demand 3: "Strike out the refused events, the exchanges addressed to slots other than s or to none, and the pin and temperature events of other
+-- slots."
 unfoldable pub struckGap : ℕ → Gap → Bool
 struckGap s (strayByte b) = false
 struckGap s (strayRead m) = false

@@ -21,7 +21,8 @@ use Rattle.save_rules.specs.Saving.{allQuiet, saveOf}
 use Rattle.script_streams.specs.Written.{Written, onOutput, onErrors}
 use Rattle.save.specs.declared.Answered.{Answered}
 
--- bytes of the longest form, that of eight slots of kind 2 (`saved` shows that none is longer: proofs/Places.length-most): four heads of 3, and in them 16, 4,096, 32 and 120
+-- bytes of the longest form, that of eight slots of kind 2 (`saved` shows that none is longer: proofs/Places.length-most): four heads of 3, and in
+-- them 16, 4,096, 32 and 120
 abbrev pub longestForm : ℕ
 longestForm = 4276
 
@@ -29,8 +30,8 @@ longestForm = 4276
 abbrev pub busyLine : List ℕ
 busyLine = 0x52 ∷ 0x38 ∷ 0x0A ∷ []
 
--- "standard output the form, nothing else; a refusal [..] writes nothing there, a line [..] on standard error". The records leave a bench in range, with its
--- whole memory, and the buffer has room for every form: so 8 is the only refusal
+-- "standard output the form, nothing else; a refusal [..] writes nothing there, a line [..] on standard error". The records leave a bench in range,
+-- with its whole memory, and the buffer has room for every form: so 8 is the only refusal
 unfoldable pub benchText : Bench → Written
 benchText x = cond (allQuiet (x .bus)) (onOutput (formOf (x .bus) (x .memory))) (onErrors busyLine)
 
@@ -48,8 +49,8 @@ answerOf x left out =
     let s : Saved × List ℕ = saveOf (x .bus) (x .memory) out in
     cond (eqb left 0) (savedAnswer (s .0) (s .1)) (record { end = length shortLine; form = false }, sets out 0 shortLine)
 
--- "standard input is a script (setup and records, memory FFh at the start)"; "`R5` before `short` before `R8`"; a setup that is cut is `short`: all that the
--- program writes, for all that it reads
+-- "standard input is a script (setup and records, memory FFh at the start)"; "`R5` before `short` before `R8`"; a setup that is cut is `short`: all
+-- that the program writes, for all that it reads
 unfoldable pub answerTo : List ℕ → List ℕ → Written
 answerTo bs more = endText (benchTo (begunAt (pairsOf bs)) more (recordsIn more)) (length more % 4)
 

@@ -1,6 +1,6 @@
-// The save program: a setup and records on standard input; the bench's saved form after the records on standard output, or what stands in the way on standard
-// error. It begins by `opening`, runs the records by `running`, and writes what `answer` puts at the front of the output: all that decides is said and
-// proved there and in `saving`. The status that a result has, the script `run` gives it.
+// The save program: a setup and records on standard input; the bench's saved form after the records on standard output, or what stands in the way
+// on standard error. It begins by `opening`, runs the records by `running`, and writes what `answer` puts at the front of the output: all that
+// decides is said and proved there and in `saving`. The status that a result has, the script `run` gives it.
 ghost use mathlib.Core.Path.{_≡_};
 ghost use mathlib.Core.Bool.{true};
 ghost use Prim.Native.Nat.{_≤_};
@@ -17,13 +17,15 @@ use save_rules::Saved;
 // Bytes of the longest form, that of eight slots of kind 2: four heads of 3, and in them 16, 4,096, 32 and 120.
 const LONGEST: usize = 4276;
 
-// What is written in the end: the front of the output, as far as its end says, and whether it is a form, for standard output, or a line, for standard error.
+// What is written in the end: the front of the output, as far as its end says, and whether it is a form, for standard output, or a line, for
+// standard error.
 struct Answered {
     end: usize,
     form: bool,
 }
 
-// The answer, put at the front of the output: `short` where bytes of a record are left over; otherwise the bench's form, or what its saving is refused for.
+// The answer, put at the front of the output: `short` where bytes of a record are left over; otherwise the bench's form, or what its saving is
+// refused for.
 fn answer(bus: Bus, mem: &[u8], left: usize, out: &mut [u8]) -> Answered
     requires { ⌜ length (now out) ≡ longestForm ⌝ }
     ensures { λ r. ⌜ answerOf (record { bus = bus; memory = now (mem .entry) }) left (now (out .entry)) ≡ (r, now (out .exit)) ⌝ }
@@ -42,8 +44,8 @@ fn answer(bus: Bus, mem: &[u8], left: usize, out: &mut [u8]) -> Answered
     }
 }
 
-// What follows the setup: records to the end of the input. Their lines go into a buffer of their own, and nobody reads them. Then the answer, which is at the
-// front of the output.
+// What follows the setup: records to the end of the input. Their lines go into a buffer of their own, and nobody reads them. Then the answer, which
+// is at the front of the output.
 fn serve(bus: Bus, mem: &mut [u8], out: &mut [u8]) -> Answered
     requires { ⌜ (inRange bus ≡ true) × (length (now mem) ≡ memoryBytes) × (length (now out) ≡ longestForm) ⌝ }
     ensures { λ r. ⌜ (r .end ≤ length (now (out .exit))) × Served bus (now (mem .entry)) (now (out .entry)) r (now (out .exit)) ⌝ }
@@ -61,6 +63,10 @@ fn main() {
     if begun.on {
         let bus = begun.bus;
         let answered = serve(bus, &mut mem, &mut out);
-        script_streams::opening::write(script_streams::opening::descriptor(answered.form), &out, answered.end);
+        script_streams::opening::write(
+            script_streams::opening::descriptor(answered.form),
+            &out,
+            answered.end,
+        );
     }
 }

@@ -46,7 +46,8 @@ fn all_quiet(slots: [Slot; 8]) -> bool
 // The shares of all slots in the field in row t, put at a place; the place after them.
 fn put_shares(t: usize, slots: [Slot; 8], memory: &[u8], out: &mut [u8], at: usize) -> usize
     requires { ⌜ (length (now memory) ≡ memoryBytes) × (at + length (shares t slotCount slots (now memory)) ≤ length (now out)) ⌝ }
-    ensures { λ r. ⌜ (r ≡ at + length (shares t slotCount slots (now (memory .entry)))) × (now (out .exit) ≡ sets (now (out .entry)) at (shares t slotCount slots (now (memory .entry)))) ⌝ }
+    ensures { λ r. ⌜ (r ≡ at + length (shares t slotCount slots (now (memory .entry))))
+        × (now (out .exit) ≡ sets (now (out .entry)) at (shares t slotCount slots (now (memory .entry)))) ⌝ }
 {
     let mut end = at;
     for i in 0..8usize {
@@ -61,7 +62,8 @@ fn put_shares(t: usize, slots: [Slot; 8], memory: &[u8], out: &mut [u8], at: usi
 // The field in row t, put at a place: tag, length, contents; the place after it.
 fn put_field(t: usize, slots: [Slot; 8], memory: &[u8], out: &mut [u8], at: usize) -> usize
     requires { ⌜ (length (now memory) ≡ memoryBytes) × (at + length (fieldBytes t slots (now memory)) ≤ length (now out)) ⌝ }
-    ensures { λ r. ⌜ (r ≡ at + length (fieldBytes t slots (now (memory .entry)))) × (now (out .exit) ≡ sets (now (out .entry)) at (fieldBytes t slots (now (memory .entry)))) ⌝ }
+    ensures { λ r. ⌜ (r ≡ at + length (fieldBytes t slots (now (memory .entry))))
+        × (now (out .exit) ≡ sets (now (out .entry)) at (fieldBytes t slots (now (memory .entry)))) ⌝ }
 {
     let count = save_fields::offsets::offset(t, slots, 8);
     let length = script_text::letters::put_one(out, at, save_fields::shares::tag(t));
@@ -72,7 +74,8 @@ fn put_field(t: usize, slots: [Slot; 8], memory: &[u8], out: &mut [u8], at: usiz
 // The whole form, put at the beginning; the place after it.
 fn put_form(slots: [Slot; 8], memory: &[u8], out: &mut [u8]) -> usize
     requires { ⌜ (length (now memory) ≡ memoryBytes) × (length (formTo fieldCount slots (now memory)) ≤ length (now out)) ⌝ }
-    ensures { λ r. ⌜ (r ≡ length (formTo fieldCount slots (now (memory .entry)))) × (now (out .exit) ≡ sets (now (out .entry)) 0 (formTo fieldCount slots (now (memory .entry)))) ⌝ }
+    ensures { λ r. ⌜ (r ≡ length (formTo fieldCount slots (now (memory .entry))))
+        × (now (out .exit) ≡ sets (now (out .entry)) 0 (formTo fieldCount slots (now (memory .entry)))) ⌝ }
 {
     let mut end = 0;
     for t in 0..4usize {
@@ -81,8 +84,8 @@ fn put_form(slots: [Slot; 8], memory: &[u8], out: &mut [u8]) -> usize
     end
 }
 
-// The bench's form at the front of the buffer, and its length; what stands behind it stays. Whatever is handed in is saved or refused, by the rows 1, 6, 8, 9
-// in this order, and a refusal leaves the buffer as it is.
+// The bench's form at the front of the buffer, and its length; what stands behind it stays. Whatever is handed in is saved or refused, by the rows
+// 1, 6, 8, 9 in this order, and a refusal leaves the buffer as it is.
 pub fn save(bus: Bus, memory: &[u8], buffer: &mut [u8]) -> Saved
     ensures { λ r. ⌜ saveOf bus (now (memory .entry)) (now (buffer .entry)) ≡ (r, now (buffer .exit)) ⌝ }
 {

@@ -83,7 +83,8 @@ fn bits_in(v: u8) -> [bool; 4]
 // A slot's kind and length.
 fn put_setup(s: Slot, memory: &[u8], out: &mut [u8], at: usize) -> usize
     requires { ⌜ at + length (shareOf 0 s (now memory)) ≤ length (now out) ⌝ }
-    ensures { λ r. ⌜ (r ≡ at + length (shareOf 0 s (now (memory .entry)))) × (now (out .exit) ≡ sets (now (out .entry)) at (shareOf 0 s (now (memory .entry)))) ⌝ }
+    ensures { λ r. ⌜ (r ≡ at + length (shareOf 0 s (now (memory .entry))))
+        × (now (out .exit) ≡ sets (now (out .entry)) at (shareOf 0 s (now (memory .entry)))) ⌝ }
 {
     script_text::letters::put_two(out, at, s.kind, s.length)
 }
@@ -91,7 +92,8 @@ fn put_setup(s: Slot, memory: &[u8], out: &mut [u8], at: usize) -> usize
 // Its memory.
 fn put_memory(s: Slot, memory: &[u8], out: &mut [u8], at: usize) -> usize
     requires { ⌜ at + length (shareOf 1 s (now memory)) ≤ length (now out) ⌝ }
-    ensures { λ r. ⌜ (r ≡ at + length (shareOf 1 s (now (memory .entry)))) × (now (out .exit) ≡ sets (now (out .entry)) at (shareOf 1 s (now (memory .entry)))) ⌝ }
+    ensures { λ r. ⌜ (r ≡ at + length (shareOf 1 s (now (memory .entry))))
+        × (now (out .exit) ≡ sets (now (out .entry)) at (shareOf 1 s (now (memory .entry)))) ⌝ }
 {
     if s.kind == 0 {
         return at;
@@ -104,7 +106,8 @@ fn put_memory(s: Slot, memory: &[u8], out: &mut [u8], at: usize) -> usize
 // Its protection, half, counter and high voltage.
 fn put_state(s: Slot, memory: &[u8], out: &mut [u8], at: usize) -> usize
     requires { ⌜ at + length (shareOf 2 s (now memory)) ≤ length (now out) ⌝ }
-    ensures { λ r. ⌜ (r ≡ at + length (shareOf 2 s (now (memory .entry)))) × (now (out .exit) ≡ sets (now (out .entry)) at (shareOf 2 s (now (memory .entry)))) ⌝ }
+    ensures { λ r. ⌜ (r ≡ at + length (shareOf 2 s (now (memory .entry))))
+        × (now (out .exit) ≡ sets (now (out .entry)) at (shareOf 2 s (now (memory .entry)))) ⌝ }
 {
     if s.kind == 0 {
         return at;
@@ -131,7 +134,8 @@ fn put_registers(x: Sensor, out: &mut [u8], at: usize) -> usize
 // The sensor's pointer and registers.
 fn put_sensor(s: Slot, memory: &[u8], out: &mut [u8], at: usize) -> usize
     requires { ⌜ at + length (shareOf 3 s (now memory)) ≤ length (now out) ⌝ }
-    ensures { λ r. ⌜ (r ≡ at + length (shareOf 3 s (now (memory .entry)))) × (now (out .exit) ≡ sets (now (out .entry)) at (shareOf 3 s (now (memory .entry)))) ⌝ }
+    ensures { λ r. ⌜ (r ≡ at + length (shareOf 3 s (now (memory .entry))))
+        × (now (out .exit) ≡ sets (now (out .entry)) at (shareOf 3 s (now (memory .entry)))) ⌝ }
 {
     if s.kind != 2 {
         return at;
@@ -144,7 +148,8 @@ fn put_sensor(s: Slot, memory: &[u8], out: &mut [u8], at: usize) -> usize
 // A slot's share of the field in row t, with the slot's memory, put at a place; the place after it.
 pub fn put(t: usize, s: Slot, memory: &[u8], out: &mut [u8], at: usize) -> usize
     requires { ⌜ at + length (shareOf t s (now memory)) ≤ length (now out) ⌝ }
-    ensures { λ r. ⌜ (r ≡ at + length (shareOf t s (now (memory .entry)))) × (now (out .exit) ≡ sets (now (out .entry)) at (shareOf t s (now (memory .entry)))) ⌝ }
+    ensures { λ r. ⌜ (r ≡ at + length (shareOf t s (now (memory .entry))))
+        × (now (out .exit) ≡ sets (now (out .entry)) at (shareOf t s (now (memory .entry)))) ⌝ }
 {
     match t {
         1 => put_memory(s, memory, out, at),

@@ -1,5 +1,5 @@
--- A form compared with what a saving of these slots gives, field by field and share by share, as the code does it. The bytes of memory are the form's own,
--- whatever they are, and are not looked at.
+-- A form compared with what a saving of these slots gives, field by field and share by share, as the code does it. The bytes of memory are the
+-- form's own, whatever they are, and are not looked at.
 -- Assumes nothing.
 use Prim.Native.Nat.{ℕ, zero, suc}
 use mathlib.Core.Bool.{Bool, true, _&&_, _||_}

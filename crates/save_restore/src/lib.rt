@@ -147,8 +147,8 @@ fn refused(bus: Bus, why: Refusal) -> Outcome
     }
 }
 
-// The bench that a form restores to, or the bus and the memory as they were. Whatever is handed in is restored or refused, by the rows 1 and 10 in this order;
-// the bus that was there is not looked at.
+// The bench that a form restores to, or the bus and the memory as they were. Whatever is handed in is restored or refused, by the rows 1 and 10 in
+// this order; the bus that was there is not looked at.
 pub fn restore(bus: Bus, memory: &mut [u8], form: &[u8]) -> Outcome
     ensures { λ r. ⌜ restoreOf bus (now (memory .entry)) (now (form .entry)) ≡ (r, now (memory .exit)) ⌝ }
 {

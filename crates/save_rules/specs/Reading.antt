@@ -63,13 +63,13 @@ memoryIn f m = storedTo slotCount f (busIn f .slots) m
 unfoldable pub restored : List ℕ → List ℕ → Bench
 restored f m = record { bus = busIn f; memory = memoryIn f m }
 
--- "every form that is accepted is the one the writer would give": a departure is a byte that the writer would not put there, one that is missing, or one too
--- many; "or number out of range": of row 6
+-- "every form that is accepted is the one the writer would give": a departure is a byte that the writer would not put there, one that is missing,
+-- or one too many; "or number out of range": of row 6
 unfoldable pub accepted : List ℕ → List ℕ → Bool
 accepted f m = inRange (busIn f) && same (formOf (busIn f) (memoryIn f m)) f
 
--- "Reading refuses a wrong memory length with 1, then every departure or number out of range with 10, and leaves state and memory." The old state is not
--- looked at.
+-- "Reading refuses a wrong memory length with 1, then every departure or number out of range with 10, and leaves state and memory." The old state
+-- is not looked at.
 unfoldable pub restoreOf : Bus → List ℕ → List ℕ → Outcome × List ℕ
 restoreOf b m f =
     cond (wrongLength m) (record { bus = b; answer = answer.Refused MemoryLength }, m)

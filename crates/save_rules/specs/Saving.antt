@@ -43,8 +43,8 @@ quiet s = absent s || isIdle (s .phase) && eqb (s .left) 0
 unfoldable pub allQuiet : Bus → Bool
 allQuiet b = allOf quiet (b .slots)
 
--- "Saving is refused with 8 unless every present slot is idle and in no write cycle, then with 9 if the lent buffer is too short; 1 and 6 come first, and
--- all leave it unchanged; else the length is returned and bytes past the form stay."
+-- "Saving is refused with 8 unless every present slot is idle and in no write cycle, then with 9 if the lent buffer is too short; 1 and 6 come
+-- first, and all leave it unchanged; else the length is returned and bytes past the form stay."
 unfoldable pub saveOf : Bus → List ℕ → List ℕ → Saved × List ℕ
 saveOf b m buffer =
     cond (wrongLength m) (Refused MemoryLength, buffer)

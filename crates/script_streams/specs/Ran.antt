@@ -24,7 +24,13 @@ turnsLeave q [] = q
 turnsLeave q (r ∷ rs) =
     let t : Turned × List ℕ × List ℕ × List ℕ =
     turnOf (q .bench .bus) (q .bench .memory) (readInto (q .buf) (q .held) r) (q .held) (length (r .came)) (q .out) in
-    turnsLeave (record { bench = record { bus = t .0 .bus; memory = t .1 }; buf = t .2; held = t .0 .held; on = ltb 0 (length (r .came)); out = t .3 }) rs
+    turnsLeave (record {
+      bench = record { bus = t .0 .bus; memory = t .1 };
+      buf = t .2;
+      held = t .0 .held;
+      on = ltb 0 (length (r .came));
+      out = t .3;
+    }) rs
 
 abbrev pub begun : Bench → List ℕ → List ℕ → Ran
 begun x buf out = record { bench = x; buf = buf; held = 0; on = true; out = out }

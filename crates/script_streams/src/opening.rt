@@ -8,10 +8,10 @@ ghost use Rattle.rules.specs.Modelled.{memoryBytes};
 ghost use Rattle.rules.specs.Refusals.{inRange};
 ghost use Rattle.script_streams.specs.Opened.{Opened};
 ghost use Rattle.script_streams.specs.Written.{descriptorOf};
-use script_turns::frame::Begun;
 use libc::STDERR_FILENO;
 use libc::STDIN_FILENO;
 use libc::STDOUT_FILENO;
+use script_turns::frame::Begun;
 
 // The descriptor of standard output, or of standard error.
 pub fn descriptor(output: bool) -> i32

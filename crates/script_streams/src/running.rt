@@ -1,5 +1,5 @@
-// Records run, read by read to the input's end, for the programs `plan` and `save`, which write no lines for them: what came goes to `lines`, where all that
-// decides is said and proved.
+// Records run, read by read to the input's end, for the programs `plan` and `save`, which write no lines for them: what came goes to `lines`, where
+// all that decides is said and proved.
 ghost use mathlib.Core.Path.{_≡_};
 ghost use mathlib.Core.Bool.{true};
 ghost use Prim.Native.Nat.{_<_};
@@ -19,8 +19,10 @@ pub struct Going {
 
 // One read, behind the bytes that are held, and a turn over what came. The turn's lines are not written.
 fn read_on(g: Going, mem: &mut [u8], buf: &mut [u8], out: &mut [u8]) -> Going
-    requires { ⌜ (inRange (g .bus) ≡ true) × (length (now mem) ≡ memoryBytes) × (length (now buf) ≡ 65536) × (length (now out) ≡ 65536) × (g .held < 4) ⌝ }
-    ensures { λ r. ⌜ (inRange (r .bus) ≡ true) × (r .held < 4) × Went (ranOf g (now (mem .entry)) (now (buf .entry)) (now (out .entry))) (ranOf r (now (mem .exit)) (now (buf .exit)) (now (out .exit))) ⌝ }
+    requires { ⌜ (inRange (g .bus) ≡ true) × (length (now mem) ≡ memoryBytes) × (length (now buf) ≡ 65536) × (length (now out) ≡ 65536)
+        × (g .held < 4) ⌝ }
+    ensures { λ r. ⌜ (inRange (r .bus) ≡ true) × (r .held < 4)
+        × Went (ranOf g (now (mem .entry)) (now (buf .entry)) (now (out .entry))) (ranOf r (now (mem .exit)) (now (buf .exit)) (now (out .exit))) ⌝ }
 {
     let held = g.held;
     let got = libc::read(STDIN_FILENO, &mut buf[held..]);

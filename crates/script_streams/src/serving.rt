@@ -1,5 +1,5 @@
-// Records served, read by read, for the programs `script` and `resume`: what came goes to `lines`, and what that has put at the front of the output is
-// written, a line for each event. All that decides is said and proved there and in `frame`.
+// Records served, read by read, for the programs `script` and `resume`: what came goes to `lines`, and what that has put at the front of the output
+// is written, a line for each event. All that decides is said and proved there and in `frame`.
 ghost use mathlib.Core.Path.{_≡_};
 ghost use mathlib.Core.Bool.{true, false};
 ghost use Prim.Native.Nat.{_+_, _<_, _≤_};
@@ -35,8 +35,10 @@ fn ended(g: Going, out: &mut [u8]) -> Going
 
 // A turn over the n bytes that have come behind those held, and its lines written.
 fn turned(g: Going, mem: &mut [u8], buf: &mut [u8], n: usize, out: &mut [u8]) -> Going
-    requires { ⌜ (inRange (g .bus) ≡ true) × (length (now mem) ≡ memoryBytes) × (length (now buf) ≡ 65536) × (length (now out) ≡ 65536) × (g .held + n ≤ 65536) ⌝ }
-    ensures { λ r. ⌜ (inRange (r .bus) ≡ true) × (r .held < 4) × Turned g (now (mem .entry)) (now (buf .entry)) n (now (out .entry)) r (now (mem .exit)) (now (buf .exit)) (now (out .exit)) ⌝ }
+    requires { ⌜ (inRange (g .bus) ≡ true) × (length (now mem) ≡ memoryBytes) × (length (now buf) ≡ 65536) × (length (now out) ≡ 65536)
+        × (g .held + n ≤ 65536) ⌝ }
+    ensures { λ r. ⌜ (inRange (r .bus) ≡ true) × (r .held < 4)
+        × Turned g (now (mem .entry)) (now (buf .entry)) n (now (out .entry)) r (now (mem .exit)) (now (buf .exit)) (now (out .exit)) ⌝ }
 {
     let bus = g.bus;
     let t = script_turns::turns::turn(bus, mem, buf, g.held, n, out);
@@ -52,8 +54,10 @@ fn turned(g: Going, mem: &mut [u8], buf: &mut [u8], n: usize, out: &mut [u8]) ->
 
 // One read, behind the bytes that are held, and what is written for it. A read that brings nothing is the input's end.
 fn read_on(g: Going, mem: &mut [u8], buf: &mut [u8], out: &mut [u8]) -> Going
-    requires { ⌜ (inRange (g .bus) ≡ true) × (length (now mem) ≡ memoryBytes) × (length (now buf) ≡ 65536) × (length (now out) ≡ 65536) × (g .held < 4) ⌝ }
-    ensures { λ r. ⌜ (inRange (r .bus) ≡ true) × (r .held < 4) × (r .on ≡ true → Went g (now (mem .entry)) (now (buf .entry)) (now (out .entry)) r (now (mem .exit)) (now (buf .exit)) (now (out .exit))) ⌝ }
+    requires { ⌜ (inRange (g .bus) ≡ true) × (length (now mem) ≡ memoryBytes) × (length (now buf) ≡ 65536) × (length (now out) ≡ 65536)
+        × (g .held < 4) ⌝ }
+    ensures { λ r. ⌜ (inRange (r .bus) ≡ true) × (r .held < 4)
+        × (r .on ≡ true → Went g (now (mem .entry)) (now (buf .entry)) (now (out .entry)) r (now (mem .exit)) (now (buf .exit)) (now (out .exit))) ⌝ }
 {
     let held = g.held;
     let got = libc::read(STDIN_FILENO, &mut buf[held..]);

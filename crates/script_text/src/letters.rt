@@ -86,7 +86,8 @@ pub fn put_decimal(out: &mut [u8], at: usize, n: usize) -> usize
 // A refusal's text, `R` and its number, put at a place; the place after it.
 fn put_number(out: &mut [u8], at: usize, r: Refusal) -> usize
     requires { ⌜ at + 3 ≤ length (now out) ⌝ }
-    ensures { λ e. ⌜ (e ≡ at + length (answerText (Answer.Refused r))) × (now (out .exit) ≡ sets (now (out .entry)) at (answerText (Answer.Refused r))) ⌝ }
+    ensures { λ e. ⌜ (e ≡ at + length (answerText (Answer.Refused r)))
+        × (now (out .exit) ≡ sets (now (out .entry)) at (answerText (Answer.Refused r))) ⌝ }
 {
     let end = put_one(out, at, b'R');
     put_decimal(out, end, number_of(r) as usize)

@@ -22,7 +22,8 @@ struct Ran {
 // what stands behind the lines stays.
 fn run(bus: Bus, mem: &mut [u8], records: &[u8], out: &mut [u8]) -> Ran
     requires { ⌜ (inRange bus ≡ true) × (length (now mem) ≡ memoryBytes) × (length (now records) ≤ length (now out)) ⌝ }
-    ensures { λ r. ⌜ runOf (record { bus = bus; memory = now (mem .entry) }) (now (records .entry)) (now (out .entry)) ≡ (r, now (mem .exit), now (out .exit)) ⌝ }
+    ensures { λ r. ⌜ runOf (record { bus = bus; memory = now (mem .entry) }) (now (records .entry)) (now (out .entry))
+        ≡ (r, now (mem .exit), now (out .exit)) ⌝ }
 {
     let count = records.len() / 4;
     let mut x = Outcome {
@@ -58,7 +59,8 @@ pub fn turn(
     out: &mut [u8],
 ) -> Turned
     requires { ⌜ (inRange bus ≡ true) × (length (now mem) ≡ memoryBytes) × (held + n ≤ length (now buf)) × (length (now buf) ≤ length (now out)) ⌝ }
-    ensures { λ r. ⌜ turnOf bus (now (mem .entry)) (now (buf .entry)) held n (now (out .entry)) ≡ (r, now (mem .exit), now (buf .exit), now (out .exit)) ⌝ }
+    ensures { λ r. ⌜ turnOf bus (now (mem .entry)) (now (buf .entry)) held n (now (out .entry))
+        ≡ (r, now (mem .exit), now (buf .exit), now (out .exit)) ⌝ }
 {
     let come = held + n;
     let whole = come / 4 * 4;
