@@ -1,8 +1,9 @@
 /* Runs a command and measures it, or talks to it one event at a time.
- *   measure run FILE CMD..       with FILE as standard input, its output thrown away: "SECONDS KILOBYTES"
- *   measure talk EVENTS CMD..    writes a setup, then EVENTS ticks one by one, each after the line of the one before: "SECONDS"
- *   measure start COUNT FILE CMD..   COUNT times with FILE as standard input, its output thrown away: "SECONDS" of the processor for one, the
- *                                    lower quartile */
+ *   measure run FILE CMD..           with FILE as standard input, its output thrown away: "SECONDS KILOBYTES"
+ *   measure talk EVENTS CMD..        writes a setup, then EVENTS ticks one by one, each after the line of the one
+ *                                    before: "SECONDS"
+ *   measure start COUNT FILE CMD..   COUNT times with FILE as standard input, its output thrown away: "SECONDS" of the
+ *                                    processor for one, the lower quartile */
 #include <fcntl.h>
 #include <stdio.h>
 #include <stdlib.h>

@@ -1,15 +1,17 @@
-# The verdict on a logic analyser's export put in words, for ./plungerhen capture --sigrok and --saleae (analyser). Reads the rows of ticks.awk;
-# ../tests/words.awk and told.awk are read before this.
+# The verdict on a logic analyser's export put in words, for ./plungerhen capture --sigrok and --saleae (analyser).
+# Reads the rows of ticks.awk; words.awk and told.awk are read before this.
 #
 #   mode  bytes  the records as a capture has them, in lines of octal escapes of printf
 #         asked  the text for the program `edges` that leads to record number `at` and shows the slots that it concerns
 #         agrees the report on an export that agrees; NAME in the environment is the name of the file
-#         tell   the report on one that differs at record number `at`, where the model says `model` and the export `seen`. STATES in the environment
-#                is what `edges` showed, `given` names the slots whose memory was told. What is no verdict on these rows ends with status 1 and a
-#                line that says why.
+#         tell   the report on one that differs at record number `at`, where the model says `model` and the export
+#                `seen`. STATES in the environment is what `edges` showed, `given` names the slots whose memory was
+#                told. What is no verdict on these rows ends with status 1 and a line that says why.
 #         unfit  the sentence on a row F
-#         doubts the words of rows U up to record number `at`, or of all where it is empty, the latest first: of the slots that this record concerns
-#         begun  the write cycles that these rows have, a line `SLOT RECORD` each; `model` has those of the model, from what `edges` says of mode stops
+#         doubts the words of rows U up to record number `at`, or of all where it is empty, the latest first: of the
+#                slots that this record concerns
+#         begun  the write cycles that these rows have, a line `SLOT RECORD` each; `model` has those of the model, from
+#                what `edges` says of mode stops
 #         stops  the text for `edges` that shows every told slot before each stop and behind it
 
 function plural(n, word) { return n " " word (n == 1 ? "" : "s") }
@@ -31,7 +33,8 @@ function record_bytes(kind, slot, val, answer,   code, byte) {
   if (++written % 64 == 0) printf "\n"
 }
 
-# ---- asked. The slots that an event concerns go by the last control byte: the one that it names, or every told one where it is a command.
+# ---- asked. The slots that an event concerns go by the last control byte: the one that it names, or every told one
+# where it is a command.
 function follow(kind, val) {
   if (kind == 1) control = -1
   else if (kind == 2 && control == -1) control = val
@@ -62,9 +65,11 @@ function end_asked(   s) {
 # ---- the write cycles: how long they took, up to a record
 function cycle_row() {
   began[$2 + 0, $3 + 0] = 1
-  slot[++cycles] = $2; stop[cycles] = $3; stop_at[cycles] = $4; how[cycles] = $5; end[cycles] = $6; end_at[cycles] = $7; busy[cycles] = $8; by[cycles] = $9
+  slot[++cycles] = $2; stop[cycles] = $3; stop_at[cycles] = $4; how[cycles] = $5
+  end[cycles] = $6; end_at[cycles] = $7; busy[cycles] = $8; by[cycles] = $9
 }
-# How it ended, up to a record, as its row says; `first` if it was seen when it was first asked, `open` if it ended later.
+# How it ended, up to a record, as its row says; `first` if it was seen when it was first asked, `open` if it ended
+# later.
 function how_by(c, upto) {
   if (how[c] == "open" || end[c] > upto) return "open"
   return how[c] == "seen" && busy[c] == "-" ? "first" : how[c]
@@ -109,7 +114,8 @@ function measured(upto,   s, text) {
   }
 }
 function rule(   i) {
-  if (ticks) print "Ticks are not on the wires. " ticks (ticks == 1 ? " was" : " were") " placed, so that a write cycle ends before the exchange in which its slot acknowledges again, or"
+  if (ticks) print "Ticks are not on the wires. " ticks (ticks == 1 ? " was" : " were") " placed, so that " \
+    "a write cycle ends before the exchange in which its slot acknowledges again, or"
   if (ticks) print "once it has had its milliseconds. A cycle that is shorter than told is not judged, only measured; all else is judged."
   else print "Ticks are not on the wires. None was placed, since no write cycle was seen to end."
   if (clock) print "The bus ran at about " clock " kHz, by the rate that was told."
@@ -159,7 +165,8 @@ function events_shown(   from, i, wide, many) {
   for (i = from; i <= at; i += many) {
     get(i)
     many = i < at && f[5] == "t" ? ticks_from(i) : 1
-    printf "%" wide "s  %-24s  %s\n", ms(f[3]), (many > 1 ? "tick " many : words_of(i)), (i == at ? difference() : f[5] == "t" ? "(placed)" : answer_words(f[9]))
+    printf "%" wide "s  %-24s  %s\n", ms(f[3]), (many > 1 ? "tick " many : words_of(i)),
+      (i == at ? difference() : f[5] == "t" ? "(placed)" : answer_words(f[9]))
   }
 }
 function ticks_from(i,   many, g) {
@@ -209,7 +216,8 @@ function memory_words(   address) {
 function sensor_words(   names, text) {
   split("configuration,high,low,critical,temperature,-,-,resolution,timeout", names, ",")
   text = "pointer " show(now["pointer"])
-  if (now["pointer"] in names && names[now["pointer"]] != "-") text = text " (" names[now["pointer"]] ", " sprintf("%04X", now[names[now["pointer"]]]) "h)"
+  if (now["pointer"] in names && names[now["pointer"]] != "-")
+    text = text " (" names[now["pointer"]] ", " sprintf("%04X", now[names[now["pointer"]]]) "h)"
   if (now["phase"] ~ /^sensor-read/) text = text ", the word being read is " sprintf("%04X", now["word"]) "h"
   return text
 }
@@ -221,8 +229,8 @@ function state_line(s,   text) {
 }
 
 # ---- tell: what was written to a slot before this exchange
-# The last stretch of events, from a start on, that wrote to slot s: wrote_from to wrote_to; and the last half command, at half_at. A protect or clear is for
-# the slot if its stop began a write cycle there.
+# The last stretch of events, from a start on, that wrote to slot s: wrote_from to wrote_to; and the last half command,
+# at half_at. A protect or clear is for the slot if its stop began a write cycle there.
 function look_back(s, limit,   i, behind, from, acked, order_from, order_to) {
   wrote_from = half_at = order_from = -1; control = -2
   for (i = 0; i < limit; i++) {
@@ -249,7 +257,8 @@ function bytes_written(   i, text, n) {
 }
 function write_line(s, memory,   text) {
   if (wrote_from < 0) {
-    text = "; its memory begins with " ((" " given " ") ~ (" " s " ") ? "the bytes that --memory told" : "FFh in every byte, since --memory told no other")
+    text = "; its memory begins with " \
+      ((" " given " ") ~ (" " s " ") ? "the bytes that --memory told" : "FFh in every byte, since --memory told no other")
     print "  nothing was written to slot " s " before this exchange" (memory ? text : "")
     return
   }
@@ -281,13 +290,15 @@ function late_line(c, s,   seen_at) {
   if (f[6] != 1) return
   seen_at = f[3]
   get(at)
-  if (f[6] == 2 && f[9] == "N" && model == "A") print "  " since(seen_at, stop_at[c]) " ms after the stop the cycle of " plural(ticks_of[s], "tick") " had ended by the clock"
+  if (f[6] == 2 && f[9] == "N" && model == "A")
+    print "  " since(seen_at, stop_at[c]) " ms after the stop the cycle of " plural(ticks_of[s], "tick") " had ended by the clock"
 }
 
 # A command in the slot's write cycle, while nobody saw whether the cycle still ran: ticks.awk takes it to run.
 function doubt_line(s) {
   if (!(s in doubt_at)) return
-  print "  " show(doubt_byte[s]) " at " ms(doubt_at[s]) " ms, " since(doubt_at[s], doubt_stop[s]) " ms after a stop, is taken as not heard by slot " s ", whose write cycle counts as running;"
+  print "  " show(doubt_byte[s]) " at " ms(doubt_at[s]) " ms, " since(doubt_at[s], doubt_stop[s]) " ms after a stop, " \
+    "is taken as not heard by slot " s ", whose write cycle counts as running;"
   print "  the wires do not show that: ask the slot before such a command, or tell a shorter write cycle"
 }
 function doubt_row() { if ($3 <= at) { doubt_at[$2 + 0] = $4; doubt_byte[$2 + 0] = $5; doubt_stop[$2 + 0] = $6 } }
@@ -357,11 +368,17 @@ function begun_by(line, record,   part, n, i, s, was, behind) {
 function end_unfit(   way) {
   if (ticks_of[$2] > 1) way = "a shorter write cycle for slot " $2 ", the faster one"
   if (ticks_of[$5] < 5) way = way (way == "" ? "" : ", or ") "a longer " (way == "" ? "write cycle" : "one") " for slot " $5
-  print "from " ms($8) " ms on it is not judged (up to there it agrees): slot " $2 "'s write cycle from " ms($3) " ms was over" ($4 == "-" ? "" : " before " ms($4) " ms") ", while slot " $5 "'s from " ms($6) " ms " \
+  print "from " ms($8) " ms on it is not judged (up to there it agrees): slot " $2 "'s write cycle from " ms($3) " ms was over" \
+    ($4 == "-" ? "" : " before " ms($4) " ms") ", while slot " $5 "'s from " ms($6) " ms " \
     ($7 == "-" ? "was not" : "was not at " ms($7) " ms") "; as the two are told, no number of ticks fits both. Tell " way
 }
 
-BEGIN { FS = "\t"; told_slots(); control = -2; if (mode == "bytes") octals(); if (mode == "tell") phases(); if (mode == "asked" || mode == "stops") print setup_words() }
+BEGIN {
+  FS = "\t"; told_slots(); control = -2
+  if (mode == "bytes") octals()
+  if (mode == "tell") phases()
+  if (mode == "asked" || mode == "stops") print setup_words()
+}
 $1 == "E" && mode == "bytes" { record_bytes($6, $7, $8, $9) }
 $1 == "E" && mode == "asked" { asked_event() }
 $1 == "E" && mode == "stops" { asked_stop() }

@@ -1,5 +1,5 @@
-# The plan of a case (../tests/reading.awk) as a text for the program `edges`: its setup, then each event on a line of its own, and behind each the
-# numbers of every present slot. octal.awk is read before this.
+# The plan of a case (reading.awk) as a text for the program `edges`: its setup, then each event on a line of its own,
+# and behind each the numbers of every present slot. octal.awk is read before this.
 
 $1 == "I" {
   bytes = $4

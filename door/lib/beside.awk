@@ -1,5 +1,5 @@
-# What happened beside the wires, told in the words of the cases with a time in front, read for ./plungerhen capture --beside (analyser).
-# ../tests/words.awk and told.awk are read before this.
+# What happened beside the wires, told in the words of the cases with a time in front, read for ./plungerhen capture
+# --beside (analyser). words.awk and told.awk are read before this.
 #
 # From lines such as `at 12.5 ms voltage 0 on` to rows, fields parted by tabs, the time in nanoseconds:
 #
@@ -20,7 +20,8 @@ function time_of(digits, unit,   scale) {
 
 # ---- the events behind it
 function allowed(word) {
-  if (word ~ /^(start|stop|byte|read|write|look|set|get)$/) bad("\"" word "\" is on the wires: only what is not on them stands here (voltage, temperature, power, timeout)")
+  if (word ~ /^(start|stop|byte|read|write|look|set|get)$/)
+    bad("\"" word "\" is on the wires: only what is not on them stands here (voltage, temperature, power, timeout)")
   if (word == "tick") bad("ticks are not told: they are placed where the wires show that a write cycle has ended")
   if (word == "event" || word == "raw") bad("\"" word "\" can't stand here: say voltage, temperature, power or timeout")
 }
@@ -32,7 +33,8 @@ function one(i,   kind, slot, v) {
     if (kind == 9 && kind_of[slot] != 2) bad("slot " slot " is told as a memory: it has no sensor that feels a temperature")
   }
   if (kind == 9 && (v < -640 || v > 2000)) bad("the temperature " v " is not from -640 to 2000 sixteenths of a degree")
-  if (kind == 8 && (v < 0 || v > 16)) bad("the number behind power is " v ", and must be from 0 to 16, the bytes stored of a write cycle that it cuts")
+  if (kind == 8 && (v < 0 || v > 16))
+    bad("the number behind power is " v ", and must be from 0 to 16, the bytes stored of a write cycle that it cuts")
   print "X\t" sprintf("%.0f", when) "\t" NR "\t" kind "\t" slot "\t" v
 }
 function beside_line(   w, n, i, part, rest) {

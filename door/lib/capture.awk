@@ -1,14 +1,18 @@
-# Captures (captures/README.md) read and told for ./plungerhen capture. The words are those of ../tests/words.awk, which is read before this.
+# Captures (examples/captures/README.md) read and told for ./plungerhen capture. The words are those of words.awk, which
+# is read before this.
 #
 #   mode  read    from a readable capture to rows, fields parted by tabs:
 #                   I  number of records, the setup's bytes, the records' bytes, both as octal escapes of printf
 #                   M  line number, slot, the bytes that its memory begins with, as octal escapes
 #                   F  line number, slot, the name of the file that has them
-#                   E  record's number from 0, line number, the line's text, kind, the event in words, the captured answer
+#                   E  record's number from 0, line number, the line's text, kind, the event in words, the answer that
+#                      was captured
 #                 or, alone, B: line number, what is wrong there
-#         bytes   from bytes of records in hex to such rows E, the first being record `first`; line number and text are empty
-#         tell    from rows E, to the report on record number `at`, where the model says `model` and the capture `seen`; NAME in the environment
-#                 is the name of the file. What is no verdict on these rows ends with status 1 and a line that says why.
+#         bytes   from bytes of records in hex to such rows E, the first being record `first`; line number and text are
+#                 empty
+#         tell    from rows E, to the report on record number `at`, where the model says `model` and the capture `seen`;
+#                 NAME in the environment is the name of the file. What is no verdict on these rows ends with status 1
+#                 and a line that says why.
 #
 # An answer is written as the programs write it, an unknown code as ? and its number.
 
@@ -34,7 +38,8 @@ function memory_line(   slot, rest, w, n, i, bytes) {
   rest = left; sub(/^memory */, "", rest)
   slot = rest; sub(/[ :].*/, "", slot)
   rest = substr(rest, length(slot) + 1)
-  if (rest !~ /^[ :] *[^ :]/ || rest ~ /^( +[0-9A-Fa-f]+h(\*[0-9]+)?)+$/) bad("the form is: memory SLOT FILE.bin, or memory SLOT: BYTE..., as in: memory 0: 23h 11h")
+  if (rest !~ /^[ :] *[^ :]/ || rest ~ /^( +[0-9A-Fa-f]+h(\*[0-9]+)?)+$/)
+    bad("the form is: memory SLOT FILE.bin, or memory SLOT: BYTE..., as in: memory 0: 23h 11h")
   slot = decimal(slot, 0, 7, "slot number")
   if (slot in memory_at) bad("the memory of slot " slot " is told twice")
   memory_at[slot] = NR
@@ -84,7 +89,8 @@ function end_bytes(   i) {
 # ---- tell
 function fail(sentence) { print sentence; exit 1 }
 
-# The first event to show: eight before the record, or the start of the exchange that this one stands in, but not more than forty before.
+# The first event to show: eight before the record, or the start of the exchange that this one stands in, but not more
+# than forty before.
 function shown_from(   i, from, inside) {
   from = i = at < 8 ? 0 : at - 8
   while (i > 0 && i > at - 40 && kinds[i - 1] !~ /^[458]$/) {
@@ -108,7 +114,8 @@ function end_tell(   i, from, wide, place) {
   if (from) printf "%" wide "s  (%s not shown)\n", "", from (from == 1 ? " earlier event is" : " earlier events are")
   for (i = from; i <= at; i++) {
     place = lines_at[i] == "" ? i : i > from && lines_at[i] == lines_at[i - 1] ? "" : lines_at[i]
-    printf "%" wide "s  %-24s  %s\n", place, events[i], i < at ? answer_words(said[i]) : "<== the chip said " in_words(said[i]) ", the model says " in_words(model)
+    printf "%" wide "s  %-24s  %s\n", place, events[i],
+      i < at ? answer_words(said[i]) : "<== the chip said " in_words(said[i]) ", the model says " in_words(model)
   }
   if (model ~ /^R/) printf "%" wide "s  (a record that the model refuses never agrees)\n", ""
 }

@@ -1,18 +1,21 @@
-# What a logic analyser wrote of the two wires, read for ./plungerhen capture --sigrok and --saleae (analyser). ../tests/words.awk is read before this.
+# What a logic analyser wrote of the two wires, read for ./plungerhen capture --sigrok and --saleae (analyser).
+# words.awk is read before this.
 #
 #   form  sigrok  the lines of sigrok-cli's decoder i2c, with sample numbers; `rate` is how many samples a second has
 #         saleae  the data table of Logic 2's analyser I2C, as CSV
 #
 # Writes rows, fields parted by tabs, times in nanoseconds:
 #
-#   W  when it took place, when it began, line number, kind, value, answer      an event on the wires; a byte takes place when its ninth bit does
-#   O  rows, their number                                                       left out: what stands before the first start
-#   O  byte, line number                                                        left out: the last byte, whose ninth bit is not there
-#   O  cut, line number                                                         left out: the last row of a table, which has no line end and may be cut
-#   O  clock, kHz                                                               how fast SCL was, by the rate that is told
-#   Z                                                                           the end
+#   W  when it took place, when it began, line number, kind, value, answer: an event on the wires; a byte takes place
+#      when its ninth bit does
+#   O  rows, their number       left out: what stands before the first start
+#   O  byte, line number        left out: the last byte, whose ninth bit is not there
+#   O  cut, line number         left out: the last row of a table, which has no line end and may be cut
+#   O  clock, kHz               how fast SCL was, by the rate that is told
+#   Z                           the end
 #
-# or, last, B: line number, what is wrong there. Kinds, values and answers are those of a capture. `unended` is the number of the last line, if it has no end.
+# or, last, B: line number, what is wrong there. Kinds, values and answers are those of a capture. `unended` is the
+# number of the last line, if it has no end.
 
 # ---- the events, as both forms give them. The last is held back: a byte has taken place before the next event begins.
 function wire(when, from, line, kind, value, answer) {
@@ -32,7 +35,8 @@ function stops(when) {
   inside = 0
   wire(when, when, NR, 4, 0, "-")
 }
-# A byte: the control byte if `first`, else data, read or written as its control byte says. `line` is where it stands, `acked` its ninth bit.
+# A byte: the control byte if `first`, else data, read or written as its control byte says. `line` is where it stands,
+# `acked` its ninth bit.
 function takes_byte(from, when, line, first, value, acked) {
   if (first) control = value
   if (control % 2 == 1 && !first) wire(when, from, line, 3, acked, "D" toupper(sprintf("%02x", value)))
@@ -63,14 +67,16 @@ function quoted(text) {
 
 # What a file may be that is not what it was said to be.
 function looks() {
-  if (/^\$(date|version|comment|timescale|scope|var)( |$)/) return "a VCD file: " (form == "sigrok" ? "run sigrok-cli on it" : "its wires are not decoded")
+  if (/^\$(date|version|comment|timescale|scope|var)( |$)/)
+    return "a VCD file: " (form == "sigrok" ? "run sigrok-cli on it" : "its wires are not decoded")
   if (form == "sigrok" && /^"?name"?,"?type"?,/) return "Logic 2's data table: it is checked with --saleae"
   if (form == "saleae" && /^[0-9]+-[0-9]+ [^:]*: /) return "the lines of sigrok-cli: they are checked with --sigrok"
   if (/^"?Time \[s\]"?,"?Packet ID"?/) return "the older export of the analyser alone: export the data table instead"
   if (/^"?Time \[s\]"?,/) return "raw samples as CSV: add the analyser I2C in Logic 2, and export its data table"
   if (/^; ?CSV|^; ?Channels/) return "raw samples as sigrok writes them: let its decoder i2c read them"
   if (/^(slot|setup|memory) .*[0-9]/) return "a capture in words: it is checked without --" form
-  if (/^PK/) return "a packed file, as sigrok and Logic 2 save a session: " (form == "sigrok" ? "run sigrok-cli on it" : "export the data table from it")
+  if (/^PK/)
+    return "a packed file, as sigrok and Logic 2 save a session: " (form == "sigrok" ? "run sigrok-cli on it" : "export the data table from it")
   return ""
 }
 function unlike(sentence,   what) {
@@ -137,7 +143,8 @@ function sigrok_byte(from, text,   first, byte) {
   number(substr(text, length(text) - 1) "h"); byte = value
   if (first && byte > 127) bad("the address " show(byte) " has more than seven bits: run the decoder without address_format=unshifted")
   if (first) byte = 2 * byte + (text ~ /read/)
-  else if ((text ~ /read/) != control % 2) bad((text ~ /read/ ? "data read behind an address that writes" : "data written behind an address that reads"))
+  else if ((text ~ /read/) != control % 2)
+    bad(text ~ /read/ ? "data read behind an address that writes" : "data written behind an address that reads")
   waiting = NR; waiting_from = from; waiting_value = byte; waiting_first = first
 }
 function sigrok_ninth(when, acked) {
@@ -190,7 +197,8 @@ function header(n,   i, needed, m) {
 function same_name(   name) {
   if (!("name" in column)) return
   name = cell[column["name"]]
-  if (named && name != first_name) bad("the table has rows of two analysers, " quoted(first_name) " and " quoted(name) ": export the table of the one on this bus")
+  if (named && name != first_name)
+    bad("the table has rows of two analysers, " quoted(first_name) " and " quoted(name) ": export the table of the one on this bus")
   named = 1; first_name = name
 }
 function saleae_row(type, from) {

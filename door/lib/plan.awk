@@ -1,4 +1,5 @@
-# What the program `plan` answered, put in words for ./plungerhen plan: the plan as eight hex digits a record on standard input.
+# What the program `plan` answered, put in words for ./plungerhen plan: the plan as eight hex digits a record on
+# standard input.
 #
 #   mode      show     the plan in the words of the case files, a line for each exchange
 #             case     a case file that plays all of it, from setup to a look at every byte
@@ -7,8 +8,8 @@
 #   old, new  the two contents in hex digits      slot, ticks, half, blocks (a list)  what is known of the module
 # The environment variable NAMES has the names of the two files, for the case's heading.
 #
-# The records are not taken on trust: what is not five ticks, half commands and whole pages of `new` that differ from `old`, each such page
-# once, ends with status 1 and a line that says why.
+# The records are not taken on trust: what is not five ticks, half commands and whole pages of `new` that differ from
+# `old`, each such page once, ends with status 1 and a line that says why.
 
 function fail(sentence) { print sentence; failed = 1; exit 1 }
 
@@ -123,9 +124,13 @@ function before_plan(   page, now, i) {
     if (int(page / 16) != now) { now = int(page / 16); half_line(now) }
     write_line(page, old, "page " page)
   }
-  if (nblocks) { heading(""); heading("# The protection: high voltage on SA0, the command, two bytes, a stop, the write cycle.") ; line("voltage " slot " on", "-", "") }
+  if (nblocks) {
+    heading(""); heading("# The protection: high voltage on SA0, the command, two bytes, a stop, the write cycle.")
+    line("voltage " slot " on", "-", "")
+  }
   for (i = 1; i <= nblocks; i++)
-    line("start; byte " substr("62h68h6Ah60h", 3 * block[i] + 1, 3) " 00h 00h; stop; " tick_words(ticks), "- A*3 - " times("-", ticks), "block " block[i])
+    line("start; byte " substr("62h68h6Ah60h", 3 * block[i] + 1, 3) " 00h 00h; stop; " tick_words(ticks),
+         "- A*3 - " times("-", ticks), "block " block[i])
   if (nblocks) line("voltage " slot " off", "-", "")
   if (now + 0 != half) { heading(""); heading("# The half."); half_line(half) }
   heading(""); heading("# The plan.")
@@ -143,7 +148,10 @@ function tell_refused(   i, page, list, n, told) {
   for (i = 1; i <= nblocks; i++) {
     n = 0
     for (page = 8 * block[i]; page < 8 * block[i] + 8; page++) if (differs(page)) list[++n] = page
-    if (n) { told = 1; print "refused (7): block " block[i] " is protected, and " (n == 1 ? "page " list[1] " in it differs" : "pages " listed(list, n) " in it differ") }
+    if (!n) continue
+    told = 1
+    print "refused (7): block " block[i] " is protected, and " \
+      (n == 1 ? "page " list[1] " in it differs" : "pages " listed(list, n) " in it differ")
   }
   if (!told) fail("R7")
 }

@@ -1,4 +1,5 @@
-# A case file (cases/README.md) read into a plan, for tests/case, door/save and door/resume. The words are those of words.awk, which is read before this.
+# A case file (examples/cases/README.md) read into a plan, for ./plungerhen case, wave, save and resume. The words are
+# those of words.awk, which is read before this.
 #
 # One row a line, fields parted by tabs:
 #   I  number of events, number of events not compared, all bytes for the program as octal escapes
@@ -9,8 +10,8 @@
 # or, alone, B: line number, what is wrong there.
 #
 #   strict  1: every line wants its answers
-#   bench   empty, or the sixteen numbers of a saved bench's setup, from which the case is played: the case's own setup must be the same or not
-#           there, and row I has the records alone
+#   bench   empty, or the sixteen numbers of a saved bench's setup, from which the case is played: the case's own setup
+#           must be the same or not there, and row I has the records alone
 
 function row(text) { rows[++nrows] = text }
 

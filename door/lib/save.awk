@@ -1,4 +1,4 @@
-# What the plan of a case (../tests/reading.awk) lets one know of a bench that is not saved, for ./plungerhen save.
+# What the plan of a case (reading.awk) lets one know of a bench that is not saved, for ./plungerhen save.
 #
 #   mode  busy   why the bench is not quiet (refusal 8): the exchange that is open, or the write cycle that may run
 #         setup  why the setup is refused (5)
@@ -10,7 +10,8 @@
 function fail(sentence) { print sentence; exit 1 }
 function plural(n, word) { return n " " word (n == 1 ? "" : "s") }
 
-# Each event in its turn: an exchange begins with a start and ends with a stop, a timeout or power; a write cycle begins with a stop, and takes ticks.
+# Each event in its turn: an exchange begins with a start and ends with a stop, a timeout or power; a write cycle begins
+# with a stop, and takes ticks.
 function power_in_range(i) { return octal_at(i + 2) == 0 && octal_at(i + 3) <= 16 }
 function event_at(i, line,   kind) {
   kind = octal_at(i)
@@ -27,7 +28,8 @@ function busy(   i, longest) {
   if (open) return "the bench is not quiet: the exchange that begins in line " open " is not ended (a stop ends it)"
   if (!stopped || ticked >= longest) fail("no write cycle can run at the case's end")
   return "the bench is not quiet: a write cycle runs. Behind the last stop, in line " stopped ", " \
-    (ticked == 1 ? "comes 1 tick" : ticked ? "come " ticked " ticks" : "comes no tick") ", and the slots here take up to " longest " (tick " longest " lets it end)"
+    (ticked == 1 ? "comes 1 tick" : ticked ? "come " ticked " ticks" : "comes no tick") \
+    ", and the slots here take up to " longest " (tick " longest " lets it end)"
 }
 function bad_setup(   i) {
   for (i = 0; i < 8; i++) {

@@ -1,5 +1,5 @@
-# A saved bench (README.md, "A bench saved overnight") read field by field, for ./plungerhen save, show and resume: its bytes on standard input, as od -tu1
-# gives them.
+# A saved bench (request P5, "Saving a bench overnight") read field by field, for ./plungerhen save, show and resume:
+# its bytes on standard input, as od -tu1 gives them.
 #
 #   mode  departs  the first place where it departs from the form, and why, in words; nothing if it does not
 #         setup    the sixteen numbers of its setup

@@ -1,20 +1,24 @@
-# The story of a run, for ./plungerhen wave: what a case asks for, what the bus answered, where each slot then stood, and when, on wires at 100 kHz.
+# The story of a run, for ./plungerhen wave: what a case asks for, what the bus answered, where each slot then stood,
+# and when, on wires at 100 kHz.
 #
-# Reads the case's plan (../tests/reading.awk), a line GOT, the lines of the program `script`, a line STATES, and the lines of the program `edges`
-# (asked.awk): the one has the answers, the other the slots' numbers. Writes rows, fields parted by tabs, times in microseconds:
+# Reads the case's plan (reading.awk), a line GOT, the lines of the program `script`, a line STATES, and the lines of
+# the program `edges` (asked.awk): the one has the answers, the other the slots' numbers. Writes rows, fields parted by
+# tabs, times in microseconds:
 #
-#   P  slot, kind (1 memory, 2 memory with sensor), write cycle in ticks                       a present slot
-#   C  text                                                                                   a comment line of the case, or a line of its setup
-#   E  number from 1, line in the case, from, to, kind, slot, value, in words, answer, expected answer (? if the case says none), comment behind it
-#   S  time, slot, ticks left of the write cycle, protection of blocks 0 to 3 (as 0110), high voltage (0, 1)      each slot at first, then where it changes
-#   Z  time                                                                                   the end
+#   P  slot, kind (1 memory, 2 memory with sensor), write cycle in ticks: a present slot
+#   C  text: a comment line of the case, or a line of its setup
+#   E  number from 1, line in the case, from, to, kind, slot, value, in words, answer, expected answer (? if the case
+#      says none), comment behind it
+#   S  time, slot, ticks left of the write cycle, protection of blocks 0 to 3 (as 0110), high voltage (0, 1): each slot
+#      at first, then where it changes
+#   Z  time: the end
 #
 # What the two programs disagree on ends with status 1 and a line that says so. octal.awk is read before this.
 
 function fail(sentence) { print sentence; exit 1 }
 
-# How long an event takes: nine clocks for a byte, a millisecond for a tick; a condition, and what is not on the wires, as two clocks. What is refused
-# takes no time.
+# How long an event takes: nine clocks for a byte, a millisecond for a tick; a condition, and what is not on the wires,
+# as two clocks. What is refused takes no time.
 function length_of(kind, answer) {
   if (answer ~ /^R|^short/) return 0
   return kind == 6 ? 1000 : kind == 2 || kind == 3 ? 90 : 20

@@ -1,15 +1,19 @@
-# The story of a run (story.awk) as a picture for people, for ./plungerhen wave: plain SVG, no script, nothing from outside.
+# The story of a run (story.awk) as a picture for people, for ./plungerhen wave: plain SVG, no script, nothing from
+# outside.
 #
 # Reads the story's rows; CASE in the environment is the case's name. Writes the picture.
 #
-# The run flows in strips, one below the other, like staves of music. A strip has the case's comments on top, then the bus, a lane for each present slot,
-# and the time. A comment line of the case begins a new strip, and so does an exchange that no longer fits. Strips stand on pages: a unit is a pixel of
-# CSS, WIDE by PAGE of them are a sheet of A4 on its side, and no strip lies across the edge of a sheet.
+# The run flows in strips, one below the other, like staves of music. A strip has the case's comments on top, then the
+# bus, a lane for each present slot, and the time. A comment line of the case begins a new strip, and so does an
+# exchange that no longer fits. Strips stand on pages: a unit is a pixel of CSS, WIDE by PAGE of them are a sheet of A4
+# on its side, and no strip lies across the edge of a sheet.
 #
-# The part of a strip's width that an event takes is its piece. On the wires time is linear, half a unit a microsecond. Ticks in a row are one piece, a
-# fold, but for a tick that changes what a lane shows: the fold ends there. What is not on the wires, and what is refused, is as wide as its words.
+# The part of a strip's width that an event takes is its piece. On the wires time is linear, half a unit a microsecond.
+# Ticks in a row are one piece, a fold, but for a tick that changes what a lane shows: the fold ends there. What is not
+# on the wires, and what is refused, is as wide as its words.
 #
-# Which fonts there are only the reader's machine knows: the widths of words are guessed from their bytes, on the wide side.
+# Which fonts there are only the reader's machine knows: the widths of words are guessed from their bytes, on the wide
+# side.
 
 BEGIN {
   REFUSED = 0; START = 1; BYTE = 2; READ = 3; STOP = 4; TIMEOUT = 5; TICK = 6; VOLTAGE = 7; POWER = 8; TEMPERATURE = 9
@@ -30,8 +34,10 @@ function clean(s,   out) {
   gsub(/\t/, " ", s)
   if (s !~ /[^ -~]/) return s
   for (; s != ""; s = substr(s, RLENGTH + 1))
-    if (match(s, /^[ -~]+/) || match(s, /^[\302-\337][\200-\277]/) || match(s, /^(\340[\240-\277]|[\341-\354\356][\200-\277]|\355[\200-\237])[\200-\277]/) ||
-        match(s, /^\357([\200-\276][\200-\277]|\277[\200-\275])/) || match(s, /^(\360[\220-\277]|[\361-\363][\200-\277]|\364[\200-\217])[\200-\277][\200-\277]/))
+    if (match(s, /^[ -~]+/) || match(s, /^[\302-\337][\200-\277]/) ||
+        match(s, /^(\340[\240-\277]|[\341-\354\356][\200-\277]|\355[\200-\237])[\200-\277]/) ||
+        match(s, /^\357([\200-\276][\200-\277]|\277[\200-\275])/) ||
+        match(s, /^(\360[\220-\277]|[\361-\363][\200-\277]|\364[\200-\217])[\200-\277][\200-\277]/))
       out = out substr(s, 1, RLENGTH)
     else { out = out (s ~ /^[\200-\377]/ ? "?" : ""); RLENGTH = 1 }
   return out
@@ -113,8 +119,8 @@ function note_at(p) { return first[p] == begins[line[first[p]]] && (line[first[p
 function note_width(p) { return note_at(p) == "" ? 0 : 6 * (length(note_at(p)) > NOTE ? NOTE : length(note_at(p))) + 8 }
 
 # ---- pieces to strips
-# The room that the pieces from p on want, with their notes, and with the words in a lane or the time that stand behind them: p alone (0), those up to
-# the next start (1), those up to the end of an exchange and of the ticks behind it (2).
+# The room that the pieces from p on want, with their notes, and with the words in a lane or the time that stand behind
+# them: p alone (0), those up to the next start (1), those up to the end of an exchange and of the ticks behind it (2).
 function reach(p, how,   q, n, x, far, started) {
   for (q = p; q <= pieces && x <= WIDE; q++) {
     n = first[q]
@@ -126,8 +132,9 @@ function reach(p, how,   q, n, x, far, started) {
   }
   return far
 }
-# May p stand on the strip that has come to x? An exchange that fits a strip stands on one strip. Within a longer one, a start wants what is up to the
-# next start on its strip too, if the strip is half full. What stands between exchanges only has to fit by itself.
+# May p stand on the strip that has come to x? An exchange that fits a strip stands on one strip. Within a longer one, a
+# start wants what is up to the next start on its strip too, if the strip is half full. What stands between exchanges
+# only has to fit by itself.
 function fits(p, x,   room, all) {
   room = RIGHT - x; all = RIGHT - LEFT
   if (reach(p, 0) > room) return 0
@@ -148,7 +155,8 @@ function build_strips(   p, x) {
 # ---- blocks: what the edge of a page does not cut
 function block(svg, high) { block_svg[++blocks] = svg; block_high[blocks] = high }
 
-# A comment's lines, from y on; `tall` is where they end. What is longer than half a page goes before it, in blocks of its own.
+# A comment's lines, from y on; `tall` is where they end. What is longer than half a page goes before it, in blocks of
+# its own.
 function comment_lines(comment, class, y, step, most,   w, k, i, j, lines, cut, svg) {
   k = split(comment, w, "\n")
   for (i = 1; i <= k; i++) {
@@ -192,9 +200,10 @@ function draw_notes(s, foot,   p, i, lines, cut, svg, y, x) {
 }
 
 # ---- a strip: the bus
-function hint(p,   n) {
+function hint(p,   n, says) {
   n = first[p]
-  return "<title>" escaped("event " n (last[p] > n ? " to " last[p] : "") ", line " line[n] ", at " ms(from[n]) ": " words[n] ": " in_words(answer[n])) "</title>"
+  says = "event " n (last[p] > n ? " to " last[p] : "") ", line " line[n] ", at " ms(from[n]) ": " words[n] ": " in_words(answer[n])
+  return "<title>" escaped(says) "</title>"
 }
 # The ninth bit: a slot's answer to a byte from the master, the master's to a byte from a slot.
 function ninth(n) { return kind[n] == BYTE ? answer[n] : value[n] ? "A" : "N" }
@@ -212,7 +221,8 @@ function draw_other(p, n, y) {
 }
 function draw_piece(p,   n, w, svg, y) {
   n = first[p]
-  if (split(words_above(n), w, "|")) svg = text(middle(p), words_y + 8, "small mid", w[1]) (2 in w ? text(middle(p), words_y + 17, "small mid", w[2]) : "")
+  if (split(words_above(n), w, "|"))
+    svg = text(middle(p), words_y + 8, "small mid", w[1]) (2 in w ? text(middle(p), words_y + 17, "small mid", w[2]) : "")
   if (kind[n] == BYTE || kind[n] == READ) svg = svg "<g class=\"" (differs(n) ? "X" : ninth(n)) "\">" hint(p) draw_byte(n, at[p], bus_y) "</g>\n"
   else svg = svg "<g>" hint(p) (differs(n) ? rect(at[p], bus_y, wide[p], 29, "differs") : "") draw_other(p, n, bus_y) "</g>\n"
   if (differs(n)) svg = svg text(middle(p), bus_y + 40, "due mid red", "expected") text(middle(p), bus_y + 49, "due mid red", in_words(expected[n]))
@@ -223,7 +233,8 @@ function draw_piece(p,   n, w, svg, y) {
   return svg
 }
 
-# ---- a strip: the slots' lanes. What a lane shows is drawn where it ends, from where it began: `shades` below, `marks` upon them.
+# ---- a strip: the slots' lanes. What a lane shows is drawn where it ends, from where it began: `shades` below, `marks`
+# upon them.
 function blocks_of(bits, but_not,   b, list) {
   for (b = 1; b <= 4; b++) if (substr(bits, b, 1) == 1 && substr(but_not, b, 1) != 1) list = list " " b - 1
   return list
@@ -235,7 +246,8 @@ function in_a_row(list,   w, n, i, says) {
 }
 function end_cycle(i, x,   y, w) {
   y = lane_y[i] + bar_y[i]; w = x - since_busy[i]
-  if (busy[i] && w > 0) marks = marks rect(since_busy[i], y, w, 11, "cycle") (w >= 58 ? text(since_busy[i] + 4, y + 9, "small white", "write cycle") : "")
+  if (busy[i] && w > 0)
+    marks = marks rect(since_busy[i], y, w, 11, "cycle") (w >= 58 ? text(since_busy[i] + 4, y + 9, "small white", "write cycle") : "")
   since_busy[i] = x
 }
 function end_voltage(i, x) {
@@ -294,7 +306,8 @@ function label_fits(s, p, x,   q) {
   for (q = p + 1; q <= strip_to[s] && at[q] - x < 50; q++) if (is_exact(s, q)) return 0
   return 1
 }
-# A mark each 100 us of what is to scale, and the time at each 200 where it fits; the exact time where the strip begins and where a fold ends.
+# A mark each 100 us of what is to scale, and the time at each 200 where it fits; the exact time where the strip begins
+# and where a fold ends.
 function draw_axis(s,   p, n, svg, solid, dots, time, x) {
   for (p = strip_from[s]; p <= strip_to[s]; p++) {
     n = first[p]
@@ -357,19 +370,23 @@ function byte_mark(class, id, x, y) { return "<g class=\"" class "\">" shape(id,
 function legend(   svg, i) {
   svg = path("M6 6H" RIGHT, "pole")
   svg = svg shape("S", 6, 14) text(20, 31, "small", "start") shape("P", 56, 14) text(70, 31, "small", "stop")
-  svg = svg byte_mark("A", "wA", 112, 14) text(163, 31, "small", "byte from the master, ACK") byte_mark("N", "wN", 312, 14) text(363, 31, "small", "NACK")
+  svg = svg byte_mark("A", "wA", 112, 14) text(163, 31, "small", "byte from the master, ACK")
+  svg = svg byte_mark("N", "wN", 312, 14) text(363, 31, "small", "NACK")
   svg = svg byte_mark("A", "rA", 408, 14) text(459, 31, "small", "byte from a slot, the master's ACK") byte_mark("X", "wN", 650, 14)
   svg = svg text(701, 31, "small red", "not what the case expects") rect(866, 18, 56, 20, "refused") text(894, 31, "small mid", "refused 4")
   svg = svg text(928, 31, "small", "takes no time")
   svg = svg zigzag(6, 59, 40) text(52, 62, "small", "ticks, folded") path("M134 59h40", "dots") text(180, 62, "small", "not to scale")
-  svg = svg rect(264, 53, 56, 11, "cycle") text(326, 62, "small", "write cycle") rect(408, 52, 45, 15, "voltage") text(459, 62, "small", "high voltage on SA0")
+  svg = svg rect(264, 53, 56, 11, "cycle") text(326, 62, "small", "write cycle")
+  svg = svg rect(408, 52, 45, 15, "voltage") text(459, 62, "small", "high voltage on SA0")
   for (i = 0; i < 4; i++) svg = svg rect(580, 52 + 4 * i, 45, 3, i ? "open" : "safe")
   svg = svg text(631, 62, "small", "blocks 0 to 3 of a slot, block 0 protected") path("M872 50v18", "power") text(880, 62, "small", "power cycle")
   block(svg, 72)
 }
 
 function define_byte(id, d, y) { print "<g id=\"" id "\"><path d=\"" d "\"/><text x=\"38\" y=\"" y "\" class=\"bit\">" substr(id, 2) "</text></g>" }
-function define_mark(id, d, x) { print "<g id=\"" id "\"><path d=\"" d "\" class=\"mark\"/><text x=\"" x "\" y=\"17.5\" class=\"bit white\">" id "</text></g>" }
+function define_mark(id, d, x) {
+  print "<g id=\"" id "\"><path d=\"" d "\" class=\"mark\"/><text x=\"" x "\" y=\"17.5\" class=\"bit white\">" id "</text></g>"
+}
 
 # The page's margins leave 190 mm less a hair of its height, which a browser takes as 718 pixels; 190 mm would be 719.
 function head(high) {
@@ -380,11 +397,14 @@ function head(high) {
   print "<style>"
   print "@page { size: A4 landscape; margin: 10mm 10mm 10.05mm }"
   print "text { font-family: sans-serif; font-size: 12px; fill: #222; stroke: none }"
-  print ".title { font-size: 15px; font-weight: bold } .strong { font-size: 10px; font-weight: bold } .note { font-size: 10px; font-style: italic; fill: #234 }"
-  print ".small { font-size: 9px } .due { font-size: 8px } .mid { text-anchor: middle } .grey { fill: #666 } .red { fill: #c00000; font-weight: bold }"
+  print ".title { font-size: 15px; font-weight: bold } .strong { font-size: 10px; font-weight: bold } " \
+    ".note { font-size: 10px; font-style: italic; fill: #234 }"
+  print ".small { font-size: 9px } .due { font-size: 8px } .mid { text-anchor: middle } .grey { fill: #666 } " \
+    ".red { fill: #c00000; font-weight: bold }"
   print ".value { font-family: monospace; font-size: 11px; text-anchor: middle; fill: currentColor }"
   print ".bit { font-size: 8px; font-weight: bold; text-anchor: middle; fill: currentColor } .white { fill: #fff } .mark { fill: #222; stroke: none }"
-  print ".A { fill: #d8f0d2; stroke: #3b7a3f; color: #111 } .N { fill: #f2a860; stroke: #7a4200; color: #111 } .X { fill: #c80000; stroke: #600000; color: #fff }"
+  print ".A { fill: #d8f0d2; stroke: #3b7a3f; color: #111 } .N { fill: #f2a860; stroke: #7a4200; color: #111 } " \
+    ".X { fill: #c80000; stroke: #600000; color: #fff }"
   print ".differs { fill: #ffc9c9; stroke: #c80000; stroke-width: 2 } .refused { fill: #f4f4f4; stroke: #777; stroke-dasharray: 3 2 }"
   print ".axis { fill: none; stroke: #333 } .dots { fill: none; stroke: #333; stroke-dasharray: 1.5 2.5 } .pole { fill: none; stroke: #89a }"
   print ".power { fill: none; stroke: #222; stroke-width: 2; stroke-dasharray: 6 2 } .frame { fill: none; stroke: #bbb }"
@@ -440,7 +460,10 @@ $1 == "S" {
 END {
   events += 0
   name = ENVIRON["CASE"] == "" ? "a case" : clean(ENVIRON["CASE"])
-  for (i = 0; i < 8; i++) { bar_y[i] = flagged[i] ? 14 : 6; lane_high[i] = bar_y[i] + (guarded[i] ? 30 : 13); if (lane_high[i] < 24) lane_high[i] = 24 }
+  for (i = 0; i < 8; i++) {
+    bar_y[i] = flagged[i] ? 14 : 6; lane_high[i] = bar_y[i] + (guarded[i] ? 30 : 13)
+    if (lane_high[i] < 24) lane_high[i] = 24
+  }
   build_pieces()
   build_strips()
   heading()

@@ -1,26 +1,32 @@
-# Places the ticks, which are not on the wires, among the events of a logic analyser's export, for ./plungerhen capture --sigrok and --saleae (analyser).
+# Places the ticks, which are not on the wires, among the events of a logic analyser's export, for ./plungerhen capture
+# --sigrok and --saleae (analyser).
 #
-# Reads the rows of beside.awk, then those of exports.awk; told.awk is read before this. Writes rows, fields parted by tabs, times in nanoseconds; `-` where
-# there is no number:
+# Reads the rows of beside.awk, then those of exports.awk; told.awk is read before this. Writes rows, fields parted by
+# tabs, times in nanoseconds; `-` where there is no number:
 #
-#   E  record's number from 0, time, line number, w (on the wires), b (beside) or t (a tick), kind, slot, value, answer, exchange (0 outside of any)
-#   K  slot, record and time of the stop that may have begun a write cycle of it, how the cycle ended (seen, clock, with, heard, power, open), record and time
-#      of the event before which it ended, time at which it was last seen to run (behind that end: first seen to run longer), control byte that it ended by
-#   U  slot, record and time of a command that it is taken not to have heard, the command, time of the stop that began its write cycle, a word for it
+#   E  record's number from 0, time, line number, w (on the wires), b (beside) or t (a tick), kind, slot, value, answer,
+#      exchange (0 outside of any)
+#   K  slot, record and time of the stop that may have begun a write cycle of it, how the cycle ended (seen, clock,
+#      with, heard, power, open), record and time of the event before which it ended, time at which it was last seen to
+#      run (behind that end: first seen to run longer), control byte that it ended by
+#   U  slot, record and time of a command that it is taken not to have heard, the command, time of the stop that began
+#      its write cycle, a word for it
 #   O  what was left out, as exports.awk has it
 #   N  exchanges, events on the wires, events beside them, ticks, time of the first event, time of the last
 #
-# and, behind these, F: slot, stop and end of one cycle, then slot, stop and last time at which it ran of another with which no ticks fit, and the time of the
-# stop with which the rows E then end.
+# and, behind these, F: slot, stop and end of one cycle, then slot, stop and last time at which it ran of another with
+# which no ticks fit, and the time of the stop with which the rows E then end.
 #
-# The rule. A stop may begin a cycle of a slot if it comes directly behind a write with data, or a protect or clear command, of which every byte was
-# acknowledged. The cycle is over (seen) before the start of the first exchange whose control byte the slot acknowledged, or (clock) once as many
-# milliseconds have passed as it has ticks; until then it runs, if no power is lost. A tick counts for every slot: where a cycle is over, so is one that began
-# no later and has no more ticks (with). Whether a slot in a cycle heard a command that another could acknowledge, the wires do not show: it is taken not to
-# have, and its cycle to run there, but for the commands in `heard`, words of rows U (heard). Ticks stand before gates only, which are the starts and the events
-# beside the wires. With P(g) ticks up to gate g, a cycle of n ticks from gate b on that ends before gate e asks for P(e) >= P(b) + n and P(e - 1) <=
-# P(b) + n - 1. The least P that do are taken. Where none do, a cycle need only run as long as it was seen to; where still none do, it is not judged.
-# What the model then says of it all is not known here.
+# The rule. A stop may begin a cycle of a slot if it comes directly behind a write with data, or a protect or clear
+# command, of which every byte was acknowledged. The cycle is over (seen) before the start of the first exchange whose
+# control byte the slot acknowledged, or (clock) once as many milliseconds have passed as it has ticks; until then it
+# runs, if no power is lost. A tick counts for every slot: where a cycle is over, so is one that began no later and has
+# no more ticks (with). Whether a slot in a cycle heard a command that another could acknowledge, the wires do not show:
+# it is taken not to have, and its cycle to run there, but for the commands in `heard`, words of rows U (heard). Ticks
+# stand before gates only, which are the starts and the events beside the wires. With P(g) ticks up to gate g, a cycle
+# of n ticks from gate b on that ends before gate e asks for P(e) >= P(b) + n and P(e - 1) <= P(b) + n - 1. The least P
+# that do are taken. Where none do, a cycle need only run as long as it was seen to; where still none do, it is not
+# judged. What the model then says of it all is not known here.
 
 # ---- the events in order, those beside the wires before one on the wires of the same time
 function take(when, from, line, source, kind, slot, val, answer) {
@@ -60,7 +66,8 @@ function on_beside(when, kind, slot, val,   s) {
   if (kind == 5 || kind == 8) { control = -2; inside = 0 }
 }
 
-# ---- bytes. `control` is -1 where a control byte is to come, -2 where none is; `behind` counts the bytes that follow it.
+# ---- bytes. `control` is -1 where a control byte is to come, -2 where none is; `behind` counts the bytes that follow
+# it.
 function on_byte(val, ack) {
   if (control == -1) { control = val; acked = ack; asked(val, ack) }
   else if (ack) behind++
@@ -85,13 +92,14 @@ function command(val,   s) {
     hears(s, val)
   }
 }
-# Whether a slot in no cycle acknowledges a command, by document 01's table: protect and clear want high voltage, and a protected block says no.
+# Whether a slot in no cycle acknowledges a command, by document 01's table: protect and clear want high voltage, and a
+# protected block says no.
 function may_ack(s, val) {
   if (is_change(val)) return voltage[s] && !((s, val) in protected)
   return val % 2 == 0 || val == 109 || !((s, val - 1) in protected)
 }
-# Which slot it was that acknowledged a command, if none in no cycle could: the only told one, or of those that could the one whose cycle has had the most of
-# its time.
+# Which slot it was that acknowledged a command, if none in no cycle could: the only told one, or of those that could
+# the one whose cycle has had the most of its time.
 function readiest(val,   s, part, most, best) {
   best = -1
   for (s = 0; s < 8; s++) {
@@ -104,8 +112,8 @@ function readiest(val,   s, part, most, best) {
   }
   return best
 }
-# Some slot acknowledged a command. A half is for each that is in no cycle; so is a protect or clear, if its high voltage is on and the block not protected
-# already.
+# Some slot acknowledged a command. A half is for each that is in no cycle; so is a protect or clear, if its high
+# voltage is on and the block not protected already.
 function hears(s, val) {
   if ((s in open) && (val == 108 || val == 110 || (is_change(val) && may_ack(s, val)))) doubted(open[s], val)
   delete armed[s]
@@ -123,7 +131,8 @@ function answers(s, val,   c) {
   if (!c || end_gate[c] < start_gate || how[c] == "power") return
   end_gate[c] = start_gate; how[c] = "seen"; ended_by[c] = val
 }
-# It did not: its cycle runs still, or, for the first time, longer than by the clock. Where it should be over since another is, no ticks fit.
+# It did not: its cycle runs still, or, for the first time, longer than by the clock. Where it should be over since
+# another is, no ticks fit.
 function declines(s,   c) {
   c = latest[s]
   if (s in open) { busy_gate[c] = start_gate; ran_at[c] = gate_at[start_gate] }
@@ -184,7 +193,8 @@ function place_ticks(   c, first, reach) {
   if (unfit && (!loop || unfit < loop)) { loop = outer = unfit; inner = with[unfit] }
 }
 function fill(g) { while (done < g) { done++; P[done] = P[done - 1] } }
-# Where no numbers fit, a cycle is only held to run as long as it was seen to: up to the last control byte that was not acknowledged.
+# Where no numbers fit, a cycle is only held to run as long as it was seen to: up to the last control byte that was not
+# acknowledged.
 function place_group(c1, c2, lo, hi,   c, base) {
   base = P[lo]
   if (fits(c1, c2, lo, hi, base)) return
@@ -221,7 +231,8 @@ function push(c1, c2,   c, least, changed) {
   }
   return changed
 }
-# Whether the causes run in a ring, so that no numbers fit: then `inner` is a cycle that asks for too many ticks, `outer` one that allows too few.
+# Whether the causes run in a ring, so that no numbers fit: then `inner` is a cycle that asks for too many ticks,
+# `outer` one that allows too few.
 function looped(c1, c2, lo,   c, g, earlier) {
   for (c = c1; c <= c2; c++) {
     earlier = walks - (c - c1); walks++
@@ -256,16 +267,19 @@ function event_rows(last,   i, g, k) {
 function cycle_rows(last,   c, end) {
   for (c = 1; c <= last; c++) {
     end = (c in told_gate) ? told_gate[c] : end_gate[c]
-    print "K\t" slot_of[c] "\t" record_of[stop_row[c]] "\t" time_or(stop_at[c]) "\t" ((c in told_gate) ? "seen" : how[c]) "\t" (end == "" ? "-" : record_of[row_of[end]]) "\t" \
+    print "K\t" slot_of[c] "\t" record_of[stop_row[c]] "\t" time_or(stop_at[c]) "\t" \
+      ((c in told_gate) ? "seen" : how[c]) "\t" (end == "" ? "-" : record_of[row_of[end]]) "\t" \
       (end == "" ? "-" : time_or(gate_at[end])) "\t" time_or(busy_at[c]) "\t" (c in ended_by ? ended_by[c] : "-")
   }
 }
-# A command that some slot acknowledged while a cycle of this one counts as running, and no later NACK shows that it did.
+# A command that some slot acknowledged while a cycle of this one counts as running, and no later NACK shows that it
+# did.
 function doubt_rows(last,   i, c) {
   for (i = 1; i <= doubts && doubt_row[i] <= last; i++) {
     c = doubt[i]
     if (ran_at[c] == "" || ran_at[c] < doubt_at[i])
-      print "U\t" slot_of[c] "\t" record_of[doubt_row[i]] "\t" time_or(doubt_at[i]) "\t" doubt_byte[i] "\t" time_or(stop_at[c]) "\t" doubt_row[i] "," slot_of[c]
+      print "U\t" slot_of[c] "\t" record_of[doubt_row[i]] "\t" time_or(doubt_at[i]) "\t" \
+        doubt_byte[i] "\t" time_or(stop_at[c]) "\t" doubt_row[i] "," slot_of[c]
   }
 }
 function span(c, g) { return slot_of[c] "\t" time_or(stop_at[c]) "\t" (g == "" ? "-" : time_or(gate_at[g])) }

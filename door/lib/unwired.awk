@@ -1,5 +1,6 @@
-# What the story of a run (story.awk) has beside the two wires, for ./plungerhen wave --beside: in the words of cases, with a time in front, as
-# ./plungerhen capture --beside reads it. Ticks are not among them. CASE in the environment is the case's name.
+# What the story of a run (story.awk) has beside the two wires, for ./plungerhen wave --beside: in the words of cases,
+# with a time in front, as ./plungerhen capture --beside reads it. Ticks are not among them. CASE in the environment is
+# the case's name.
 
 function words(kind, slot, value) {
   if (kind == 5) return "timeout"

@@ -1,9 +1,10 @@
-# The story of a run (story.awk) as a VCD file, for ./plungerhen wave: the two wires at 100 kHz, and what is beside them. CASE in the environment is the
-# case's name.
+# The story of a run (story.awk) as a VCD file, for ./plungerhen wave: the two wires at 100 kHz, and what is beside
+# them. CASE in the environment is the case's name.
 #
-# SCL and SDA stand high at rest. SDA moves while SCL is low, two microseconds behind its fall, but for a start (it falls while SCL is high) and a stop
-# (it rises). Where nobody drives it, SDA goes up. Comments stand before the first time, each with its own, and a temperature, in
-# sixteenths of a degree, is a real: at a comment between times, or a vector, sigrok's reader (libsigrok 0.5.2) drops what follows.
+# SCL and SDA stand high at rest. SDA moves while SCL is low, two microseconds behind its fall, but for a start (it
+# falls while SCL is high) and a stop (it rises). Where nobody drives it, SDA goes up. Comments stand before the first
+# time, each with its own, and a temperature, in sixteenths of a degree, is a real: at a comment between times, or a
+# vector, sigrok's reader (libsigrok 0.5.2) drops what follows.
 
 function at(time, text) {
   if (time != clock) { print "#" time; clock = time }

@@ -1,19 +1,25 @@
-# The words of the case files (cases/README.md): setup lines, events and answers, read into the script's bytes, and told from them.
-# Shared by tests/case (reading.awk), tests/plans, tests/forms, tests/lists, door/capture, door/save and door/resume, which put their own part behind this one; it does nothing by itself.
+# The words of the case files (examples/cases/README.md): setup lines, events and answers, read into the script's bytes,
+# and told from them. Shared by the commands of ./plungerhen that read a case (reading.awk), a capture or an export, and
+# by the examples of tests/plan, tests/save and tests/list, which put their own part behind this one; it does nothing by
+# itself.
 #
-#   parted()          the line in $0: `left` -> `right`, `arrow` where there is one, `note` the comment; 0 if that is all
+#   parted()          the line in $0: `left` -> `right`, `arrow` where there is one, `note` the comment; 0 if it has
+#                     nothing else
 #   setupwords(line)  a line `slot ...` or `setup ...`
-#   setupbytes()      the setup as octal escapes, when all such lines are read; kind[] and size[] have the pairs that are told
-#   event(part)       one event, or one of the short forms: its records go to the end of `input`, as octal escapes of printf; for each,
-#                     told[++nline] has its words, code[nline] its bytes in hex, counted[nline] the answer that a short form counts on
+#   setupbytes()      the setup as octal escapes, when all such lines are read; kind[] and size[] have the pairs that
+#                     are told
+#   event(part)       one event, or one of the short forms: its records go to the end of `input`, as octal escapes of
+#                     printf; for each, told[++nline] has its words, code[nline] its bytes in hex, counted[nline] the
+#                     answer that a short form counts on
 #   event_list(left)  the events of a line, parted by ;   nline is then their number
-#   answer_list(right, others, names)   the answers of a line, in want[1..nwant]; `others`, a pattern, are those besides - A N and bytes
+#   answer_list(right, others, names)   the answers of a line, in want[1..nwant]; `others`, a pattern, are those besides
+#                     - A N and bytes
 #   match_list()      the answer to each event of the line, in due[1..nline]
 #   record_words(kind, slot, val)   what a record is taken for; cells that are ignored are not told
 #   answer_words(a)   an answer, as the programs write it, in words
 #
-# A line that is malformed ends the reading, by bad(sentence): a row B, the line's number, what is wrong there; then `wrong` is set.
-# `cut` is set once the setup or a record was cut short, since nothing can follow that.
+# A line that is malformed ends the reading, by bad(sentence): a row B, the line's number, what is wrong there; then
+# `wrong` is set. `cut` is set once the setup or a record was cut short, since nothing can follow that.
 
 function bad(sentence) { if (!wrong) printf "B\t%d\t%s\n", NR, sentence; wrong = 1; exit }
 function trim(s) { sub(/^ +/, "", s); sub(/ +$/, "", s); return s }
@@ -242,7 +248,8 @@ function answer_list(right, others, names,   w, n, i, j, star, word, times) {
 function match_list(   i, open, next_want) {
   for (i = 1; i <= nline; i++) if (counted[i] == "") open++
   if (open + 0 != nwant)
-    bad(nwant (nwant == 1 ? " answer for " : " answers for ") open + 0 (open == 1 ? " event" : " events") (open < nline ? " (write, look, set and get: only their data is answered here)" : ""))
+    bad(nwant (nwant == 1 ? " answer for " : " answers for ") open + 0 (open == 1 ? " event" : " events") \
+        (open < nline ? " (write, look, set and get: only their data is answered here)" : ""))
   for (i = 1; i <= nline; i++) due[i] = counted[i] != "" ? counted[i] : want[++next_want]
 }
 

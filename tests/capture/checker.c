@@ -1,9 +1,9 @@
 /*
  * A plain checker: what the program `capture` does, in C, on the second
  * opinion's model.  It stands in for the proved program where the tests of the
- * captures are tried themselves: tests/wrongcaptures plants the faults of
- * wrongcaptures.txt in it, line by line (keep the two in step), and sees that
- * tests/recapture finds each.  bench/capture measures the proved program
+ * captures are tried themselves: tests/capture/planted plants the faults of
+ * planted.txt in it, line by line (keep the two in step), and sees that
+ * tests/capture/random finds each.  bench/capture measures the proved program
  * against it.
  */
 #include "capture.h"

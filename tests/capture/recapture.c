@@ -1,7 +1,7 @@
 /*
  * Makes captures, gives them to the program `capture`, and judges what it says
- * of them; tests/recapture calls it.  Written from the rules of captures, on
- * the second opinion's model; no line of it comes from the crates.
+ * of them; tests/capture/random calls it.  Written from the rules of captures,
+ * on the second opinion's model; no line of it comes from the crates.
  *
  *   recapture run COUNT SEED DIR SEEN [UNSEEN]
  *       From each of the scripts DIR/1.script to DIR/COUNT.script makes a run,
@@ -15,9 +15,10 @@
  *       From the script on standard input makes SCRIPT, the same without the
  *       records that are refused, and CAPTURE, its run.  For bench/capture.
  */
+#define JUDGE "recapture"
 #include "capture.h"
 #include "chance.h"
-#include "program.h"
+#include "judge.h"
 
 enum { NONE = -1, SEEN_OF = 41 };  /* one in so many goes to SEEN */
 
@@ -26,30 +27,8 @@ enum { NONE = -1, SEEN_OF = 41 };  /* one in so many goes to SEEN */
 static unsigned char *run;        /* it agrees, up to the first refused record */
 static int total;                 /* its records */
 static int refused;               /* the first refused record; `total` if none */
-static char what[200];            /* the capture in hand, `input`, is, in words: the run, or a changed one */
 
 static unsigned char *record_of(unsigned char *bytes, int n) { return bytes + HEAD + RECORD * (size_t)n; }
-
-/* Everything that can be read of the file, with a 0 behind it. */
-static unsigned char *whole(FILE *f, size_t *length)
-{
-    size_t room = 1 << 12, more;
-    unsigned char *bytes = malloc(room);
-
-    *length = 0;
-    while ((more = fread(bytes + *length, 1, room - *length, f)) > 0) {
-        *length += more;
-        if (*length == room) {
-            unsigned char *larger = malloc(2 * room);
-            memcpy(larger, bytes, room);
-            free(bytes);
-            bytes = larger;
-            room *= 2;
-        }
-    }
-    bytes[*length] = 0;
-    return bytes;
-}
 
 /* The run of a script that starts with this memory.  Of the records that are
  * refused only those are taken that come when `from` others have: they change
@@ -88,7 +67,7 @@ static void begin(const char *words)
 {
     length = HEAD + RECORD * (size_t)total;
     memcpy(input, run, length);
-    snprintf(what, sizeof what, "%s", words);
+    SAY_WHAT("%s", words);
 }
 
 /* ---- What is to be said, by the rules alone ------------------------------- */
@@ -108,75 +87,58 @@ static void write_answer(char text[5], int code, int byte)
         strcpy(text, "?");
 }
 
-/* The line for the capture in hand; gives the status that goes with it. */
-static int judge(char line[40])
+/* What is to be said of the capture in hand.  Gives the status. */
+static int judge(void)
 {
-    strcpy(line, "short");        /* unless there is something else to say */
+    expect_nothing();
     if (length < SETUP)
-        return 2;
-    if (!setup(input)) {
-        strcpy(line, "R5");
-        return 2;
-    }
+        return expect_last("short\n", 2);
+    if (!setup(input))
+        return expect_last("R5\n", 2);
     if (length < HEAD)
-        return 2;
+        return expect_last("short\n", 2);
     memcpy(memory, input + SETUP, sizeof memory);
     for (size_t n = 0; HEAD + RECORD * (n + 1) <= length; n++) {
         const unsigned char *r = input + HEAD + RECORD * n;
         const char *model = play(r);
         int end = (int)strcspn(model, "\n");
-        char captured[5];
+        char captured[5], line[40];
 
         write_answer(captured, r[4], r[5]);
         if (model[0] == 'R' || strlen(captured) != (size_t)end || memcmp(model, captured, (size_t)end) != 0) {
-            sprintf(line, "%lu %.*s %s", (unsigned long)n, end, model, captured);
-            return 1;
+            sprintf(line, "%lu %.*s %s\n", (unsigned long)n, end, model, captured);
+            return expect_last(line, 1);
         }
     }
     if ((length - HEAD) % RECORD != 0)
-        return 2;
-    strcpy(line, "OK");
-    return 0;
+        return expect_last("short\n", 2);
+    return expect_last("OK\n", 0);
 }
 
 /* ---- Trying the capture in hand ------------------------------------------- */
 
 static const char *seen, *unseen;
-static int number;                /* of the run in hand */
-static long captures, by_status[3];
-
-#define WRONG(...) \
-    (printf("recapture: capture %ld, run %d, %s: ", captures, number, what), \
-     printf(__VA_ARGS__), putchar('\n'), exit(1))
+static long by_status[3];
 
 /* Has the capture in hand checked.  `named` is the record that must be named
  * by what was done to the run: `total` for none, NONE where that is left to
  * the judge. */
 static void try(int named)
 {
-    int is_seen = ++captures % SEEN_OF == 0 || unseen == NULL;
     enum way way = one_in(3) ? IN_PIECES : AS_FILE;
-    char want[40];
-    int status = judge(want);
-    size_t said_length, first_line;
+    int status = judge(), is_seen;
+    size_t many;
     char *said;
 
+    begin_try("capture");
+    is_seen = tries % SEEN_OF == 0 || unseen == NULL;
     by_status[status]++;
     if (named != NONE && (named == total ? status != 0 : status != 1 || strtol(want, NULL, 10) != named))
-        WRONG("record %d was to be named, and this test itself says \"%s\"", named, want);
+        WRONG("record %d was to be named, and this test itself says \"%.*s\"", named, (int)strcspn(want, "\n"), want);
     run_program(is_seen ? seen : unseen, way, 0, NULL);
-    said = (char *)read_file("said", &said_length);
-    first_line = strcspn(said, "\n");
-    if (first_line != strlen(want) || memcmp(said, want, first_line) != 0)
-        WRONG("\"%s\" was to be said, not \"%.*s\"%s", want, (int)first_line, said, way == IN_PIECES ? ", read in pieces" : "");
-    if (said_length != first_line + 1)
-        WRONG("\"%s\" was to be said as a line, and nothing else", want);
-    if (WIFSIGNALED(ended))
-        WRONG("the program was ended by signal %d", WTERMSIG(ended));
-    if (!is_seen)
-        status = 0;
-    if (WEXITSTATUS(ended) != status)
-        WRONG("\"%s\" was to come with status %d, not %d", want, status, WEXITSTATUS(ended));
+    said = (char *)read_file("said", &many);
+    must_say(said, many, way);
+    must_end(is_seen ? status : 0);
     free(said);
 }
 
@@ -215,7 +177,6 @@ static int change(int at, int way)
 {
     for (int i = 0; i < total; i++, at = (at + 1) % total) {
         unsigned char *r = record_of(input, at);
-        size_t said = strlen(what);
 
         if (!suits(way, r[4]))
             continue;
@@ -225,7 +186,7 @@ static int change(int at, int way)
             r[4] = (unsigned char)(one_in(2) ? 5 : between(5, 255));
         if (way != SORT_ALONE && way != UNKNOWN)
             r[5] = other_than(r[5]);
-        snprintf(what + said, sizeof what - said, ", record %d of %d with %s", at, total, ways[way]);
+        ADD_WHAT(", record %d of %d with %s", at, total, ways[way]);
         return at;
     }
     return NONE;
@@ -257,7 +218,7 @@ static void try_cut(size_t at)
     int last = at > HEAD ? (int)((at - HEAD - 1) / RECORD) : 0;
 
     begin("");
-    snprintf(what, sizeof what, "cut after %lu bytes", (unsigned long)at);
+    SAY_WHAT("cut after %lu bytes", (unsigned long)at);
     if (total > 0 && one_in(2)) {
         int changed = one_in(2) ? last : below(total);
         change(changed, any_sort());
@@ -275,21 +236,12 @@ static size_t inside_memory(void)
     }
 }
 
-/* A pair with a kind or a length that is just or far out of its range, and
- * the whole of the rest, some or nothing of it; or not the whole setup. */
+/* A bad setup, and the whole of the rest, some or nothing of it; or not the
+ * whole setup. */
 static void try_bad_setup(void)
 {
-    static const int kinds[] = { 3, 3, 4, 128, 255 };
-    static const int lengths[] = { 0, 0, 6, 6, 255 };
-    unsigned char *pair = input + 2 * below(SLOTS);
-
     begin("a bad setup");
-    if (one_in(2)) {
-        pair[0] = (unsigned char)ONE_OF(kinds);
-    } else {
-        pair[0] = (unsigned char)between(MEMORY, MEMORY_WITH_SENSOR);
-        pair[1] = (unsigned char)ONE_OF(lengths);
-    }
+    spoil_setup();
     switch (below(4)) {
     case 0: length = (size_t)between(1, SETUP - 1); break;
     case 1: case 2: length = inside_memory(); break;
@@ -387,7 +339,8 @@ int main(int count, char **words)
         seed_with(strtoull(words[3], NULL, 10) * 1000003ULL + (unsigned)number);
         one_run();
     }
+    clear_how_far();
     printf("recapture: %ld captures (%ld agree, %ld differ, %ld short or refused), all right\n",
-           captures, by_status[0], by_status[1], by_status[2]);
+           tries, by_status[0], by_status[1], by_status[2]);
     return 0;
 }

@@ -1,6 +1,7 @@
-# A VCD file of ours, read as sigrok's I2C decoder reads it, and written as sigrok-cli -A i2c=addr-data --protocol-decoder-samplenum writes it, for
-# tests/wires: so that a wave can be held against what the real decoder said of it, where there is no sigrok. It follows the decoder's states
-# (libsigrokdecode 0.5.3), its weak places too: behind a start it waits for eight rises of SCL, and sees no other start and no stop before them.
+# A VCD file of ours, read as sigrok's I2C decoder reads it, and written as sigrok-cli -A i2c=addr-data
+# --protocol-decoder-samplenum writes it, for tests/door/wires: so that a wave can be held against what the real decoder
+# said of it, where there is no sigrok. It follows the decoder's states (libsigrokdecode 0.5.3), its weak places too:
+# behind a start it waits for eight rises of SCL, and sees no other start and no stop before them.
 
 function say(from, to, text) { print from "-" to " i2c-1: " text }
 function condition(text) { say(now, now, text) }

@@ -1,5 +1,5 @@
-# A VCD file of ours with SDA turned over in one clock, for tests/wires: the one whose rise of SCL is at the time `rise`. SDA moves two microseconds behind
-# SCL's fall, so it is turned from three before the rise to seven behind it.
+# A VCD file of ours with SDA turned over in one clock, for tests/door/wires: the one whose rise of SCL is at the time
+# `rise`. SDA moves two microseconds behind SCL's fall, so it is turned from three before the rise to seven behind it.
 
 function level(at, value) {
   if (at != shown) print "#" at

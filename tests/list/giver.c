@@ -1,9 +1,10 @@
 /*
  * A plain giver of lists: what the programs `list` and `batches` do (request
  * P6), in C, on the second opinion's model.  It stands in for the proved
- * programs where the tests of lists are tried themselves: tests/wronglists
- * plants the faults of wronglists.txt in it, line by line (keep them in step),
- * and sees that tests/lists, tests/relist or the tries of edges find each.
+ * programs where the tests of lists are tried themselves: tests/list/planted
+ * plants the faults of planted.txt in it, line by line (keep them in step), and
+ * sees that tests/list/examples, tests/list/random or the tries of edges find
+ * each.
  *
  *   giver list      a setup, the number of answer places, records to the end
  *   giver batches   a setup, then lists to the end, each with its number of

@@ -1,7 +1,7 @@
 /*
  * Makes lists of events, gives them to the programs `list` and `batches`, and
- * judges what they say; tests/relist calls it.  Written from the sentences of
- * request P6, on the second opinion's model; no line of it comes from the
+ * judges what they say; tests/list/random calls it.  Written from the sentences
+ * of request P6, on the second opinion's model; no line of it comes from the
  * crates.
  *
  *   relist COUNT SEED DIR SCRIPT LIST BATCHES [UNSEEN-LIST]
@@ -17,9 +17,10 @@
  * DIR/said and DIR/told are what the program was given and what it wrote to
  * standard output and standard error.  Else one line sums up.
  */
+#define JUDGE "relist"
 #include "model.h"
 #include "chance.h"
-#include "program.h"
+#include "judge.h"
 
 enum { SEEN_OF = 19 };            /* one in so many goes to the one with a status */
 enum { ROOM = 4096 };             /* records of one list */
@@ -27,42 +28,11 @@ enum { HEAD = SETUP + 2 };        /* setup and number of places */
 enum { MOST_PLACES = 65535 };
 
 static const char *scripts, *lister[2], *batcher;  /* command lines; seen, unseen */
-static int number;                /* of the run in hand, 0 if none */
-static const char *program;       /* that is tried */
-static char what[200];            /* it is given, in words */
-static long tries, by_status[3], in_batches;
-
-#define WRONG(...) \
-    (printf("relist: try %ld, run %d, %s, %s: ", tries, number, program, what), \
-     printf(__VA_ARGS__), putchar('\n'), exit(1))
+static long by_status[3], in_batches;
 
 static const char too_many[] = "list: more than 4096 records in one list\n";
 
 /* ---- What is to be said, by the rules alone --------------------------------- */
-
-static char want[1 << 20];
-static size_t want_length;
-
-static void expect(const char *text, size_t many)
-{
-    memcpy(want + want_length, text, many);
-    want_length += many;
-}
-
-static int expect_last(const char *line, int status)
-{
-    expect(line, strlen(line));
-    return status;
-}
-
-/* The line of each of so many records, one by one. */
-static void expect_records(const unsigned char *records, size_t many)
-{
-    for (size_t i = 0; i < many; i++) {
-        play(records + 4 * i);
-        expect((const char *)out, out_length);
-    }
-}
 
 /* What `list` owes to the input: its lines, and a sentence on standard error.
  * Gives the status.  What is asked first: is the setup there, is it good, are
@@ -71,7 +41,7 @@ static int judge_list(const char **sentence)
 {
     size_t behind, events, places;
 
-    want_length = 0;
+    expect_nothing();
     *sentence = "";
     if (length < SETUP)
         return expect_last("short\n", 2);
@@ -100,7 +70,7 @@ static const char *judge_batches(void)
 {
     size_t at = SETUP;
 
-    want_length = 0;
+    expect_nothing();
     if (length < SETUP) {
         expect_last("short\n", 0);
         return "";
@@ -126,53 +96,22 @@ static const char *judge_batches(void)
 
 /* ---- Trying the input -------------------------------------------------------- */
 
-/* How far it is, where a person looks on; the last line clears it. */
-static void tell_how_far(void)
-{
-    if (tries % 50 == 0 && isatty(2))
-        fprintf(stderr, "\r\033[Krelist: %ld tries", tries);
-}
-
-static void clear_how_far(void)
-{
-    if (isatty(2))
-        fputs("\r\033[K", stderr);
-}
-
 /* Runs the command line on the input, and holds what it said and how it ended
- * against what is due. */
-static void must_say(const char *name, const char *command, const char *sentence, int status)
+ * against what is due; of standard error, unless it is NULL, too. */
+static void must_do(const char *name, const char *command, const char *sentence, int status)
 {
     enum way way = one_in(3) ? IN_PIECES : AS_FILE;
-    const char *how = way == AS_FILE ? "" : ", read in pieces";
-    char *said, *told;
-    size_t many, at = 0;
-    long lines = 1;
+    char *said;
+    size_t many;
 
-    tries++;
-    tell_how_far();
-    program = name;
+    begin_try(name);
     run_program(command, way, 0, NULL);
-    told = (char *)read_file("told", &many);
-    if (sentence != NULL && strcmp(told, sentence) != 0)
-        WRONG("standard error was to have \"%.*s\", not \"%.*s\"%s", (int)strcspn(sentence, "\n"), sentence, (int)strcspn(told, "\n"), told, how);
+    if (sentence != NULL)
+        must_tell(sentence);
     said = (char *)read_file("said", &many);
-    want[want_length] = 0;
-    while (at < many && at < want_length && said[at] == want[at])
-        at++;
-    if (at < many || at < want_length) {
-        while (at > 0 && want[at - 1] != '\n')
-            at--;
-        for (size_t i = 0; i < at; i++)
-            lines += want[i] == '\n';
-        WRONG("line %ld was to be \"%.*s\", not \"%.*s\"%s", lines, (int)strcspn(want + at, "\n"), want + at, (int)strcspn(said + at, "\n"), said + at, how);
-    }
-    if (WIFSIGNALED(ended))
-        WRONG("it was ended by signal %d", WTERMSIG(ended));
-    if (WEXITSTATUS(ended) != status)
-        WRONG("status %d was to come, not %d", status, WEXITSTATUS(ended));
+    must_say(said, many, way);
+    must_end(status);
     free(said);
-    free(told);
 }
 
 static void try_list(void)
@@ -182,7 +121,7 @@ static void try_list(void)
     int unseen = lister[1] != NULL && tries % SEEN_OF != 0;
 
     by_status[status]++;
-    must_say("list", lister[unseen], sentence, unseen ? 0 : status);
+    must_do("list", lister[unseen], sentence, unseen ? 0 : status);
 }
 
 static void try_batches(void)
@@ -190,7 +129,7 @@ static void try_batches(void)
     const char *sentence = judge_batches();
 
     in_batches++;
-    must_say("batches", batcher, sentence, 0);
+    must_do("batches", batcher, sentence, 0);
 }
 
 /* ---- Inputs made of a script's records ----------------------------------------- */
@@ -213,7 +152,7 @@ static void put_up(int from, int events, int places)
         memcpy(input + length, script + SETUP + 4 * ((from + i) % total), 4);
         length += 4;
     }
-    snprintf(what, sizeof what, "%d events from the %d. on with %d places", events, from + 1, places);
+    SAY_WHAT("%d events from the %d. on with %d places", events, from + 1, places);
 }
 
 /* Any number of places: mostly about as many as there are events. */
@@ -252,23 +191,13 @@ static void cut_somewhere(void)
     }
     if (length > was)
         length = was;
-    snprintf(what + strlen(what), sizeof what - strlen(what), ", cut after %lu bytes", (unsigned long)length);
+    ADD_WHAT(", cut after %lu bytes", (unsigned long)length);
 }
 
-/* A pair with a kind or a length that is just or far out of its range. */
-static void spoil_setup(void)
+static void give_bad_setup(void)
 {
-    static const int kinds[] = { 3, 3, 4, 128, 255 };
-    static const int lengths[] = { 0, 0, 6, 6, 255 };
-    unsigned char *pair = input + 2 * below(SLOTS);
-
-    if (one_in(2)) {
-        pair[0] = (unsigned char)ONE_OF(kinds);
-    } else {
-        pair[0] = (unsigned char)between(MEMORY, MEMORY_WITH_SENSOR);
-        pair[1] = (unsigned char)ONE_OF(lengths);
-    }
-    snprintf(what + strlen(what), sizeof what - strlen(what), ", a bad setup");
+    spoil_setup();
+    ADD_WHAT(", a bad setup");
 }
 
 /* Lists of this script: as they should be, and one that is not. */
@@ -290,7 +219,7 @@ static void try_lists(void)
     if (!one_in(3))
         cut_somewhere();
     if (one_in(5))
-        spoil_setup();
+        give_bad_setup();
     try_list();
 }
 
@@ -324,7 +253,7 @@ static void put_up_batches(int sort)
         length += 2 + 4 * (size_t)many;
         at += many;
     }
-    snprintf(what, sizeof what, "%d events in %d lists", total, lists);
+    SAY_WHAT("%d events in %d lists", total, lists);
 }
 
 /* One more list, of so many ticks. */
@@ -335,7 +264,7 @@ static void add_ticks(int many, int told)
     for (int i = 0; i < 4 * many; i++)
         input[length + 2 + (size_t)i] = (unsigned char)(i % 4 == 0 ? TICK : 0);
     length += 2 + 4 * (size_t)many;
-    snprintf(what + strlen(what), sizeof what - strlen(what), ", and one of %d, told as %d", many, told);
+    ADD_WHAT(", and one of %d, told as %d", many, told);
 }
 
 static void try_script_in_lists(void)
@@ -346,7 +275,7 @@ static void try_script_in_lists(void)
         return;
     put_up_batches(4);
     if (one_in(4))
-        spoil_setup();
+        give_bad_setup();
     else
         cut_somewhere();
     try_batches();
@@ -360,11 +289,11 @@ static void try_script(void)
 {
     memcpy(input, script, script_length);
     length = script_length;
-    want_length = 0;
+    expect_nothing();
     setup(script);
     expect_records(script + SETUP, (size_t)total);
-    snprintf(what, sizeof what, "%d events", total);
-    must_say("script", scripts, NULL, 0);
+    SAY_WHAT("%d events", total);
+    must_do("script", scripts, NULL, 0);
 }
 
 static void take_script(const char *name)
@@ -394,7 +323,7 @@ static void try_some(void)
     if (!one_in(every))
         return;
     if (one_in(10))
-        spoil_setup();
+        give_bad_setup();
     try_list();
 }
 
@@ -407,7 +336,7 @@ static void sweep_small(void)
         for (size_t many = 0; many <= HEAD + 12; many++) {
             put_up(0, 3, places[i]);
             length = many;
-            snprintf(what, sizeof what, "%lu bytes of a list of 3 events with %d places", (unsigned long)many, places[i]);
+            SAY_WHAT("%lu bytes of a list of 3 events with %d places", (unsigned long)many, places[i]);
             try_some();
         }
 }
@@ -425,7 +354,7 @@ static void sweep_long(void)
                 put_up(0, events[i], places);
                 memset(input + length, TICK, (size_t)more);
                 length += (size_t)more;
-                snprintf(what, sizeof what, "%d events and %d bytes with %d places", events[i], more, places);
+                SAY_WHAT("%d events and %d bytes with %d places", events[i], more, places);
                 try_some();
             }
 }

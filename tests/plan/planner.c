@@ -2,10 +2,11 @@
  * A plain planner: what the program `plan` does, in C, written from the
  * sentences of request P1 on the second opinion's model.  It stands in for the
  * proved program where the tests of the planner are tried themselves:
- * tests/wrongplans plants the faults of wrongplans.txt in it, line by line
- * (keep the two in step), and sees that tests/replan finds each.
+ * tests/plan/planted plants the faults of planted.txt in it, line by line (keep
+ * the two in step), and sees that tests/plan/random finds each.
  */
 #include "request.h"
+#include "files.h"
 
 static unsigned char plan[2 * MOST_RECORDS][4];  /* room for wrong plans too */
 static int planned;
@@ -45,31 +46,11 @@ static int alone(const char *line, int status)
     return status;
 }
 
-/* The whole of standard input. */
-static unsigned char *whole(size_t *length)
-{
-    size_t room = 1 << 16, more;
-    unsigned char *in = malloc(room);
-
-    *length = 0;
-    while ((more = fread(in + *length, 1, room - *length, stdin)) > 0) {
-        *length += more;
-        if (*length == room) {
-            unsigned char *larger = malloc(2 * room);
-            memcpy(larger, in, room);
-            free(in);
-            in = larger;
-            room *= 2;
-        }
-    }
-    return in;
-}
-
 int main(void)
 {
     struct request q;
     size_t length;
-    unsigned char *in = whole(&length);
+    unsigned char *in = whole(stdin, &length);
     const char *none = take(in, length, &q);
     const unsigned char *old;
     const struct slot *s;

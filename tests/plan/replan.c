@@ -1,5 +1,5 @@
 /*
- * Makes requests to the program `plan`, and judges its plans; tests/replan
+ * Makes requests to the program `plan`, and judges its plans; tests/plan/random
  * calls it.  Written from the sentences of request P1, on the second opinion's
  * model; no line of it comes from the crates.  All files are in the folder DIR:
  *
@@ -19,45 +19,38 @@
  */
 #include "request.h"
 #include "chance.h"
+#include "files.h"
 
-static const char *folder;
 static int number;                /* of the request in hand */
 
 /* ---- Files --------------------------------------------------------------- */
 
-static FILE *open_file(const char *ending, const char *how)
+/* The name of a file of the request in hand. */
+static const char *named(const char *ending)
 {
-    char name[4096];
+    static char name[40];
 
-    snprintf(name, sizeof name, "%s/%d.%s", folder, number, ending);
-    return fopen(name, how);
+    snprintf(name, sizeof name, "%d.%s", number, ending);
+    return name;
 }
 
-/* A whole file, or NULL where there is none. */
-static unsigned char *read_file(const char *ending, size_t *length)
+/* The whole of it, or NULL where there is none. */
+static unsigned char *read_named(const char *ending, size_t *length)
 {
-    FILE *f = open_file(ending, "rb");
+    FILE *f = fopen(path(named(ending)), "rb");
     unsigned char *bytes;
 
     if (f == NULL)
         return NULL;
-    fseek(f, 0, SEEK_END);
-    *length = (size_t)ftell(f);
-    rewind(f);
-    bytes = malloc(*length + 1);
-    *length = fread(bytes, 1, *length, f);
-    bytes[*length] = 0;
+    bytes = whole(f, length);
     fclose(f);
     return bytes;
 }
 
 static void give_up(void)
 {
-    char name[4096];
-    FILE *f;
+    FILE *f = open_file("wrong", "w");
 
-    snprintf(name, sizeof name, "%s/wrong", folder);
-    f = fopen(name, "w");
     fprintf(f, "%d\n", number);
     fclose(f);
     exit(1);
@@ -68,7 +61,7 @@ static void give_up(void)
 
 static unsigned char *must_read(const char *ending, size_t *length)
 {
-    unsigned char *bytes = read_file(ending, length);
+    unsigned char *bytes = read_named(ending, length);
 
     if (bytes == NULL)
         WRONG("there is no file %d.%s", number, ending);
@@ -285,7 +278,7 @@ static void make_one(void)
     memcpy(ask + HEAD - SLOT_BYTES, image, SLOT_BYTES);
     if (one_in(40))
         spoil();
-    f = open_file("ask", "wb");
+    f = open_file(named("ask"), "wb");
     fwrite(ask, 1, asked, f);
     fclose(f);
 }
@@ -493,7 +486,7 @@ static void write_script(const struct request *q)
     for (int i = 0; i < SLOTS * SLOT_BYTES; i++)
         if (q->memory[i] != 0xFF)
             return;
-    f = open_file("script", "wb");
+    f = open_file(named("script"), "wb");
     fwrite(q->setup, 1, SETUP, f);
     fwrite(q->records, 4, q->count, f);
     fwrite(plan, 4, (size_t)planned, f);
@@ -582,7 +575,7 @@ static void close_one(void)
     size_t length, said_length, script_length, first_length, second_length;
     unsigned char *in = must_read("ask", &length);
     char *said = (char *)must_read("said", &said_length);
-    unsigned char *script = read_file("script", &script_length);
+    unsigned char *script = read_named("script", &script_length);
 
     plans++;
     if (said[0] < '0' || said[0] > '9') {

@@ -1,6 +1,6 @@
 /*
  * A saved form, and the ways in which it is damaged.  Included by resave.c,
- * after forms.h and chance.h.
+ * after forms.h and judge.h.
  */
 /* ---- A form, and its fields ----------------------------------------------------- */
 
@@ -18,15 +18,11 @@ static void keep_form(void)
     good_length = form_length;
 }
 
-static char what[200];            /* is tried, in words */
-
-static void say_what(const char *words) { snprintf(what, sizeof what, "%s", words); }
-
 static void begin(const char *words)
 {
     memcpy(bad, good, good_length);
     bad_length = good_length;
-    say_what(words);
+    SAY_WHAT("%s", words);
 }
 
 /* Where a field of the good form begins; of the one behind the last, the end. */
@@ -62,10 +58,8 @@ static unsigned char other_than(unsigned char byte)
 
 static void change_at(size_t at, int byte)
 {
-    size_t said = strlen(what);
-
     bad[at] = (unsigned char)byte;
-    snprintf(what + said, sizeof what - said, ", byte %lu changed to %02Xh", (unsigned long)at, byte & 255);
+    ADD_WHAT(", byte %lu changed to %02Xh", (unsigned long)at, byte & 255);
 }
 
 /* Leaves out `less` bytes there, and puts `more` others in. */

@@ -2,8 +2,8 @@
  * Saved forms (request P5, "Saving a bench overnight"): when a bench may be
  * saved, a writer and a reader, over the second opinion's own model.  Written
  * from the sentences of the request; no line of it comes from the crates.
- * Included by keeper.c and resave.c.  The file wrongforms.txt replaces single
- * lines of it: keep the two in step.
+ * Included by keeper.c and resave.c.  The file planted.txt replaces single lines
+ * of it: keep the two in step.
  */
 #ifndef FORMS_H
 #define FORMS_H

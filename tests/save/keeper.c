@@ -1,9 +1,9 @@
 /*
  * A plain keeper of benches: what the programs `save` and `resume` do, in C, on
  * the second opinion's model (forms.h).  It stands in for the proved programs
- * where the tests of saved forms are tried themselves: tests/wrongforms plants
- * the faults of wrongforms.txt in it and in forms.h, line by line (keep them in
- * step), and sees that tests/resave finds each.
+ * where the tests of saved forms are tried themselves: tests/save/planted plants
+ * the faults of planted.txt in it and in forms.h, line by line (keep them in
+ * step), and sees that tests/save/random finds each.
  *
  *   keeper save     a script on standard input; the form on standard output
  *   keeper resume   a form with its length in front, then records; their lines

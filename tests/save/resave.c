@@ -1,8 +1,8 @@
 /*
  * Makes benches, has the program `save` save them and the program `resume` go
- * on with them, and judges what both say; tests/resave calls it.  Written from
- * the sentences of request P5, on the second opinion's model and with a writer
- * and a reader of its own (forms.h); no line of it comes from the crates.
+ * on with them, and judges what both say; tests/save/random calls it.  Written
+ * from the sentences of request P5, on the second opinion's model and with a
+ * writer and a reader of its own (forms.h); no line of it comes from the crates.
  *
  *   resave COUNT TRIES SEED DIR SAVE RESUME [UNSEEN-SAVE UNSEEN-RESUME]
  *       Cuts each of the scripts DIR/1.script to DIR/COUNT.script somewhere:
@@ -17,54 +17,25 @@
  * DIR/input, DIR/said and DIR/told are what the program was given and what it
  * wrote to standard output and standard error.  Else one line sums up.
  */
+#define JUDGE "resave"
 #include "forms.h"
 #include "chance.h"
+#include "judge.h"
 #include "damage.h"
-#include "program.h"
 
 enum { SEEN_OF = 19 };            /* one in so many goes to the ones with a status */
 enum { TALK_UP_TO = 60 };         /* records of a talk */
 
 static const char *saver[2], *resumer[2];  /* command lines: seen, unseen */
-static int number;                /* of the run in hand */
-static const char *program;       /* that is tried */
-static long tries, by_status[2][3];        /* of `save`, of `resume` */
-
-#define WRONG(...) \
-    (printf("resave: try %ld, run %d, %s, %s: ", tries, number, program, what), \
-     printf(__VA_ARGS__), putchar('\n'), exit(1))
+static long by_status[2][3];      /* of `save`, of `resume` */
 
 /* ---- What is to be said, by the rules alone --------------------------------- */
-
-static unsigned char want[1 << 20];
-static size_t want_length;
-
-static void expect(const char *line, size_t many)
-{
-    memcpy(want + want_length, line, many);
-    want_length += many;
-}
-
-static int expect_last(const char *line, int status)
-{
-    expect(line, strlen(line));
-    return status;
-}
-
-/* Has records played; their lines are expected. */
-static void expect_records(const unsigned char *records, size_t bytes)
-{
-    for (size_t at = 0; at + 4 <= bytes; at += 4) {
-        play(records + at);
-        expect((const char *)out, out_length);
-    }
-}
 
 /* What `save` owes to the input: the form in `want`, or nothing and a line for
  * standard error.  Gives the status. */
 static int judge_save(const char **line)
 {
-    want_length = 0;
+    expect_nothing();
     *line = "short\n";
     if (length < SETUP)
         return 2;
@@ -94,7 +65,7 @@ static int judge_resume(void)
 {
     size_t records;
 
-    want_length = 0;
+    expect_nothing();
     if (length < 4)
         return expect_last("short\n", 2);
     if (announced() > 65535)
@@ -105,7 +76,7 @@ static int judge_resume(void)
     memset(memory, 0xFF, sizeof memory);
     if (!read_form(input + 4, announced()))
         return expect_last("R10\n", 1);
-    expect_records(input + records, length - records);
+    expect_records(input + records, (length - records) / 4);
     if ((length - records) % 4 != 0)
         return expect_last("short\n", 2);
     return 0;
@@ -113,69 +84,31 @@ static int judge_resume(void)
 
 /* ---- Trying the input -------------------------------------------------------- */
 
-/* How far it is, where a person looks on; the last line clears it. */
-static void tell_how_far(void)
+static int begin_one(const char *name)
 {
-    if (tries % 50 == 0 && isatty(2))
-        fprintf(stderr, "\r\033[Kresave: %ld tries", tries);
-}
-
-static void clear_how_far(void)
-{
-    if (isatty(2))
-        fputs("\r\033[K", stderr);
-}
-
-static int is_seen(void)
-{
-    tries++;
-    tell_how_far();
+    begin_try(name);
     return tries % SEEN_OF == 0 || saver[1] == NULL;
-}
-
-static void must_end(int is_seen, int status)
-{
-    if (!is_seen)
-        status = 0;
-    if (WIFSIGNALED(ended))
-        WRONG("it was ended by signal %d", WTERMSIG(ended));
-    if (WEXITSTATUS(ended) != status)
-        WRONG("status %d was to come, not %d", status, WEXITSTATUS(ended));
-}
-
-/* Where two runs of bytes first differ. */
-static size_t differs_at(const unsigned char *a, size_t many, const unsigned char *b, size_t others)
-{
-    size_t at = 0;
-
-    while (at < many && at < others && a[at] == b[at])
-        at++;
-    return at;
 }
 
 static void try_save(void)
 {
     const char *line;
-    int seen = is_seen();
+    int seen = begin_one("save");
     int status = judge_save(&line);
     size_t many, at;
-    unsigned char *said, *told;
+    char *said;
 
-    program = "save";
     by_status[0][status]++;
     run_program(saver[!seen], one_in(3) ? IN_PIECES : AS_FILE, 0, NULL);
-    told = read_file("told", &many);
-    if (strcmp((char *)told, line) != 0)
-        WRONG("standard error was to have \"%.*s\", not \"%.*s\"", (int)strcspn(line, "\n"), line, (int)strcspn((char *)told, "\n"), told);
-    said = read_file("said", &many);
-    at = differs_at(want, want_length, said, many);
+    must_tell(line);
+    said = (char *)read_file("said", &many);
+    at = differs_at(said, many);
     if (at < want_length && at < many)
-        WRONG("byte %lu of the form was to be %02Xh, not %02Xh", (unsigned long)at, want[at], said[at]);
+        WRONG("byte %lu of the form was to be %02Xh, not %02Xh", (unsigned long)at, want[at] & 255, said[at] & 255);
     if (many != want_length)
         WRONG("%lu bytes were to come, not %lu", (unsigned long)want_length, (unsigned long)many);
-    must_end(seen, status);
+    must_end(seen ? status : 0);
     free(said);
-    free(told);
 }
 
 /* What `resume` must have said when so many bytes are given, and no end. */
@@ -192,7 +125,7 @@ static size_t due(size_t given)
     if (memcmp(want, "R10", 3) == 0)
         return want_length;
     for (size_t lines = (given - 4 - announced()) / 4; lines > 0; lines--)
-        at += strcspn((char *)want + at, "\n") + 1;
+        at += strcspn(want + at, "\n") + 1;
     return at;
 }
 
@@ -208,40 +141,21 @@ static enum way a_way(int seen)
     return one_in(3) ? IN_PIECES : AS_FILE;
 }
 
-/* Holds the lines that were said against those that were due. */
-static void compare_lines(const unsigned char *said, size_t many, const char *how)
-{
-    size_t at = differs_at(want, want_length, said, many);
-    long lines = 0;
-
-    if (at == want_length && at == many)
-        return;
-    while (at > 0 && want[at - 1] != '\n')
-        at--;
-    for (size_t i = 0; i < at; i++)
-        lines += want[i] == '\n';
-    want[want_length] = 0;
-    WRONG("line %ld was to be \"%.*s\", not \"%.*s\"%s", lines + 1, (int)strcspn((char *)want + at, "\n"), want + at,
-          (int)strcspn((char *)said + at, "\n"), said + at, how);
-}
-
 static void try_resume(void)
 {
-    static const char *const words[] = { "", ", read in pieces", ", in a talk" };
-    int seen = is_seen();
+    int seen = begin_one("resume");
     enum way way = a_way(seen && saver[1] != NULL);
     int status = judge_resume();
     size_t many, silent;
-    unsigned char *said;
+    char *said;
 
-    program = "resume";
     by_status[1][status]++;
     silent = run_program(resumer[!seen], way, form_end(), due);
     if (silent)
         WRONG("what is due to the first %lu bytes did not come before more were given", (unsigned long)silent);
-    said = read_file("said", &many);
-    compare_lines(said, many, words[way]);
-    must_end(seen, status);
+    said = (char *)read_file("said", &many);
+    must_say(said, many, way);
+    must_end(seen ? status : 0);
     free(said);
 }
 
@@ -360,7 +274,7 @@ static void try_bad(void)
 /* The good form, or nothing of it, announced with another length. */
 static void try_announced(unsigned long said, size_t many)
 {
-    snprintf(what, sizeof what, "%lu bytes announced as %lu", (unsigned long)many, said);
+    SAY_WHAT("%lu bytes announced as %lu", (unsigned long)many, said);
     put_up(said, good, many, tail_length < 400 ? tail_length : 400);
     try_resume();
 }
@@ -383,7 +297,7 @@ static void try_longest(void)
     memset(bad, 0, sizeof bad);
     memcpy(bad, good, good_length);
     bad_length = 65535;
-    say_what("65535 bytes, the form at their front");
+    SAY_WHAT("65535 bytes, the form at their front");
     put_up(bad_length, bad, bad_length, 40);
     try_resume();
 }
@@ -398,7 +312,7 @@ static void try_cut(void)
     case 2: length = 4 + good_length + (size_t)below((int)(tail_length < 40 ? tail_length + 1 : 40)); break;
     default: length = (size_t)below((int)length); break;
     }
-    snprintf(what, sizeof what, "cut after %lu bytes", (unsigned long)length);
+    SAY_WHAT("cut after %lu bytes", (unsigned long)length);
     try_resume();
 }
 
@@ -437,28 +351,18 @@ static void try_saving(size_t many, const char *words)
 {
     memcpy(input, script, many);
     length = many;
-    snprintf(what, sizeof what, "%s %lu bytes of its script", words, (unsigned long)many);
+    SAY_WHAT("%s %lu bytes of its script", words, (unsigned long)many);
     try_save();
 }
 
-/* A pair with a kind or a length that is just or far out of its range. */
 static void try_bad_setup(void)
 {
-    static const int kinds[] = { 3, 3, 4, 128, 255 };
-    static const int lengths[] = { 0, 0, 6, 6, 255 };
-    unsigned char *pair = input + 2 * below(SLOTS);
-
     memcpy(input, script, script_length);
-    if (one_in(2)) {
-        pair[0] = (unsigned char)ONE_OF(kinds);
-    } else {
-        pair[0] = (unsigned char)between(MEMORY, MEMORY_WITH_SENSOR);
-        pair[1] = (unsigned char)ONE_OF(lengths);
-    }
+    spoil_setup();
     length = one_in(2) ? any_moment() + (size_t)below(4) : (size_t)between(SETUP - 1, SETUP + 5);
     if (length > script_length)
         length = script_length;
-    say_what("a bad setup");
+    SAY_WHAT("a bad setup");
     try_save();
 }
 
@@ -466,7 +370,7 @@ static void try_bad_setup(void)
  * the unbroken run goes on with them: its lines are due. */
 static void try_unbroken(size_t moment)
 {
-    static unsigned char lines[1 << 20];
+    static char lines[1 << 20];
     size_t many;
     int before = one_in(3), whole = one_in(2);
 
@@ -479,12 +383,12 @@ static void try_unbroken(size_t moment)
     tail_length += script_length - moment;
     if (!before && one_in(2))
         look(whole);
-    want_length = 0;
-    expect_records(tail, tail_length);
+    expect_nothing();
+    expect_records(tail, tail_length / 4);
     memcpy(lines, want, want_length);
     many = want_length;
     put_up(good_length, good, good_length, tail_length);
-    snprintf(what, sizeof what, "the run from byte %lu of its script on", (unsigned long)moment);
+    SAY_WHAT("the run from byte %lu of its script on", (unsigned long)moment);
     judge_resume();
     if (many != want_length || memcmp(lines, want, many) != 0)
         WRONG("the test is at odds with itself");
@@ -584,7 +488,7 @@ static void try_ending(const char *ending, int others)
     add_ending(ending, n);
     memcpy(input + SETUP, tail, tail_length);
     length = SETUP + tail_length;
-    snprintf(what, sizeof what, "%s, in the end \"%s\" on slot %d", others < 0 ? "no slot" : others ? "eight slots" : "one slot", ending, n);
+    SAY_WHAT("%s, in the end \"%s\" on slot %d", others < 0 ? "no slot" : others ? "eight slots" : "one slot", ending, n);
     try_save();
 }
 
@@ -600,7 +504,6 @@ static void sweep_phases(void)
 }
 
 /* ---- Every byte of small forms --------------------------------------------------- */
-
 
 /* A bench in any state that may be saved. */
 static void stir(const unsigned char pairs[SETUP])
@@ -674,12 +577,12 @@ static void sweep_lengths(void)
     for (size_t at = 0; at < good_length; at++) {
         begin("");
         bad_length = at;
-        snprintf(what, sizeof what, "a small form that ends after %lu bytes", (unsigned long)at);
+        SAY_WHAT("a small form that ends after %lu bytes", (unsigned long)at);
         try_small(one_in((int)every));
         if (!one_in((int)every))
             continue;
         put_up(good_length, good, at, 0);
-        snprintf(what, sizeof what, "a small form, the input cut after %lu bytes", (unsigned long)(4 + at));
+        SAY_WHAT("a small form, the input cut after %lu bytes", (unsigned long)(4 + at));
         try_resume();
     }
 }
@@ -687,7 +590,8 @@ static void sweep_lengths(void)
 /* The ends of every range of the sensor's form, and the heads of its fields. */
 static void sweep_ends(int n)
 {
-    static const int ends[][3] = { { 2, 0, 15 }, { 2, 0, 16 }, { 2, 1, 1 }, { 2, 1, 2 }, { 2, 2, 255 }, { 2, 3, 1 }, { 2, 3, 2 }, { 3, 0, 9 }, { 3, 0, 10 } };
+    static const int ends[][3] = { { 2, 0, 15 }, { 2, 0, 16 }, { 2, 1, 1 }, { 2, 1, 2 }, { 2, 2, 255 }, { 2, 3, 1 }, { 2, 3, 2 },
+                                   { 3, 0, 9 }, { 3, 0, 10 } };
     const int pairs[][2] = { { 2 * n, 3 }, { 2 * n + 1, 0 }, { 2 * n + 1, 5 }, { 2 * n + 1, 6 }, { 2 * n + 2, 1 }, { 2 * n + 3, 1 } };
 
     for (int i = 0; i < 9 + 6 + HEAD * FIELDS; i++) {
@@ -711,7 +615,7 @@ static void sweep_first(void)
     for (size_t many = 0; many <= 5; many++) {
         put_up(good_length, good, good_length, 0);
         length = many;
-        snprintf(what, sizeof what, "the input cut after %lu bytes", (unsigned long)many);
+        SAY_WHAT("the input cut after %lu bytes", (unsigned long)many);
         try_resume();
     }
 }

@@ -1,7 +1,7 @@
 /*
  * Chance that is the same for the same seed (splitmix for the seed, then
- * xorshift).  Included by generate.c, replan.c, recapture.c, resave.c
- * and relist.c.
+ * xorshift).  Included by generate.c and by the judges: replan.c, recapture.c,
+ * resave.c and relist.c.
  */
 static unsigned long long state;
 

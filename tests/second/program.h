@@ -3,9 +3,9 @@
  * The input goes there as a file, through a pipe in odd pieces, or as a talk:
  * piece by piece, where what is due to one piece must have been said before the
  * next is given.  Files in `folder`: input, said (standard output), told
- * (standard error).  Included by recapture.c, resave.c and relist.c, after
- * chance.h.
+ * (standard error).  Included by judge.h.
  */
+#include "files.h"
 #include <fcntl.h>
 #include <sched.h>
 #include <signal.h>
@@ -15,50 +15,10 @@
 
 enum way { AS_FILE, IN_PIECES, AS_TALK };
 
-static const char *folder;
 static unsigned char input[1 << 20];
 static size_t length;             /* of the input */
 static pid_t child;               /* 0 when it has ended */
 static int ended;                 /* how */
-
-static void die(const char *words)
-{
-    perror(words);
-    exit(2);
-}
-
-static const char *path(const char *name)
-{
-    static char text[4096];
-
-    snprintf(text, sizeof text, "%s/%s", folder, name);
-    return text;
-}
-
-static FILE *open_file(const char *name, const char *how)
-{
-    FILE *f = fopen(path(name), how);
-
-    if (f == NULL)
-        die(path(name));
-    return f;
-}
-
-/* A whole file, with a 0 behind it. */
-static unsigned char *read_file(const char *name, size_t *many)
-{
-    FILE *f = open_file(name, "rb");
-    unsigned char *bytes;
-
-    fseek(f, 0, SEEK_END);
-    *many = (size_t)ftell(f);
-    rewind(f);
-    bytes = malloc(*many + 1);
-    *many = fread(bytes, 1, *many, f);
-    bytes[*many] = 0;
-    fclose(f);
-    return bytes;
-}
 
 /* Starts the command line on this input; `other` is not for it. */
 static void start_program(const char *command, int in, int other)

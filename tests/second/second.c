@@ -8,7 +8,7 @@
  *
  * It follows the document's sections and uses its words.  It is meant to be
  * read beside the document, so it is plain rather than clever.  The file
- * faults.txt replaces single lines of it: keep the two in step.
+ * tests/bus/planted.txt replaces single lines of it: keep the two in step.
  */
 #include <stdio.h>
 #include <string.h>
