@@ -20,6 +20,7 @@ use Rattle.rules.specs.declared.Event.{Event}
 use Rattle.rules.specs.declared.Ruling.{Ruling}
 use Rattle.rules.specs.declared.Ruling.the-variants.{Taken}
 use Rattle.rules.specs.declared.Slot.{Slot}
+use Rattle.rules.specs.Modelled.{slotCount}
 use Rattle.rules.specs.Events.{carried, actOf, letterOf}
 use Rattle.rules.specs.Fresh.{absentSlot}
 use Rattle.rules.specs.Slot.{acks}
@@ -104,7 +105,7 @@ every-part P w zero l h = every-take P w l h
 every-part P w (suc q) l h = every-part P w q (drop w l) (every-drop P w l h)
 
 -- a plan's pages
-module _ (kinds : List ℕ) (old image : List ℕ) (s : Slot) (k : ℕ) (below : k < 8) (bytes : Every (λ b. b ≤ 255) image) where
+module _ (kinds : List ℕ) (old image : List ℕ) (s : Slot) (k : ℕ) (below : k < slotCount) (bytes : Every (λ b. b ≤ 255) image) where
   selecting-acted : (now h : ℕ) → h ≤ 1 → Acted kinds (selecting now h) (selectActs now h)
   unfolding selecting selectActs
   selecting-acted now h l = by-test (eqb h now) (λ e. rw e none) (λ e. rw e (start-acted kinds (byte-acted kinds _ (omega arith) (stop-acted kinds none))))

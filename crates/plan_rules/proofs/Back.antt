@@ -12,6 +12,7 @@ use Rattle.proof_lists.specs.Each.{Every}
 use Rattle.proof_lists.specs.Tests.{by-test}
 use Rattle.rules.specs.declared.Event.{Event}
 use Rattle.rules.specs.declared.Slot.{Slot}
+use Rattle.rules.specs.Modelled.{slotCount}
 use Rattle.script_text.specs.Records.{valueAt, recordAt}
 use Rattle.plan_rules.specs.Records.{wordOf, recordOf, recordsOf, laid, eventsIn}
 use Rattle.plan_rules.specs.Plan.{event, byte, stop, tick, ticks, fiveTicks, pageAt, pageBytes, pageHalf, pageCounter, selecting, writing, differs, halfBefore, pageEvents, pagesBefore}
@@ -90,7 +91,7 @@ bytes-plain : (bs : List ℕ) → Every (λ b. b ≤ 255) bs → Every Plain (ma
 bytes-plain [] h = tt
 bytes-plain (b ∷ bs) h = (plain 2 b (let l = h .0 in omega arith), bytes-plain bs (h .1))
 
-module _ (old image : List ℕ) (s : Slot) (k : ℕ) (below : k < 8) (bytes : Every (λ b. b ≤ 255) image) where
+module _ (old image : List ℕ) (s : Slot) (k : ℕ) (below : k < slotCount) (bytes : Every (λ b. b ≤ 255) image) where
   selecting-plain : (now h : ℕ) → h ≤ 1 → Every Plain (selecting now h)
   unfolding selecting
   selecting-plain now h l = by-test (eqb h now) (λ e. rw e tt) (λ e. rw e (plain 1 0 (omega arith), (plain 2 (0x6C + 2 * h) (omega arith), (plain 4 0 (omega arith), tt))))

@@ -12,7 +12,7 @@ use Rattle.proof_lists.specs.Tests.{by-test, or-left-false, or-right-false}
 use Rattle.rules.specs.declared.Bus.{Bus}
 use Rattle.rules.specs.declared.Slot.{Slot}
 use Rattle.rules.specs.declared.SlotNo.{SlotNo}
-use Rattle.rules.specs.Modelled.{absent, slotBytes, memoryBytes}
+use Rattle.rules.specs.Modelled.{absent, slotCount, slotBytes, memoryBytes}
 use Rattle.rules.specs.Fresh.{freshSlot, absentSlot}
 use Rattle.rules.specs.Refusals.{wrongLength, kindsOf, kindAt}
 use Rattle.plan_rules.specs.Plan.{slotAt, bufferBytes, wrongLengths, noSuchSlot}
@@ -30,7 +30,7 @@ right-lengths m image buffer h =
     )
 
 -- the slot: its number, its place, and that it is not absent
-pub slot-below : (k : SlotNo) (b : Bus) → noSuchSlot k b ≡ false → k .0 < 8
+pub slot-below : (k : SlotNo) (b : Bus) → noSuchSlot k b ≡ false → k .0 < slotCount
 unfolding noSuchSlot
 slot-below k b h = omega (arith, ltb-false 7 (k .0) (or-left-false (ltb 7 (k .0)) _ h))
 

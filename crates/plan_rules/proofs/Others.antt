@@ -10,7 +10,7 @@ use Rattle.rules.specs.declared.Act.{Act}
 use Rattle.rules.specs.declared.Act.the-variants.{Start, Byte, Stop, Tick}
 use Rattle.rules.specs.declared.Phase.the-variants.{Idle, Control}
 use Rattle.rules.specs.declared.Slot.{Slot}
-use Rattle.rules.specs.Modelled.{absent}
+use Rattle.rules.specs.Modelled.{slotCount, absent}
 use Rattle.rules.specs.Open.{open-fields}
 use Rattle.rules.specs.Fields.{inPhase}
 use Rattle.rules.specs.Control.{acksHeard}
@@ -62,7 +62,7 @@ unfolding controls
 none-after n [] = tt
 none-after n (b ∷ bs) = none-after n bs
 
-module _ (k : ℕ) (below : k < 8) (n : ℕ) (other : n ≡ k → ⊥) where
+module _ (k : ℕ) (below : k < slotCount) (n : ℕ) (other : n ≡ k → ⊥) where
   unheard : Unheard n (0xA0 + 2 * k)
   unfolding acksHeard
   unheard s = rw (own-heard k below) (ne-eqb k n (λ e. other (sym e)))

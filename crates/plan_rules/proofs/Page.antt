@@ -18,11 +18,11 @@ use Rattle.rules.specs.declared.Heard.the-variants.{Memory}
 use Rattle.rules.specs.declared.Phase.{Phase}
 use Rattle.rules.specs.declared.Phase.the-variants.{Idle, Control, MemoryCounter, MemoryData}
 use Rattle.rules.specs.declared.Slot.{Slot}
-use Rattle.rules.specs.Modelled.{absent, addressOf, blockOf, pageOf}
+use Rattle.rules.specs.Modelled.{slotCount, absent, addressOf, blockOf, pageOf}
 use Rattle.rules.specs.Open.{open-fields, open-memory}
 use Rattle.rules.specs.Fields.{inPhase, inHalf, atCounter, withLeft, protecting, expecting, latched, placed}
 use Rattle.rules.specs.Fresh.{noBytes, noMarks}
-use Rattle.rules.specs.Control.{protects, heardOf, acksControl, obeyed, controlled}
+use Rattle.rules.specs.Control.{protects, selectOf, heardOf, acksControl, obeyed, controlled}
 use Rattle.rules.specs.Memory.{abandoned, cancelled, upInPage, guarded, anyMark, putUpTo, stored}
 use Rattle.rules.specs.Slot.{withSensorIn, standing, letGo, byteIn, acksIn, presentNext, slotNext, partNext, acks}
 use Rattle.runs.specs.Exchanges.{aloneFor, shownAlone}
@@ -191,25 +191,27 @@ unfolding standing absent open-fields
 stands-in q u e h = rw (e, h)
 
 -- the slot's own control byte
-module _ (k : ℕ) (below : k < 8) where
+module _ (k : ℕ) (below : k < slotCount) where
   abbrev own : ℕ
   own = 0xA0 + 2 * k
 
   own-family : own / 16 ≡ 0xA
   own-family = omega arith
 
+  own-select : selectOf own .0 ≡ k
+  unfolding selectOf
+  own-select = omega arith
+
   pub own-heard : heardOf own ≡ Memory (record { 0 = k }) false
+  unfolding selectOf
   own-heard =
-      let select : own / 2 % 8 ≡ k = omega arith in
       let write : own % 2 ≡ 0 = omega arith in
-      memory-family own own-family ∙ rw (select, write)
+      memory-family own own-family ∙ rw (own-select, write)
 
   module _ (u : Slot) (here : eqb (u .kind) 0 ≡ false) (rests : u .left ≡ 0) where
     own-acked : acksControl k own (inPhase Control u) ≡ true
-    unfolding open-fields
-    own-acked =
-        let select : own / 2 % 8 ≡ k = omega arith in
-        memory-acked own k (inPhase Control u) rests own-family ∙ rw select (eq-eqb k k refl)
+    unfolding selectOf open-fields
+    own-acked = memory-acked own k (inPhase Control u) rests own-family ∙ rw own-select (eq-eqb k k refl)
 
     pub own-acks : acks k own (inPhase Control u) ≡ true
     unfolding acks acksIn
@@ -222,7 +224,7 @@ module _ (k : ℕ) (below : k < 8) where
         ∙ rw (own-acked, own-heard)
 
 -- the whole exchange, and its cycle
-module _ (k p : ℕ) (below : k < 8) (bs : List ℕ) (sixteen : length bs ≡ 16) where
+module _ (k p : ℕ) (below : k < slotCount) (bs : List ℕ) (sixteen : length bs ≡ 16) where
   data-run : (u : Slot) (f : Free p u) (m : List ℕ)
       → Ran k (Byte (0xA0 + 2 * k) ∷ Byte (pageCounter p) ∷ bytesActs bs ++ Stop ∷ replicate (u .length) Tick) (inPhase Control u) m
       (written p u) (pagePut p bs m) (p ∷ [])

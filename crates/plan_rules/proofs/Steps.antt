@@ -12,7 +12,7 @@ use Rattle.proof_lists.specs.Tests.{by-test, cond-cases, or-left-false, or-righ
 use Rattle.rules.specs.declared.Act.{Act}
 use Rattle.rules.specs.declared.Phase.the-variants.{Idle}
 use Rattle.rules.specs.declared.Slot.{Slot}
-use Rattle.rules.specs.Modelled.{absent}
+use Rattle.rules.specs.Modelled.{slotCount, absent}
 use Rattle.rules.specs.Open.{open-fields, open-memory}
 use Rattle.rules.specs.Fields.{inPhase, inHalf, atCounter, withLeft}
 use Rattle.rules.specs.Memory.{abandoned, cancelled}
@@ -58,7 +58,7 @@ unfoldable pub selectActs : ℕ → ℕ → List Act
 selectActs now h = cond (eqb h now) [] (halfActs h)
 
 -- one page at the slot itself, with its half selected where another stands
-module _ (k : ℕ) (below : k < 8) (p : ℕ) (within : p < 32) (bs : List ℕ) (sixteen : length bs ≡ 16) where
+module _ (k : ℕ) (below : k < slotCount) (p : ℕ) (within : p < 32) (bs : List ℕ) (sixteen : length bs ≡ 16) where
   one-page : (now : ℕ) (s : Slot) (m : List ℕ) → FreeIn now (p / 8) s
       → Ran k (selectActs now (pageHalf p) ++ pageActs k (pageCounter p) bs (s .length)) s m (rested (pageHalf p) (pageCounter p) s) (pagePut p bs m) (p ∷ [])
   unfolding selectActs
@@ -107,7 +107,7 @@ module _ (old image : List ℕ) (s : Slot) where
     unfolding ownBefore rested leaving open-memory open-fields
     own-length p = cond-cases (λ (t : Slot). t .length ≡ s .length) (touched old image p) (λ e. let-go-lasts s .length) (λ e. refl)
 
-    module _ (k : ℕ) (below : k < 8) (whole : length old ≡ 512) (wanted : length image ≡ 512)
+    module _ (k : ℕ) (below : k < slotCount) (whole : length old ≡ 512) (wanted : length image ≡ 512)
         (allowed : (p : ℕ) → p < 32 → differs old image p ≡ true → getD (s .protection) (p / 8) false ≡ false) where
       pub own-run : (p : ℕ) → p ≤ 32 → Ran k (actsBefore k p) s old (ownBefore old image s p) (bytesBefore old image p) (differing old image p)
       unfolding actsBefore bytesBefore differing
@@ -161,7 +161,7 @@ module _ (old image : List ℕ) (s : Slot) where
       unfolding otherBefore absent open-fields
       other-kept p = cond-cases (λ (w : Slot). (absent w ≡ false) × (w .left ≡ 0)) (touched old image p) (λ e. left-kept t here rests) (λ e. (here, rests))
 
-      module _ (k : ℕ) (below : k < 8) (n : ℕ) (other : n ≡ k → ⊥) where
+      module _ (k : ℕ) (below : k < slotCount) (n : ℕ) (other : n ≡ k → ⊥) where
         page-on : (p : ℕ) (bs : List ℕ) (count : ℕ) (w : Slot) (m : List ℕ) (now : ℕ) → p < 32 → absent w ≡ false → w .left ≡ 0
             → Passed n (selectActs now (pageHalf p) ++ pageActs k (pageCounter p) bs count) w m (cond (eqb (pageHalf p) now) (leaving w) (inHalf (pageHalf p) (leaving w)))
         unfolding selectActs absent

@@ -92,6 +92,24 @@ module _ {A : Type 0} where
   unfolding allOf
   allOf-none p k xs a h = rw (drop-of-length-le xs h, and-true)
 
+  -- a loop that asks each of the n elements, after i turns: `ok` and those not yet asked say what all say
+  pub record AllTo (p : A → Bool) (n : ℕ) (xs : List A) (i : ℕ) (ok : Bool) : Type 0 where
+    pub within : i ≤ n
+    pub number : length xs ≡ n
+    pub says : (ok && allOf p (drop i xs)) ≡ allOf p xs
+
+  pub allTo-none : {p : A → Bool} {n : ℕ} {xs : List A} → length xs ≡ n → AllTo p n xs 0 true
+  allTo-none h = record { within = omega arith; number = h; says = refl }
+
+  pub allTo-step : {p : A → Bool} {n : ℕ} {xs : List A} {i : ℕ} {ok a : Bool} (d : A) → AllTo p n xs i ok → i < n → a ≡ p (getD xs i d)
+      → AllTo p n xs (i + 1) (ok && a)
+  allTo-step {p} {n} {xs} {i} {ok} d t h e =
+      let l : i < length xs = omega arith in
+      record { within = omega arith; number = t .number; says = rw e (sym (allOf-step p i xs d ok l) ∙ t .says) }
+
+  pub allTo-full : {p : A → Bool} {n : ℕ} {xs : List A} {i : ℕ} {ok : Bool} → AllTo p n xs i ok → n ≤ i → ok ≡ allOf p xs
+  allTo-full {p} {n} {xs} {i} {ok} t h = sym (allOf-none p i xs ok (omega arith)) ∙ t .says
+
   -- the value of the first element that has one, or d
   unfoldable pub firstFrom : {B : Type 0} → (ℕ → A → Bool) → (ℕ → A → B) → B → ℕ → List A → B
   firstFrom p q e n [] = e
