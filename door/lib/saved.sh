@@ -1,6 +1,6 @@
 # shellcheck shell=bash
 # What ./plungerhen save, show and resume have in common; sourced, not run.
-# shellcheck source=common.sh
+# shellcheck source=lib/common.sh
 . "$(dirname -- "$(readlink -f -- "${BASH_SOURCE[0]}")")/common.sh"
 
 # words COUNT WHAT WORD...: the files that are named, in `files`

@@ -45,11 +45,11 @@ abbrev pub noPair : Pair
 noPair = record { kind = 0; length = 0 }
 
 -- the next pair of the setup, stored
-pub pairs-step : (d ps : List Pair) (bs : List ℕ) (i : ℕ) (p : Pair) → ps ≡ filled d (pairsTo bs 8) i → p ≡ pairAt bs (2 * i) → i < 8 → length d ≡ 8
-    → set ps i p ≡ filled d (pairsTo bs 8) (i + 1)
-pairs-step d ps bs i p e f h l =
-    ap₂ (λ (u : List Pair) (q : Pair). set u i q) e (f ∙ sym (pairs-at bs 8 i noPair h))
-    ∙ filled-step d (pairsTo bs 8) i noPair (omega arith) (rw (length-pairs bs 8) h)
+pub pairs-step : (d ps : List Pair) (bs : List ℕ) {n : ℕ} (i : ℕ) (p : Pair) → ps ≡ filled d (pairsTo bs n) i → p ≡ pairAt bs (2 * i) → i < n
+    → length d ≡ n → set ps i p ≡ filled d (pairsTo bs n) (i + 1)
+pairs-step d ps bs {n} i p e f h l =
+    ap₂ (λ (u : List Pair) (q : Pair). set u i q) e (f ∙ sym (pairs-at bs n i noPair h))
+    ∙ filled-step d (pairsTo bs n) i noPair (omega arith) (rw (length-pairs bs n) h)
 
 -- a record is its four bytes
 pub same-record : (p q : List ℕ) (i j : ℕ) → ((k : ℕ) → k < 4 → getD p (i + k) 0 ≡ getD q (j + k) 0) → recordAt p i ≡ recordAt q j
