@@ -22,8 +22,8 @@ use Rattle.script_turns.specs.Frame.{cutSetup, firstLine, goesOn, firstBus, beg
 use Rattle.script_turns.proofs.frame.Laws.{first-length, written}
 use Rattle.script_turns.specs.Script.{recordsIn, benchTo}
 use Rattle.script_turns.specs.Program.{Read, inputOf}
-use Rattle.script_streams.specs.Ran.{Ran, turnsLeave, begun}
-use Rattle.script_streams.proofs.running.Whole.{turns-left}
+use Rattle.script_streams.specs.Reading.{Ran, turnsLeave, begun}
+use Rattle.script_streams.proofs.reading.Whole.{turns-left}
 use Rattle.plan.specs.Asked.{endText, answerOf, askedBench, answerTo, writtenFor}
 use Rattle.plan.specs.Program.{serveWrites, planWrites}
 use Rattle.plan.specs.Went.{Served}

@@ -9,7 +9,7 @@ use Rattle.rules.specs.declared.Bus.{Bus}
 use Rattle.script_turns.specs.declared.frame.Begun.{Begun}
 use Rattle.script_turns.specs.Frame.{beginOf}
 use Rattle.script_turns.specs.Program.{Read}
-use Rattle.script_streams.specs.Ran.{Ran, turnsLeave, begun}
+use Rattle.script_streams.specs.Reading.{Ran, turnsLeave, begun}
 use Rattle.plan.specs.Asked.{answerOf}
 
 -- what is written after a good setup

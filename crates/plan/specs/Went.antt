@@ -2,11 +2,12 @@
 -- Assumes nothing.
 use Prim.Native.Nat.{ℕ, _+_, _≤_}
 use mathlib.Core.Path.{_≡_}
+use mathlib.Core.Bool.{false}
 use mathlib.Core.List.{List}
 use lib.ListN.{length, getD}
 use Rattle.rules.specs.declared.Bus.{Bus}
-use Rattle.script_streams.specs.declared.running.Going.{Going}
-use Rattle.script_streams.specs.Running.{Ended}
+use Rattle.script_streams.specs.declared.reading.Going.{Going}
+use Rattle.script_streams.specs.Reading.{Ended}
 use Rattle.plan.specs.Asked.{answerOf}
 
 -- memory, slot and image as they were read, so many bytes of each; then the records, and the answer
@@ -22,6 +23,6 @@ pub record Served (b : Bus) (out : List ℕ) (end : ℕ) (written : List ℕ) : 
   pub going : Going
   pub stored : List ℕ
   pub left : List ℕ
-  pub ended : Ended b memory out going stored left
+  pub ended : Ended false b memory out going stored left
   pub answered : answerOf (record { bus = going .bus; memory = stored }) (record { 0 = getD slot 0 0 }) image (bytes + number + wanted)
       (going .held) left ≡ (end, written)

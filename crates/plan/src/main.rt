@@ -1,5 +1,5 @@
 // The plan program: a setup, a memory, a slot, an image and records on standard input; the plan for the slot and the image, after the records, on
-// standard output. It begins by `opening`, reads, runs the records by `running`, hands what came to `planning` and `listing`, and writes what was
+// standard output. It begins by `opening`, reads, runs the records by `reading`, hands what came to `planning` and `listing`, and writes what was
 // put at the front of the output: all that decides is said and proved there and in `answer`. The status that a result has, the script `run` gives
 // it (the file status).
 ghost use mathlib.Core.Path.{_≡_};
@@ -53,7 +53,7 @@ fn serve(bus: Bus, mem: &mut [u8], out: &mut [u8]) -> usize
     let number = io::read_full(STDIN_FILENO, &mut slot);
     let wanted = io::read_full(STDIN_FILENO, &mut image);
     let came = bytes + number + wanted;
-    let ran = script_streams::running::run_records(bus, mem, out);
+    let ran = script_streams::reading::run_records(bus, false, mem, out);
     let after = ran.bus;
     answer(after, mem, SlotNo(slot[0]), &image, came, ran.held, out)
 }

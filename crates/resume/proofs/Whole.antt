@@ -97,7 +97,7 @@ writes-whole head form buf out rs l t n room f =
     (ap (λ (z : List ℕ). take (length z) (sets out 0 z) ++ cond (eqb (length z) 0) (turnsWrite emptyBus startingMemory buf 0 (sets out 0 z) rs) []) bad-form
     ∙ append-nil _ ∙ written out badFormLine (omega arith)))
 
--- WHAT THE CODE DOES (`open` and its contract, and then `serving`): of some bytes read as length and form, this is written
+-- WHAT THE CODE DOES (`open` and its contract, and then `reading`): of some bytes read as length and form, this is written
 pub opened : (out m o buf : List ℕ) (r : Begun) (s : Opened out r m o) (rs : List Read)
     → take (r .end) o ++ cond (r .on) (turnsWrite (r .bus) m buf 0 o rs) [] ≡ resumeWrites (s .head) (s .form) rs buf out
 unfolding resumeWrites

@@ -1,5 +1,5 @@
 // The resume program: a saved form's length, the form and records on standard input; a line for each event on standard output, from the bench that
-// the form restores to. It reads the form, begins with what came by `begin`, and goes on by `serving`: all that decides is said and proved there
+// the form restores to. It reads the form, begins with what came by `begin`, and goes on by `reading`: all that decides is said and proved there
 // and in `restoring`. The status that a result has, the script `run` gives it.
 ghost use mathlib.Core.Path.{_≡_};
 ghost use mathlib.Core.Bool.{true, false};
@@ -111,6 +111,6 @@ fn main() {
     let begun = open(&mut mem, &mut out);
     if begun.on {
         let bus = begun.bus;
-        script_streams::serving::serve(bus, &mut mem, &mut out);
+        script_streams::reading::serve(bus, &mut mem, &mut out);
     }
 }

@@ -27,8 +27,8 @@ use Rattle.script_turns.proofs.frame.Laws.{first-length, written}
 use Rattle.script_turns.specs.Script.{recordsIn, benchTo, begunAt}
 use Rattle.script_turns.specs.Program.{Read, inputOf}
 use Rattle.script_turns.proofs.turns.Onward.{bench-in-range, bench-length}
-use Rattle.script_streams.specs.Ran.{Ran, begun}
-use Rattle.script_streams.proofs.running.Whole.{turns-left}
+use Rattle.script_streams.specs.Reading.{Ran, begun}
+use Rattle.script_streams.proofs.reading.Whole.{turns-left}
 use Rattle.save_rules.specs.declared.Saved.the-variants.{Refused}
 use Rattle.save_rules.specs.Form.{formOf}
 use Rattle.save_rules.specs.Saving.{allQuiet, saveOf}

@@ -3,16 +3,15 @@
 -- Assumes nothing.
 use Prim.Native.Nat.{ℕ}
 use mathlib.Core.Path.{_≡_}
-use mathlib.Core.Bool.{cond}
+use mathlib.Core.Bool.{false, cond}
 use mathlib.Core.List.{List}
 use lib.ListN.{take}
 use Rattle.rules.specs.declared.Bus.{Bus}
 use Rattle.script_turns.specs.declared.frame.Begun.{Begun}
 use Rattle.script_turns.specs.Frame.{beginOf}
 use Rattle.script_turns.specs.Program.{Read}
-use Rattle.script_streams.specs.declared.running.Going.{Going}
-use Rattle.script_streams.specs.Ran.{Ran, turnsLeave, begun}
-use Rattle.script_streams.specs.Running.{Ended}
+use Rattle.script_streams.specs.declared.reading.Going.{Going}
+use Rattle.script_streams.specs.Reading.{Ran, turnsLeave, begun, Ended}
 use Rattle.save.specs.declared.Answered.{Answered}
 use Rattle.script_streams.specs.Written.{Written, onOutput, onErrors}
 use Rattle.save.specs.Asked.{answerOf}
@@ -23,7 +22,7 @@ pub record Served (b : Bus) (m out : List ℕ) (r : Answered) (written : List �
   pub going : Going
   pub stored : List ℕ
   pub left : List ℕ
-  pub ended : Ended b m lines going stored left
+  pub ended : Ended false b m lines going stored left
   pub answered : answerOf (record { bus = going .bus; memory = stored }) (going .held) out ≡ (r, written)
 
 -- the front of the output, on the one or the other

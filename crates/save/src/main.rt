@@ -1,5 +1,5 @@
 // The save program: a setup and records on standard input; the bench's saved form after the records on standard output, or what stands in the way
-// on standard error. It begins by `opening`, runs the records by `running`, and writes what `answer` puts at the front of the output: all that
+// on standard error. It begins by `opening`, runs the records by `reading`, and writes what `answer` puts at the front of the output: all that
 // decides is said and proved there and in `saving`. The status that a result has, the script `run` gives it.
 ghost use mathlib.Core.Path.{_≡_};
 ghost use mathlib.Core.Bool.{true};
@@ -51,7 +51,7 @@ fn serve(bus: Bus, mem: &mut [u8], out: &mut [u8]) -> Answered
     ensures { λ r. ⌜ (r .end ≤ length (now (out .exit))) × Served bus (now (mem .entry)) (now (out .entry)) r (now (out .exit)) ⌝ }
 {
     let mut lines = io::large_buffer();
-    let ran = script_streams::running::run_records(bus, mem, &mut lines);
+    let ran = script_streams::reading::run_records(bus, false, mem, &mut lines);
     let after = ran.bus;
     answer(after, mem, ran.held, out)
 }

@@ -1,5 +1,5 @@
 // The script program: a setup and records on standard input, a line for each event on standard output. It begins by `opening`, and goes on by
-// `serving`: all that decides is said and proved in `frame` and `lines`.
+// `reading`: all that decides is said and proved in `frame` and `turns`.
 use libc::STDOUT_FILENO;
 
 fn main() {
@@ -8,6 +8,6 @@ fn main() {
     let begun = script_streams::opening::begin(STDOUT_FILENO, &mut mem, &mut out);
     if begun.on {
         let bus = begun.bus;
-        script_streams::serving::serve(bus, &mut mem, &mut out);
+        script_streams::reading::serve(bus, &mut mem, &mut out);
     }
 }

@@ -1,5 +1,3 @@
 pub mod Opened
-pub mod Ran
-pub mod Running
-pub mod Serving
+pub mod Reading
 pub mod Written

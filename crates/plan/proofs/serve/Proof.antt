@@ -44,8 +44,8 @@ serve-spec =
         sizes = (omega (arith, m .kept .1 .0, p .1), omega (arith, k .kept .1 .0), omega (arith, w .kept .1 .0));
         counts = (omega (arith, m .ensures .0, m .kept .1 .0, p .1), omega (arith, k .ensures .0, k .kept .1 .0), omega (arith, w .ensures .0, w .kept .1 .0));
         going = ran .result;
-        stored = ran .last .1 .0;
-        left = ran .last .1 .1 .0;
+        stored = ran .last .1 .1 .0;
+        left = ran .last .1 .1 .1 .0;
         ended = ran .ensures;
         answered = a .ensures;
       },
