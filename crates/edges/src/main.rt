@@ -2,17 +2,19 @@
 // came of it. `stdin` says what a line may hold, and `stdout` has what document 01 asks for.
 ghost use Prim.Native.Nat.{_≤_};
 ghost use lib.ListN.{length};
+use capture_rules::Verdict;
 use edges_text::commands::Bench;
+use libc::STDOUT_FILENO;
 use list_lend::text::Told;
-use plungerhen::Answer;
-use plungerhen::BlockNo;
-use plungerhen::Bus;
-use plungerhen::Event;
-use plungerhen::Outcome;
-use plungerhen::Pair;
-use plungerhen::Saved;
-use plungerhen::Slot;
-use plungerhen::SlotNo;
+use rules::Answer;
+use rules::BlockNo;
+use rules::Bus;
+use rules::Event;
+use rules::Outcome;
+use rules::Pair;
+use rules::Slot;
+use rules::SlotNo;
+use save_rules::Saved;
 
 fn least(a: usize, b: usize) -> usize
     ensures { λ r. ⌜ r ≤ b ⌝ }
@@ -23,7 +25,7 @@ fn least(a: usize, b: usize) -> usize
 // An event on the bus with the first `length` bytes.
 fn event(slots: [Slot; 8], mem: &mut [u8], length: usize, e: Event) -> Outcome {
     let n = least(length, mem.len());
-    plungerhen::event(Bus { slots }, &mut mem[..n], e)
+    bus_event::event(Bus { slots }, &mut mem[..n], e)
 }
 
 // An event, and what came of it.
@@ -43,7 +45,18 @@ fn block(slots: [Slot; 8], mem: &[u8], length: usize, n: u32, k: u32) {
     let end = least(length, mem.len());
     let s = SlotNo((n % 256) as u8);
     let b = BlockNo((k % 256) as u8);
-    edges_text::report::part(plungerhen::block(&mem[..end], Bus { slots }, s, b));
+    edges_text::report::part(bus_block::block(&mem[..end], Bus { slots }, s, b));
+}
+
+// The verdict on a capture: its line as the capture program writes it, but for the line's end, which is the try's own.
+fn verdict(v: Verdict) {
+    let mut out = [0u8; 32];
+    let end = capture_pieces::text::put_verdict(&mut out, v);
+    edges_text::report::sign(b':');
+    edges_text::report::sign(b' ');
+    if 0 < end {
+        io::write_all(STDOUT_FILENO, &out[..end - 1]);
+    }
 }
 
 // The capture of some pairs, the first `length` bytes, and a command's bytes as records.
@@ -51,14 +64,14 @@ fn check(pairs: [Pair; 8], mem: &[u8], length: usize, t: [u32; 38]) {
     let end = least(length, mem.len());
     let records = edges_text::commands::bytes(t);
     let n = edges_text::words::bytes(t);
-    edges_text::report::verdict(plungerhen::check(pairs, &mem[..end], &records[..n]));
+    verdict(capture_entry::check(pairs, &mem[..end], &records[..n]));
 }
 
 // A bench with the first `length` bytes, saved into the first `room` bytes of the shelf.
 fn saved(slots: [Slot; 8], mem: &[u8], length: usize, shelf: &mut [u8], room: usize) -> Saved {
     let end = least(length, mem.len());
     let n = least(room, shelf.len());
-    plungerhen::save(Bus { slots }, &mem[..end], &mut shelf[..n])
+    save_entry::save(Bus { slots }, &mem[..end], &mut shelf[..n])
 }
 
 // The form's length or the refusal.
@@ -81,7 +94,7 @@ fn save(b: Bench, mem: &[u8; 8192], shelf: &mut [u8; 8192], room: u32) {
 fn restored(slots: [Slot; 8], mem: &mut [u8], length: usize, shelf: &[u8], size: usize) -> Outcome {
     let end = least(length, mem.len());
     let n = least(size, shelf.len());
-    plungerhen::restore(Bus { slots }, &mut mem[..end], &shelf[..n])
+    save_restore::restore(Bus { slots }, &mut mem[..end], &shelf[..n])
 }
 
 // A restore, and what came of it.

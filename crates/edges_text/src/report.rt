@@ -2,7 +2,6 @@
 ghost use Prim.Native.Nat.{_<_};
 use super::names;
 use super::state;
-use capture_rules::Verdict;
 use libc::STDOUT_FILENO;
 use rules::Answer;
 use rules::Outcome;
@@ -193,17 +192,6 @@ pub fn at(mem: &[u8; 8192], n: u32, i: u32) {
     sign(b':');
     sign(b' ');
     hex(state::wide(mem[(512 * (n % 16) + i % 512) as usize]));
-}
-
-// The verdict on a capture: its line as the capture program writes it, but for the line's end, which is the try's own.
-pub fn verdict(v: Verdict) {
-    let mut out = [0u8; 32];
-    let end = capture_pieces::text::put_verdict(&mut out, v);
-    sign(b':');
-    sign(b' ');
-    if 0 < end {
-        io::write_all(STDOUT_FILENO, &out[..end - 1]);
-    }
 }
 
 // What stands at the answer places of a list: the lines as the list program writes them, each behind a space instead of its end.

@@ -6,8 +6,8 @@ ghost use Prim.Native.Nat.{_≤_};
 ghost use lib.ListN.{length};
 use libc::STDERR_FILENO;
 use libc::STDOUT_FILENO;
-use plungerhen::Bus;
-use plungerhen::Pair;
+use rules::Bus;
+use rules::Pair;
 
 // Bytes of the bench's form.
 const FORM: usize = 4276;
@@ -41,7 +41,7 @@ fn save_laps(bus: Bus, mem: &mut [u8], form: &mut [u8], count: u64) -> u8
 {
     let mut at = bus;
     for _ in 0..count {
-        plungerhen::save(at, mem, form);
+        save_entry::save(at, mem, form);
         mem[0] = up(form[FIRST]);
         at = counted(at, up(form[COUNTER]));
     }
@@ -54,7 +54,7 @@ fn restore_laps(bus: Bus, mem: &mut [u8], form: &mut [u8], count: u64) -> u8
 {
     let mut at = bus;
     for _ in 0..count {
-        let restored = plungerhen::restore(at, mem, form);
+        let restored = save_restore::restore(at, mem, form);
         at = restored.bus;
         form[FIRST] = up(mem[0]);
         form[COUNTER] = up(counter_of(at));
@@ -88,11 +88,11 @@ fn finish(last: u8, count: u64, room: &mut [u8])
 
 // The laps that a letter asks for, from a bench whose form has been saved once.
 pub fn run(letter: u8, count: u64) {
-    let made = plungerhen::setup([Pair { kind: 2, length: 5 }; 8]);
+    let made = bus_setup::setup([Pair { kind: 2, length: 5 }; 8]);
     let bus = made.bus;
     let mut mem = [0xFFu8; 4096];
     let mut form = [0u8; FORM];
-    plungerhen::save(bus, &mem, &mut form);
+    save_entry::save(bus, &mem, &mut form);
     if letter == b's' {
         let last = save_laps(bus, &mut mem, &mut form, count);
         finish(last, count, &mut form);

@@ -5,12 +5,12 @@ ghost use Prim.Native.Nat.{_≤_};
 ghost use Rattle.list_entry.specs.Lists.{eventsOf};
 use libc::STDERR_FILENO;
 use libc::STDOUT_FILENO;
-use plungerhen::Answer;
-use plungerhen::Bus;
-use plungerhen::Event;
-use plungerhen::Outcome;
-use plungerhen::Pair;
-use plungerhen::SlotNo;
+use rules::Answer;
+use rules::Bus;
+use rules::Event;
+use rules::Outcome;
+use rules::Pair;
+use rules::SlotNo;
 
 // The bus after some events, and the sum of what their answers weigh.
 struct Summed {
@@ -48,7 +48,7 @@ fn give(bus: Bus, mem: &mut [u8], list: [Event; 64], answers: [Answer; 64]) -> S
         × (now (mem .exit) ≡ eventsOf bus (now (mem .entry)) list answers .1) ⌝ }
 {
     let mut lent = answers;
-    let done = plungerhen::events(bus, mem, &list, &mut lent);
+    let done = list_entry::events(bus, mem, &list, &mut lent);
     sum_up(done, lent)
 }
 
@@ -82,7 +82,7 @@ fn one_by_one(bus: Bus, mem: &mut [u8], list: [Event; 64]) -> Summed {
     let mut at = bus;
     let mut sum = 0u8;
     for i in 0..64usize {
-        let done = plungerhen::event(at, mem, list[i]);
+        let done = bus_event::event(at, mem, list[i]);
         at = done.bus;
         let answer = done.answer;
         let w = weight(answer);
@@ -139,7 +139,7 @@ fn finish(right: u64, count: u64) {
 
 // So many laps, behind one that says what a lap comes to.
 pub fn run(in_one_call: bool, count: u64) {
-    let made = plungerhen::setup([Pair { kind: 2, length: 5 }; 8]);
+    let made = bus_setup::setup([Pair { kind: 2, length: 5 }; 8]);
     let bus = made.bus;
     let mut mem = [0xFFu8; 4096];
     let list = events();

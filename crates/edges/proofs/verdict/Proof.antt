@@ -3,8 +3,8 @@
 use native.Mathlib.Omega.{arith}
 use borrow.Author.Needs.{needs}
 use lib.ListN.{length-take}
-use Rattle.edges_text.proofs.report.verdict.Statement.{statement}
-use Rattle.edges_text.proofs.report.verdict.Tie as tie
+use Rattle.edges.proofs.verdict.Statement.{statement}
+use Rattle.edges.proofs.verdict.Tie as tie
 
 pub verdict-spec : {M : Type 1} → statement M
 verdict-spec =
