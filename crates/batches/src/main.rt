@@ -19,7 +19,7 @@ fn room() -> [u8; 16384]
     [0; 16384]
 }
 
-// And for what is written of it, which `lending` asks for as many bytes as any list needs.
+// And for what is written of it, which `list_lend` asks for as many bytes as any list needs.
 fn page() -> [u8; 262140]
     ensures { λ r. ⌜ 262140 ≡ length r ⌝ }
 {

@@ -1,5 +1,5 @@
-// The checker: the verdict on a whole capture. What a verdict is, and what it says of the model, stands in the crate captures; a capture that is too
-// long to lend is checked by `pieces` alone.
+// The checker: the verdict on a whole capture. What a verdict is, and what it says of the model, stands in the crate
+// `capture_rules`; a capture that is too long to lend is checked by `capture_pieces::pieces` alone.
 ghost use mathlib.Core.Path.{_≡_};
 ghost use Rattle.capture_rules.specs.Capture.{verdictOf};
 use capture_rules::Verdict;

@@ -1,5 +1,5 @@
 // A capture's records, checked piece by piece: whoever reads a long capture calls `piece` for what has come, and goes on from the bus and the memory
-// that it leaves for as long as all agrees. What a verdict is stands in the crate captures.
+// that it leaves for as long as all agrees. What a verdict is stands in the crate `capture_rules`.
 ghost use mathlib.Core.Path.{_≡_};
 ghost use mathlib.Core.Bool.{true};
 ghost use Prim.Native.Nat.{_+_, _≤_};

@@ -39,7 +39,8 @@ unfoldable pub leftOver : List ℕ → ℕ
 leftOver bs = length bs % 6
 
 -- "the model gives each of those answers": the model's answer beside the captured one, its "code (0 nothing, 1 ACK, 2 NACK, 3 data, 4 refused)
--- and its byte (the data byte, the refusal's number, else ignored)". "A record that the model refuses differs, whatever was captured".
+-- and its byte (the data byte, the refusal's number, else ignored)". "A record that the model refuses counts as
+-- differing", whatever was captured.
 unfoldable pub agrees : Answer → Seen → Bool
 agrees answer.Nothing s = eqb (s .code) 0
 agrees answer.Ack s = eqb (s .code) 1

@@ -1,6 +1,7 @@
 // The list program: a setup, a number of answer places and records on standard input; the records given as one list, and a line for each answer
 // place on standard output, or what stands in the way. It begins by `opening`, reads, and writes what `answer` puts at the front of the output: all
-// that decides is said and proved there, in `lending` and in `batch`. The status that a result has, the script `run` gives it (the file status).
+// that decides is said and proved there, in `list_lend` and in `list_entry`. The status that a result has, the script `run` gives it (the file
+// status).
 ghost use mathlib.Core.Path.{_≡_};
 ghost use Prim.Native.Nat.{_≤_};
 ghost use lib.ListN.{length};

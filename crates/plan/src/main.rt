@@ -1,7 +1,7 @@
 // The plan program: a setup, a memory, a slot, an image and records on standard input; the plan for the slot and the image, after the records, on
-// standard output. It begins by `opening`, reads, runs the records by `reading`, hands what came to `planning` and `listing`, and writes what was
-// put at the front of the output: all that decides is said and proved there and in `answer`. The status that a result has, the script `run` gives
-// it (the file status).
+// standard output. It begins by `opening`, reads, runs the records by `reading`, hands what came to `plan_entry` and `plan_pages::text`, and
+// writes what was put at the front of the output: all that decides is said and proved there and in `answer`. The status that a result has, the
+// script `run` gives it (the file status).
 ghost use mathlib.Core.Path.{_≡_};
 ghost use mathlib.Core.Bool.{true};
 ghost use Prim.Native.Nat.{_≤_};

@@ -1,5 +1,5 @@
 // The planner: the records of a script that brings one slot's memory to an image. What a plan is, and what it does on the bus, stands in the
-// crate planner.
+// crate `plan_rules`.
 ghost use mathlib.Core.Path.{_≡_};
 ghost use Rattle.plan_rules.specs.Plan.{wrongLengths, noSuchSlot, planOf};
 use plan_rules::Planned;

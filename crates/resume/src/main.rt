@@ -1,6 +1,6 @@
 // The resume program: a saved form's length, the form and records on standard input; a line for each event on standard output, from the bench that
 // the form restores to. It reads the form, begins with what came by `begin`, and goes on by `reading`: all that decides is said and proved there
-// and in `restoring`. The status that a result has, the script `run` gives it.
+// and in `save_restore`. The status that a result has, the script `run` gives it.
 ghost use mathlib.Core.Path.{_≡_};
 ghost use mathlib.Core.Bool.{true, false};
 ghost use Prim.Native.Nat.{_+_, _*_, _≤_};

@@ -102,6 +102,7 @@ ruledFor kind e =
     (cond (wrongValue e) (Refused WrongValue)
     (Taken (actOf e))))
 
+-- "Refusals 2, 3 and 4 depend on the event and the setup alone": on the kinds, which no event changes
 unfoldable pub ruledBy : List ℕ → Event → Ruling
 ruledBy kinds e = ruledFor (kindAt kinds (e .slot)) e
 

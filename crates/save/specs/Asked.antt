@@ -21,7 +21,7 @@ use Rattle.save_rules.specs.Saving.{allQuiet, saveOf}
 use Rattle.script_streams.specs.Written.{Written, onOutput, onErrors}
 use Rattle.save.specs.declared.Answered.{Answered}
 
--- bytes of the longest form, that of eight slots of kind 2 (`saved` shows that none is longer: proofs/Places.length-most): four heads of 3, and in
+-- bytes of the longest form, that of eight slots of kind 2 (none is longer: `save_rules/Places.length-most`): four heads of 3, and in
 -- them 16, 4,096, 32 and 120
 abbrev pub longestForm : ℕ
 longestForm = 4276

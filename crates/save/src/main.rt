@@ -1,6 +1,6 @@
 // The save program: a setup and records on standard input; the bench's saved form after the records on standard output, or what stands in the way
 // on standard error. It begins by `opening`, runs the records by `reading`, and writes what `answer` puts at the front of the output: all that
-// decides is said and proved there and in `saving`. The status that a result has, the script `run` gives it.
+// decides is said and proved there and in `save_entry`. The status that a result has, the script `run` gives it.
 ghost use mathlib.Core.Path.{_≡_};
 ghost use mathlib.Core.Bool.{true};
 ghost use Prim.Native.Nat.{_≤_};

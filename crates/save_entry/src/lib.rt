@@ -1,4 +1,4 @@
-// Saving a bench: its form, put into a lent buffer. What a form is, and what holds of it, stands in the crate saved.
+// Saving a bench: its form, put into a lent buffer. What a form is, and what holds of it, stands in the crate `save_rules`.
 ghost use mathlib.Core.Path.{_≡_};
 ghost use mathlib.Core.List.{_∷_};
 ghost use Prim.Native.Nat.{_+_, _≤_, _<_};

@@ -1,5 +1,5 @@
 // A slot's share of each field of a saved form: how many bytes it is, put into a lent output, and read from a form. The table of fields stands in the
-// crate saved, and its rows are 0 to 3; the row of a field is its tag less 1.
+// crate `save_rules`, and its rows are 0 to 3; the row of a field is its tag less 1.
 ghost use mathlib.Core.Path.{_≡_};
 ghost use mathlib.Core.Bool.{cond};
 ghost use Prim.Native.Nat.{_+_, _≤_};

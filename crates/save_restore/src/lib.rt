@@ -1,4 +1,4 @@
-// Reading a saved form: a bench restored, or the form refused. What a form is, and what holds of it, stands in the crate saved.
+// Reading a saved form: a bench restored, or the form refused. What a form is, and what holds of it, stands in the crate `save_rules`.
 ghost use mathlib.Core.Path.{_≡_};
 ghost use mathlib.Core.List.{_∷_};
 ghost use Prim.Native.Nat.{_+_, _≤_, _<_};

@@ -1,5 +1,5 @@
 -- The program's turn, on the bytes that were read and the buffers that are lent. What it has written is the front of the output, as far as its
--- end says. The beginning, turn after turn, and the end write `scriptOf`: proofs/Whole.
+-- end says. The beginning, turn after turn, and the end write `scriptOf`: proofs/turns/Whole.
 -- Assumes nothing.
 use Prim.Native.Nat.{ℕ, _+_}
 use mathlib.Core.List.{List, _++_}

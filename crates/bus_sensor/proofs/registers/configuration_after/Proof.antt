@@ -1,4 +1,4 @@
--- `sensor::configuration_after`: the two tests, folded to the definition's, choose the same branch.
+-- `registers::configuration_after`: the two tests, folded to the definition's, choose the same branch.
 -- Assumes nothing.
 use borrow.Author.Needs.{needs}
 use Rattle.rules.specs.Sensor.{lockedWrite, configured}

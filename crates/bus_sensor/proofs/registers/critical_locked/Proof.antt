@@ -1,4 +1,4 @@
--- `sensor::critical_locked` is the definition's test.
+-- `registers::critical_locked` is the definition's test.
 -- Assumes nothing.
 use mathlib.Core.Path.{refl}
 use Rattle.rules.specs.Sensor.{criticalLocked}

@@ -1,4 +1,4 @@
--- `sensor::limit_after`: the lock chooses the same branch.
+-- `registers::limit_after`: the lock chooses the same branch.
 -- Assumes nothing.
 use Rattle.bus_sensor.proofs.registers.limit_after.Statement.{statement}
 use Rattle.bus_sensor.proofs.registers.limit_after.Tie as tie

@@ -1,4 +1,4 @@
--- `sensor::limits_locked` is the definition's test.
+-- `registers::limits_locked` is the definition's test.
 -- Assumes nothing.
 use mathlib.Core.Path.{refl}
 use Rattle.rules.specs.Sensor.{limitsLocked}

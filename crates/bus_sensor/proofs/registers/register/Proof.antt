@@ -1,4 +1,4 @@
--- `sensor::register`: each arm at its key, and the last where no key fits.
+-- `registers::register`: each arm at its key, and the last where no key fits.
 -- Assumes nothing.
 use borrow.Author.Needs.{needs}
 use borrow.Author.Tests.{ne-eqb}

@@ -1,4 +1,4 @@
--- `sensor::written`: each arm at its key, under its lock or not, and the last where no key fits.
+-- `registers::written`: each arm at its key, under its lock or not, and the last where no key fits.
 -- Assumes nothing.
 use Prim.Native.Nat.{ℕ}
 use borrow.Author.Needs.{needs}

@@ -1,4 +1,4 @@
--- `sensor::bits`: the low bits are not negative, so the cast keeps them.
+-- `temperature::bits`: the low bits are not negative, so the cast keeps them.
 -- Assumes nothing.
 use native.Mathlib.Omega.{arith}
 use mir.Syntax.{w32}

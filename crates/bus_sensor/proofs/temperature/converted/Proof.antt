@@ -1,4 +1,4 @@
--- `sensor::converted`: shut down, the sensor as it was; else the reading of the stepped number in its place.
+-- `temperature::converted`: shut down, the sensor as it was; else the reading of the stepped number in its place.
 -- Assumes nothing.
 use borrow.Author.Needs.{needs}
 use borrow.Author.Tests.{eq-eqb, ne-eqb}

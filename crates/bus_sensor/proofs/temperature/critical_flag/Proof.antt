@@ -1,4 +1,4 @@
--- `sensor::critical_flag`: the three tests are the definition's, once the signed numbers are read back from their bits.
+-- `temperature::critical_flag`: the three tests are the definition's, once the signed numbers are read back from their bits.
 -- Assumes nothing.
 use borrow.Author.Needs.{needs}
 use Rattle.rules.specs.Sensor.{loweredOf, criticalFlag}

@@ -1,4 +1,4 @@
--- `sensor::flag` tests in the definition's order.
+-- `temperature::flag` tests in the definition's order.
 -- Assumes nothing.
 use Rattle.rules.specs.Sensor.{flagOf}
 use Rattle.bus_sensor.proofs.temperature.flag.Statement.{statement}

@@ -1,4 +1,4 @@
--- `sensor::hysteresis`: each arm at its key, and the last where no key fits.
+-- `temperature::hysteresis`: each arm at its key, and the last where no key fits.
 -- Assumes nothing.
 use borrow.Author.Tests.{ne-eqb}
 use Rattle.rules.specs.Sensor.{hysteresisOf}

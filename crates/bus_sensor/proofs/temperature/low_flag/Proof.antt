@@ -1,4 +1,4 @@
--- `sensor::low_flag`: the three tests are the definition's, once the signed numbers are read back from their bits.
+-- `temperature::low_flag`: the three tests are the definition's, once the signed numbers are read back from their bits.
 -- Assumes nothing.
 use borrow.Author.Needs.{needs}
 use Rattle.rules.specs.Sensor.{loweredOf, lowFlag}

@@ -1,4 +1,4 @@
--- `sensor::lowered`: 13 bits of a limit and a small hysteresis, so the difference fits.
+-- `temperature::lowered`: 13 bits of a limit and a small hysteresis, so the difference fits.
 -- Assumes nothing.
 use Prim.Native.Nat.{ℕ, _/_, _%_, _<_}
 use native.Mathlib.Omega.{arith}

@@ -1,4 +1,4 @@
--- `sensor::reading`: a raised flag is at most its bit, so the sum fits.
+-- `temperature::reading`: a raised flag is at most its bit, so the sum fits.
 -- Assumes nothing.
 use Prim.Native.Nat.{ℕ, _+_, _≤_}
 use native.Mathlib.Omega.{arith}

@@ -1,4 +1,4 @@
--- `sensor::sixteenths`: below 4096 the number itself, and else the number less 8192, which is below zero.
+-- `temperature::sixteenths`: below 4096 the number itself, and else the number less 8192, which is below zero.
 -- Assumes nothing.
 use Prim.Native.Nat.{suc, _-_, _%_}
 use native.Mathlib.Omega.{arith}

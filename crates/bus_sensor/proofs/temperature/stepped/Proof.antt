@@ -1,4 +1,4 @@
--- `sensor::stepped`: one law over half the step, at the halves 4, 2, 1; at steps of 1 the number itself is the nearest.
+-- `temperature::stepped`: one law over half the step, at the halves 4, 2, 1; at steps of 1 the number itself is the nearest.
 -- Assumes nothing.
 use native.Mathlib.Omega.{arith}
 use borrow.Author.Tests.{ne-eqb}

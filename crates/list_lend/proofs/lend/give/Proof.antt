@@ -1,4 +1,4 @@
--- `lending::give` meets its contract: a walk of its MIR, by hand. The fronts of two local arrays of records are lent as slices for two lifetimes of the call of
+-- `lend::give` meets its contract: a walk of its MIR, by hand. The fronts of two local arrays of records are lent as slices for two lifetimes of the call of
 -- `events`, and come back; then the answers go to `put_list` by value. All that it knows of the two is that they meet their contracts.
 -- Assumes nothing.
 use mathlib.Core.Path.{_≡_, refl, sym, _∙_, ap, subst}
