@@ -19,6 +19,7 @@ use Rattle.rules.specs.declared.Refusal.{Refusal}
 use Rattle.rules.specs.declared.Refusal.the-variants.{MemoryLength, UnknownKind, WrongSlot, WrongValue, WrongSetup, WrongState, ProtectedPage, Busy, TooShort, WrongForm}
 use Rattle.rules.specs.declared.Ruling.{Ruling}
 use Rattle.rules.specs.declared.Ruling.the-variants.{Taken, Refused}
+use Rattle.rules.specs.Modelled.{slotCount}
 use Rattle.rules.specs.Events.{actOf, carried, refusalNumber, letterOf, valueOf}
 use Rattle.rules.specs.Fresh.{setupSlot, absentSlot}
 use Rattle.rules.specs.Bus.{anyAck, shownFor, shown}
@@ -124,6 +125,6 @@ unfolding setupOf letterOf
 setup-good ps e = (rw e, rw e)
 
 pub setup-bad : (ps : List Pair) → allOf goodPair ps ≡ false
-    → (letterOf (setupOf ps .answer) ≡ 0x52) × (valueOf (setupOf ps .answer) ≡ 5) × (setupOf ps .bus .slots ≡ replicate 8 absentSlot)
+    → (letterOf (setupOf ps .answer) ≡ 0x52) × (valueOf (setupOf ps .answer) ≡ 5) × (setupOf ps .bus .slots ≡ replicate slotCount absentSlot)
 unfolding setupOf letterOf valueOf refusalNumber emptyBus
 setup-bad ps e = (rw e, rw e, rw e)
