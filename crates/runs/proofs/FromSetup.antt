@@ -3,4 +3,5 @@ pub mod Reached
 pub mod Together
 pub mod Plain
 pub mod Story
+pub mod OneStory
 pub mod History

@@ -90,6 +90,7 @@ module _ (k : ℕ) (below : k < slotCount) (ps : List Pair) (eight : length ps �
       (setup-everywhere Fresh (λ p e. unfold setupSlot freshSlot in (refl, refl)) (unfold absentSlot freshSlot in (refl, refl)) ps)
 
   -- Protection of slot k changes only at the tick or the cut that ends a cycle which an acknowledged protect or clear of this run began, to what that command asked for.
+  -- The slot stood in that command from its byte to its stop, and the cycle has run from that stop to this event: there is one such stop and one such byte (`OneStory.one-command`).
   abbrev ProtectionTold : Bench → Ruling → Type 0
   ProtectionTold y r = Ended (slot bench) r × CommandBegun k made acts (slot y .protection)
 
@@ -105,7 +106,8 @@ module _ (k : ℕ) (below : k < slotCount) (ps : List Pair) (eight : length ps �
   unfolding next
   protection-changes e ne = protection-ruled (rulingOn e bench) ne
 
-  -- Bytes of slot k change only at the tick or the cut that ends a page write's cycle which a stop of this run began.
+  -- Bytes of slot k change only at the tick or the cut that ends a page write's cycle which a stop of this run began; the cycle has run from that stop, which is one
+  -- (`OneStory.one-page`), to this event.
   abbrev BytesTold : Ruling → Type 0
   BytesTold r = Ended (slot bench) r × PageBegun k made acts (slot bench)
 

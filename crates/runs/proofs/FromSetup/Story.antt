@@ -1,5 +1,6 @@
 -- Over runs: protection changes only at the end of a cycle that an acknowledged protect or clear began, to what that command asked for;
--- bytes change only at the end of a page write's cycle. A cycle ends at its last tick, or where power is lost. Of one slot alone, and a run of acts; `History` carries it to the bench.
+-- bytes change only at the end of a page write's cycle. The cycle that ends is the one that the stop began, and the stop is the one that ended that command's exchange.
+-- A cycle ends at its last tick, or where power is lost. Of one slot alone, and a run of acts; `History` carries it to the bench.
 -- Assumes nothing.
 use Prim.Native.Nat.{ℕ, zero, suc}
 use native.Mathlib.Omega.{arith}
@@ -36,11 +37,33 @@ use Rattle.rules.proofs.Memory.Stored.{pageStart, storing, finishes, finishes-r
 use Rattle.rules.proofs.Memory.Stored as stored
 use Rattle.rules.proofs.Memory.Protection.{Decided, asBefore, asStands, byProtect, byClear, Cycle, asWas, pageBegins, commandBegins, goesOn, powerEnds, protection-next, coming-next, cycle-next}
 use Rattle.runs.proofs.FromSetup.Reached.{Outside, by-outside, Reach, slot-reach}
-use Rattle.runs.proofs.FromSetup.Together.{ticks-outside, taking-steady, command-bare, cycle-marks}
+use Rattle.runs.proofs.FromSetup.Together.{ticks-outside, taking-steady, command-stands, command-bare, cycle-marks}
 
 -- what a cycle stores, and where, is the same in both
 abbrev pub SamePage : Slot → Slot → Type 0
 SamePage s r = (r .latch ≡ s .latch) × (r .marks ≡ s .marks) × (r .counter ≡ s .counter) × (r .half ≡ s .half)
+
+-- the slot stands in a protect or clear, and a slot's cycle runs
+abbrev pub Commanded : Slot → Type 0
+Commanded s = commanding (standing s) ≡ true
+
+abbrev pub Cycling : Slot → Type 0
+Cycling s = s .left ≡ 0 → ⊥
+
+-- P holds of slot n alone, which is s, and of it after each act of a run from there.
+unfoldable pub Throughout : (Slot → Type 0) → ℕ → List Act → Slot → Type 0
+Throughout P n [] s = P s
+Throughout P n (a ∷ r) s = P s × Throughout P n r (slotNext n a s)
+
+throughout-snoc : (P : Slot → Type 0) (n : ℕ) (r : List Act) (a : Act) (s : Slot) → Throughout P n r s → P (slotNext n a (slotAfter n r s)) → Throughout P n (r ++ a ∷ []) s
+unfolding Throughout slotAfter
+throughout-snoc P n [] a s h p = (h, p)
+throughout-snoc P n (b ∷ r) a s h p = (h .0, throughout-snoc P n r a (slotNext n b s) (h .1) p)
+
+throughout-last : (P : Slot → Type 0) (n : ℕ) (r : List Act) (s : Slot) → Throughout P n r s → P (slotAfter n r s)
+unfolding Throughout slotAfter
+throughout-last P n [] s h = h
+throughout-last P n (a ∷ r) s h = throughout-last P n r (slotNext n a s) (h .1)
 
 -- a run that grows at its end
 snoc-induction : (P : List Act → Type 0) → P [] → ((r : List Act) (a : Act) → P r → P (r ++ a ∷ [])) → (r : List Act) → P r
@@ -68,37 +91,40 @@ stop-no-byte : (b : ℕ) → Stop ≡ Byte b → ⊥
 stop-no-byte b e = let z : _≡_ {A = ℕ} 0 1 = cc in omega arith
 
 -- outside an exchange a slot stands outside it
-stands-outside : (s : Slot) → Outside (s .phase) → Outside (standing s)
+pub stands-outside : (s : Slot) → Outside (s .phase) → Outside (standing s)
 stands-outside s o = stands Outside s (inr (inl refl)) o
 
--- a running cycle keeps its page, at every act that does not end it
+-- an act ends a running cycle, and nothing is to come any more, or the cycle runs on and keeps its page
+abbrev RunsOn : Slot → Slot → Type 0
+RunsOn s r = Cycling r × SamePage s r
+
 abbrev Runs : Slot → Slot → Type 0
-Runs s r = (r .left ≡ 0) ⊎ SamePage s r
+Runs s r = ((r .left ≡ 0) × (r .coming ≡ r .protection)) ⊎ RunsOn s r
 
-module _ (n : ℕ) (s : Slot) (o : Outside (standing s)) (l : s .left ≡ 0 → ⊥) where
-  same : SamePage s s
-  same = (refl, refl, refl, refl)
+module _ (n : ℕ) (s : Slot) (o : Outside (standing s)) (l : Cycling s) where
+  same : RunsOn s s
+  same = (l, (refl, refl, refl, refl))
 
-  -- the four fields, of a slot that differs in others
-  unheard : (b : ℕ) → SamePage s (controlled n b s)
+  -- these fields, of a slot that differs in others
+  unheard : (b : ℕ) → RunsOn s (controlled n b s)
   unfolding controlled acksControl open-fields
   unheard b = rw (ne-eqb (s .left) 0 l) same
 
   present-runs : (a : Act) → Runs s (presentNext n a s)
   unfolding open-fields open-memory open-slot powerCut powered freshSlot
-  present-runs Start = inr (by-outside (λ p. SamePage s (letGo p s)) (standing s) same same same o)
-  present-runs (Byte b) = inr (by-outside (λ p. SamePage s (byteIn p n b s)) (standing s) same same (unheard b) o)
-  present-runs (Read more) = inr (by-outside (λ p. SamePage s (readIn p more s)) (standing s) same same same o)
-  present-runs Stop = inr (by-outside (λ p. SamePage s (stopIn p s)) (standing s) same same same o)
-  present-runs Timeout = inr (by-outside (λ p. SamePage s (letGo p s)) (standing s) same same same o)
-  present-runs Tick = cond-cases (Runs s) (eqb (s .left) 1) (λ e. inl refl) (λ e. inr same)
-  present-runs (Voltage k on) = inr (cond-cases (SamePage s) (eqb (k .0) n)
-      (λ e. by-outside (λ p. SamePage s (withVoltage on (cond (commanding p && s .voltage && not on) (lost p s) s))) (standing s) same same same o) (λ e. same))
-  present-runs (Power k) = inl refl
-  present-runs (Temperature k t) = inr (cond-cases (SamePage s) (eqb (k .0) n) (λ e. same) (λ e. same))
+  present-runs Start = inr (by-outside (λ p. RunsOn s (letGo p s)) (standing s) same same same o)
+  present-runs (Byte b) = inr (by-outside (λ p. RunsOn s (byteIn p n b s)) (standing s) same same (unheard b) o)
+  present-runs (Read more) = inr (by-outside (λ p. RunsOn s (readIn p more s)) (standing s) same same same o)
+  present-runs Stop = inr (by-outside (λ p. RunsOn s (stopIn p s)) (standing s) same same same o)
+  present-runs Timeout = inr (by-outside (λ p. RunsOn s (letGo p s)) (standing s) same same same o)
+  present-runs Tick = cond-cases (Runs s) (eqb (s .left) 1) (λ e. inl (refl, refl)) (λ e. inr (λ z. omega (arith, l, eqb-false (s .left) 1 e), same .1))
+  present-runs (Voltage k on) = inr (cond-cases (RunsOn s) (eqb (k .0) n)
+      (λ e. by-outside (λ p. RunsOn s (withVoltage on (cond (commanding p && s .voltage && not on) (lost p s) s))) (standing s) same same same o) (λ e. same))
+  present-runs (Power k) = inl (refl, refl)
+  present-runs (Temperature k t) = inr (cond-cases (RunsOn s) (eqb (k .0) n) (λ e. same) (λ e. same))
 
-running : (n : ℕ) (a : Act) (s : Slot) → Outside (s .phase) → (s .left ≡ 0 → ⊥) → Runs s (slotNext n a s)
-running n a s o l = next-cases (Runs s) n a s (λ e. inr (refl, refl, refl, refl)) (λ e. present-runs n s (stands-outside s o) l a)
+running : (n : ℕ) (a : Act) (s : Slot) → Outside (s .phase) → Cycling s → Runs s (slotNext n a s)
+running n a s o l = next-cases (Runs s) n a s (λ e. inr (l, (refl, refl, refl, refl))) (λ e. present-runs n s (stands-outside s o) l a)
 
 -- the stop that begins a cycle keeps the page, and a command's keeps its latch empty
 stop-next : (P : Slot → Type 0) (n : ℕ) (a : Act) (s : Slot) (p : Phase) → a ≡ Stop → standing s ≡ p → P s → P (inPhase Idle (stopIn p s)) → P (slotNext n a s)
@@ -141,7 +167,7 @@ module _ (n : ℕ) (s₀ : Slot) where
   abbrev at : List Act → Slot
   at r = slotAfter n r s₀
 
-  -- In the run r the slot acknowledged, before r's end, a protect or clear that asks for q.
+  -- In the run r the slot acknowledged a protect or clear that asks for q, and it has stood in that command since, to r's end.
   pub record Asked (r : List Act) (q : List Bool) : Type 0 where
     pub earlier : List Act
     pub byte : ℕ
@@ -150,57 +176,126 @@ module _ (n : ℕ) (s₀ : Slot) where
     pub awaited : standing (at earlier) ≡ Control
     pub acked : acks n byte (at earlier) ≡ true
     pub asks : Asks (heardOf byte) ((at earlier) .protection) q
+    pub stood : Throughout Commanded n later (slotNext n (Byte byte) (at earlier))
 
-  -- In the run r a stop began a cycle for such a command, which had both its bytes.
+  -- In the run r a stop ended such a command's exchange, which had both its bytes, and the cycle that it began has run since, to r's end.
   pub record CommandBegun (r : List Act) (q : List Bool) : Type 0 where
     pub earlier : List Act
     pub later : List Act
     pub parts : r ≡ earlier ++ Stop ∷ later
     pub asked : Asked earlier q
     pub ready : standing (at earlier) ≡ CommandStop
+    pub ran : Throughout Cycling n later (slotNext n Stop (at earlier))
 
-  -- In the run r, after which the slot is s, a stop began a cycle for a page: its latched bytes, and where they go, are still those of the stop.
+  -- In the run r, after which the slot is s, a stop began a cycle for a page, which has run since, to r's end: its latched bytes, and where they go, are still
+  -- those of the stop.
   pub record PageBegun (r : List Act) (s : Slot) : Type 0 where
     pub earlier : List Act
     pub later : List Act
     pub parts : r ≡ earlier ++ Stop ∷ later
     pub taking : standing (at earlier) ≡ MemoryData
     pub page : SamePage (at earlier) s
+    pub ran : Throughout Cycling n later (slotNext n Stop (at earlier))
 
   more : (a : Act) (e : List Act) (b : Act) (l r : List Act) → r ≡ e ++ b ∷ l → r ++ a ∷ [] ≡ e ++ b ∷ (l ++ a ∷ [])
   more a e b l r p = ap (_++ a ∷ []) p ∙ append-assoc e (b ∷ l) (a ∷ [])
 
-  asked-on : (a : Act) {r : List Act} {q : List Bool} → Asked r q → Asked (r ++ a ∷ []) q
-  asked-on a {r} h =
-      record { earlier = h .earlier; byte = h .byte; later = h .later ++ a ∷ []; parts = more a (h .earlier) (Byte (h .byte)) (h .later) r (h .parts); awaited = h .awaited; acked = h .acked; asks = h .asks }
+  -- what has held since the act b, behind the run e, holds at the end of the whole run r, and goes on where the next act leaves it
+  at-end : (e : List Act) (b : Act) (l r : List Act) → r ≡ e ++ b ∷ l → at r ≡ slotAfter n l (slotNext n b (at e))
+  unfolding slotAfter
+  at-end e b l r p = ap at p ∙ slots-joined n e (b ∷ l) s₀
 
-  begun-on : (a : Act) {r : List Act} {q : List Bool} → CommandBegun r q → CommandBegun (r ++ a ∷ []) q
-  begun-on a {r} h = record { earlier = h .earlier; later = h .later ++ a ∷ []; parts = more a (h .earlier) Stop (h .later) r (h .parts); asked = h .asked; ready = h .ready }
+  since-end : (P : Slot → Type 0) (e : List Act) (b : Act) (l r : List Act) → r ≡ e ++ b ∷ l → Throughout P n l (slotNext n b (at e)) → P (at r)
+  since-end P e b l r p h = subst P (sym (at-end e b l r p)) (throughout-last P n l (slotNext n b (at e)) h)
+
+  since-on : (P : Slot → Type 0) (a : Act) (e : List Act) (b : Act) (l r : List Act) → r ≡ e ++ b ∷ l → Throughout P n l (slotNext n b (at e)) → P (slotNext n a (at r))
+      → Throughout P n (l ++ a ∷ []) (slotNext n b (at e))
+  since-on P a e b l r p h q = throughout-snoc P n l a (slotNext n b (at e)) h (subst (λ (s : Slot). P (slotNext n a s)) (at-end e b l r p) q)
+
+  asked-on : (a : Act) {r : List Act} {q : List Bool} → Asked r q → Commanded (slotNext n a (at r)) → Asked (r ++ a ∷ []) q
+  asked-on a {r} h c = record {
+    earlier = h .earlier;
+    byte = h .byte;
+    later = h .later ++ a ∷ [];
+    parts = more a (h .earlier) (Byte (h .byte)) (h .later) r (h .parts);
+    awaited = h .awaited;
+    acked = h .acked;
+    asks = h .asks;
+    stood = since-on Commanded a (h .earlier) (Byte (h .byte)) (h .later) r (h .parts) (h .stood) c;
+  }
+
+  begun-on : (a : Act) {r : List Act} {q : List Bool} → CommandBegun r q → Cycling (slotNext n a (at r)) → CommandBegun (r ++ a ∷ []) q
+  begun-on a {r} h c = record {
+    earlier = h .earlier;
+    later = h .later ++ a ∷ [];
+    parts = more a (h .earlier) Stop (h .later) r (h .parts);
+    asked = h .asked;
+    ready = h .ready;
+    ran = since-on Cycling a (h .earlier) Stop (h .later) r (h .parts) (h .ran) c;
+  }
 
   -- A protection to come that does not stand was asked for by an acknowledged command, which awaits its stop, or whose cycle runs.
   abbrev Told : List Act → Slot → Type 0
   Told r s = (s .coming ≡ s .protection → ⊥) → ((s .left ≡ 0) × Asked r (s .coming)) ⊎ CommandBegun r (s .coming)
 
-  -- what an act decides, by the cases of `coming-next` and `cycle-next`
-  module _ (r : List Act) (a : Act) (t : Slot) (reach : Reach (at r)) (told : Told r (at r)) where
+  -- what an act decides, by the cases of `coming-next` and `cycle-next`, where what is to come after it does not stand
+  module _ (r : List Act) (a : Act) (reach : Reach (at r)) (told : Told r (at r)) (ne : (slotNext n a (at r)) .coming ≡ (slotNext n a (at r)) .protection → ⊥) where
+    abbrev t : Slot
+    t = slotNext n a (at r)
+
     abbrev Tells : Type 0
     Tells = ((t .left ≡ 0) × Asked (r ++ a ∷ []) (t .coming)) ⊎ CommandBegun (r ++ a ∷ []) (t .coming)
 
-    -- nothing decided: the command goes on, or its stop begins the cycle
-    waits : t .coming ≡ (at r) .coming → ((at r) .coming ≡ (at r) .protection → ⊥) → (at r) .left ≡ 0 → Asked r ((at r) .coming) → Cycle a (at r) (t .left) → Tells
-    waits same ne z w (asWas l) = inl (l ∙ z, asked-on a (subst (Asked r) (sym same) w))
-    waits same ne z w (pageBegins e p m l) = absurd (ne (taking-steady (at r) reach p))
-    waits same ne z w (commandBegins e p l) =
-        inr (record { earlier = r; later = []; parts = ap (λ (b : Act). r ++ b ∷ []) e; asked = subst (Asked r) (sym same) w; ready = p })
-    waits same ne z w (goesOn e l) = inl (l ∙ omega arith, asked-on a (subst (Asked r) (sym same) w))
-    waits same ne z w (powerEnds k e l) = inl (l, asked-on a (subst (Asked r) (sym same) w))
+    -- so with no ticks left it stands in a command
+    in-command : t .left ≡ 0 → Commanded t
+    in-command z = command-stands t (slot-reach n a (at r) reach) ne z
 
-    goes : t .coming ≡ (at r) .coming → ((at r) .coming ≡ (at r) .protection → ⊥) → Cycle a (at r) (t .left) → Tells
-    goes same ne y = ⊎-elim (λ w. waits same ne (w .0) (w .1) y) (λ w. inr (begun-on a (subst (CommandBegun r) (sym same) w))) (told ne)
+    -- nothing decided: the command goes on, or its stop begins the cycle
+    begins : ((at r) .coming ≡ (at r) .protection → ⊥) → (at r) .left ≡ 0 → Asked r (t .coming) → Cycling t → Cycle a (at r) (t .left) → Tells
+    unfolding Throughout
+    begins d z w l (asWas f) = absurd (l (f ∙ z))
+    begins d z w l (pageBegins e p m f) = absurd (d (taking-steady (at r) reach p))
+    begins d z w l (commandBegins e p f) = inr (record {
+      earlier = r;
+      later = [];
+      parts = ap (λ (b : Act). r ++ b ∷ []) e;
+      asked = w;
+      ready = p;
+      ran = subst (λ (b : Act). Cycling (slotNext n b (at r))) e l;
+    })
+    begins d z w l (goesOn e f) = absurd (l (f ∙ omega (arith, z)))
+    begins d z w l (powerEnds k e f) = absurd (l f)
+
+    waits : ((at r) .coming ≡ (at r) .protection → ⊥) → (at r) .left ≡ 0 → Asked r (t .coming) → Tells
+    waits d z w = by-test (eqb (t .left) 0) (λ e. let none : t .left ≡ 0 = eqb-true (t .left) 0 e in inl (none, asked-on a w (in-command none)))
+        (λ e. begins d z w (eqb-false (t .left) 0 e) (cycle-next n a (at r)))
+
+    -- or the cycle runs on
+    still : Cycling (at r) → Cycling t
+    still l = ⊎-elim (λ e. absurd (ne (e .1))) (λ q. q .0) (running n a (at r) (ticks-outside (at r) reach l) l)
+
+    goes : t .coming ≡ (at r) .coming → ((at r) .coming ≡ (at r) .protection → ⊥) → Tells
+    goes same d = ⊎-elim (λ w. waits d (w .0) (subst (Asked r) (sym same) (w .1)))
+        (λ w. inr (begun-on a (subst (CommandBegun r) (sym same) w) (still (since-end Cycling (w .earlier) Stop (w .later) r (w .parts) (w .ran))))) (told d)
 
     -- a command acknowledged: the byte is the run's last act, and no cycle runs
-    asked-now : (b : ℕ) → a ≡ Byte b → standing (at r) ≡ Control → acks n b (at r) ≡ true → Asks (heardOf b) ((at r) .protection) (t .coming) → Cycle a (at r) (t .left) → Tells
-    asked-now b e p k q y = inl (none-left y, record { earlier = r; byte = b; later = []; parts = ap (λ (c : Act). r ++ c ∷ []) e; awaited = p; acked = k; asks = q })
+    asked-now : (b : ℕ) → a ≡ Byte b → standing (at r) ≡ Control → acks n b (at r) ≡ true → Asks (heardOf b) ((at r) .protection) (t .coming) → Tells
+    unfolding Throughout
+    asked-now b e p k q =
+        let none : t .left ≡ 0 = none-left (cycle-next n a (at r)) in
+        inl (
+          none,
+          record {
+            earlier = r;
+            byte = b;
+            later = [];
+            parts = ap (λ (c : Act). r ++ c ∷ []) e;
+            awaited = p;
+            acked = k;
+            asks = q;
+            stood = subst (λ (c : Act). Commanded (slotNext n c (at r))) e (in-command none);
+          },
+        )
       where
         free : (at r) .left ≡ 0
         free = eqb-true ((at r) .left) 0 (acked-free n b (at r) p k)
@@ -212,27 +307,30 @@ module _ (n : ℕ) (s₀ : Slot) where
         none-left (goesOn f l) = l ∙ omega (arith, free)
         none-left (powerEnds k f l) = l
 
-    decides : t .protection ≡ cond (finishes a (at r) && not (absent (at r))) ((at r) .coming) ((at r) .protection)
-        → (t .coming ≡ t .protection → ⊥) → Cycle a (at r) (t .left) → Decided n a (at r) (t .protection) (t .coming) → Tells
-    decides q ne y (asStands e) = absurd (ne e)
-    decides q ne y (byProtect b k e p f h c) =
-        asked-now b e p f (subst (λ (x : Heard). Asks x ((at r) .protection) (t .coming)) (sym h) (subst (Asks (heard.Protect k) ((at r) .protection)) (sym c) (protect k ((at r) .protection)))) y
-    decides q ne y (byClear b e p f h c) =
-        asked-now b e p f (subst (λ (x : Heard). Asks x ((at r) .protection) (t .coming)) (sym h) (subst (Asks heard.ClearAll ((at r) .protection)) (sym c) (clear ((at r) .protection)))) y
-    decides q ne y (asBefore e) = by-test ends (λ f. absurd (ne (e ∙ sym (q ∙ cond-true ends _ _ f)))) (λ f. goes e (λ c. ne (e ∙ c ∙ sym (q ∙ cond-false ends _ _ f))) y)
+    decides : Decided n a (at r) (t .protection) (t .coming) → Tells
+    decides (asStands e) = absurd (ne e)
+    decides (byProtect b k e p f h c) =
+        asked-now b e p f (subst (λ (x : Heard). Asks x ((at r) .protection) (t .coming)) (sym h) (subst (Asks (heard.Protect k) ((at r) .protection)) (sym c) (protect k ((at r) .protection))))
+    decides (byClear b e p f h c) =
+        asked-now b e p f (subst (λ (x : Heard). Asks x ((at r) .protection) (t .coming)) (sym h) (subst (Asks heard.ClearAll ((at r) .protection)) (sym c) (clear ((at r) .protection))))
+    decides (asBefore e) = by-test ends (λ f. absurd (ne (e ∙ sym (q ∙ cond-true ends _ _ f)))) (λ f. goes e (λ c. ne (e ∙ c ∙ sym (q ∙ cond-false ends _ _ f))))
       where
         ends : Bool
         ends = finishes a (at r) && not (absent (at r))
 
+        q : t .protection ≡ cond ends ((at r) .coming) ((at r) .protection)
+        q = protection-next n a (at r)
+
   told-snoc : Reach s₀ → (r : List Act) (a : Act) → Told r (at r) → Told (r ++ a ∷ []) (at (r ++ a ∷ []))
   told-snoc reach r a told = subst (Told (r ++ a ∷ [])) (sym (slot-snoc n r a s₀))
-      (λ ne. decides r a (slotNext n a (at r)) (run-reach n r s₀ reach) told (protection-next n a (at r)) ne (cycle-next n a (at r)) (coming-next n a (at r)))
+      (λ ne. decides r a (run-reach n r s₀ reach) told ne (coming-next n a (at r)))
 
   pub told : Reach s₀ → s₀ .coming ≡ s₀ .protection → (r : List Act) → Told r (at r)
   unfolding slotAfter
   told reach calm = snoc-induction (λ (r : List Act). Told r (at r)) (λ ne. absurd (ne calm)) (told-snoc reach)
 
-  -- Protection changes only at the tick or the cut that ends a cycle which an acknowledged protect or clear began, to what that command asked for.
+  -- Protection changes only at the tick or the cut that ends a cycle which an acknowledged protect or clear began, to what that command asked for: the cycle runs
+  -- since the stop that ended the exchange in which the command stood since its byte.
   pub protection-story : Reach s₀ → s₀ .coming ≡ s₀ .protection → (r : List Act) (a : Act)
       → ((slotNext n a (at r)) .protection ≡ (at r) .protection → ⊥)
       → (finishes a (at r) ≡ true) × CommandBegun r ((slotNext n a (at r)) .protection)
@@ -249,20 +347,22 @@ module _ (n : ℕ) (s₀ : Slot) where
 
   -- Latched bytes in a running cycle are those of the stop that began it.
   abbrev Pages : List Act → Slot → Type 0
-  Pages r s = (s .left ≡ 0 → ⊥) → anyMark (s .marks) ≡ true → PageBegun r s
+  Pages r s = Cycling s → anyMark (s .marks) ≡ true → PageBegun r s
 
-  page-on : (a : Act) (r : List Act) (t : Slot) → PageBegun r (at r) → SamePage (at r) t → PageBegun (r ++ a ∷ []) t
-  page-on a r t h q = record {
+  page-on : (a : Act) (r : List Act) → PageBegun r (at r) → RunsOn (at r) (slotNext n a (at r)) → PageBegun (r ++ a ∷ []) (slotNext n a (at r))
+  page-on a r h (c, q) = record {
     earlier = h .earlier;
     later = h .later ++ a ∷ [];
     parts = more a (h .earlier) Stop (h .later) r (h .parts);
     taking = h .taking;
     page = (q .0 ∙ h .page .0, q .1 ∙ h .page .1, q .2 ∙ h .page .2, q .3 ∙ h .page .3);
+    ran = since-on Cycling a (h .earlier) Stop (h .later) r (h .parts) (h .ran) c;
   }
 
   -- a cycle that runs goes on, or one begins
   pages-next : (r : List Act) (a : Act) → Reach (at r) → Pages r (at r) → Pages (r ++ a ∷ []) (slotNext n a (at r))
-  pages-next r a reach pages l m = by-test (eqb (s .left) 0) (λ z. starts (eqb-true (s .left) 0 z) (cycle-next n a s)) (λ z. ⊎-elim (λ none. absurd (l none)) (λ q. page-on a r t (pages (eqb-false (s .left) 0 z) (sym (ap anyMark (q .1)) ∙ m)) q) (running n a s (ticks-outside s reach (eqb-false (s .left) 0 z)) (eqb-false (s .left) 0 z)))
+  unfolding Throughout
+  pages-next r a reach pages l m = by-test (eqb (s .left) 0) (λ z. starts (eqb-true (s .left) 0 z) (cycle-next n a s)) (λ z. ⊎-elim (λ none. absurd (l (none .0))) (λ q. page-on a r (pages (eqb-false (s .left) 0 z) (sym (ap anyMark (q .1 .1)) ∙ m)) q) (running n a s (ticks-outside s reach (eqb-false (s .left) 0 z)) (eqb-false (s .left) 0 z)))
     where
       s : Slot
       s = at r
@@ -275,7 +375,7 @@ module _ (n : ℕ) (s₀ : Slot) where
       starts z (goesOn f e) = absurd (l (e ∙ omega (arith, z)))
       starts z (powerEnds k f e) = absurd (l e)
       starts z (commandBegins f p e) = absurd (false≢true (sym none-marked ∙ sym (ap anyMark (stop-bare n a s f p (command-bare s reach p))) ∙ m))
-      starts z (pageBegins f p k e) = record { earlier = r; later = []; parts = ap (λ (b : Act). r ++ b ∷ []) f; taking = p; page = stop-page n a s f p k }
+      starts z (pageBegins f p k e) = record { earlier = r; later = []; parts = ap (λ (b : Act). r ++ b ∷ []) f; taking = p; page = stop-page n a s f p k; ran = subst (λ (b : Act). Cycling (slotNext n b s)) f l }
 
   pub pages : Reach s₀ → s₀ .left ≡ 0 → (r : List Act) → Pages r (at r)
   unfolding slotAfter
@@ -287,5 +387,5 @@ module _ (n : ℕ) (s₀ : Slot) where
       → (finishes a (at r) ≡ true) × PageBegun r (at r)
   bytes-story reach calm r a m ne =
       let w = stores a (at r) m ne in
-      let runs : (at r) .left ≡ 0 → ⊥ = finishes-runs a (at r) (w .0) in
+      let runs : Cycling (at r) = finishes-runs a (at r) (w .0) in
       (w .0, ⊎-elim (λ e. pages reach calm r runs e) (λ e. absurd ((w .1) e)) (cycle-marks (at r) (run-reach n r s₀ reach) runs))

@@ -33,7 +33,7 @@ reach-by P empty w r t c x = reach-cases (λ (s : Slot). P (s .phase) s) (unfold
     (λ p s e h. holds-by (λ q. P q s) s (w s) (λ q k l m n. r s q l m) (t s) (λ q k l m n. c s q l m n) (λ q k l m n. x s q l m n) (s .phase) (subst (λ (q : Phase). Holds q s) (sym e) h))
 
 -- an outside phase is none of a command, of data, or with a word
-outside-not : (f : Phase → Bool) → f Idle ≡ false → f Deaf ≡ false → f Control ≡ false → (p : Phase) → Outside p → f p ≡ true → ⊥
+pub outside-not : (f : Phase → Bool) → f Idle ≡ false → f Deaf ≡ false → f Control ≡ false → (p : Phase) → Outside p → f p ≡ true → ⊥
 outside-not f i d c p o e = ⊎-elim (λ q. false≢true (sym i ∙ sym (ap f q) ∙ e)) (λ o. ⊎-elim (λ q. false≢true (sym d ∙ sym (ap f q) ∙ e)) (λ q. false≢true (sym c ∙ sym (ap f q) ∙ e)) o) o
 
 -- "A slot in a write cycle acknowledges none": ticks are left only outside an exchange
@@ -73,6 +73,12 @@ InCommand p s = ((commanding p ≡ true) ⊎ (s .left ≡ 0 → ⊥)) × (s .mar
 pub coming-where : (s : Slot) → Reach s → (s .coming ≡ s .protection → ⊥) → InCommand (s .phase) s
 coming-where = reach-by (λ p s. (s .coming ≡ s .protection → ⊥) → InCommand p s) (unfold absentSlot freshSlot in λ c. absurd (c refl))
     (λ s p o w d. let x = waits-coming s w d in (inr (x .0), x .1)) (λ s p c t r d. absurd (d (r .steady))) (λ s r d. absurd (d (r .steady))) (λ s p c t w r d. (inl c, r .no-marks)) (λ s p c t w r d. absurd (d (r .steady)))
+
+-- with no ticks left the slot then stands in a protect or clear
+pub command-stands : (s : Slot) → Reach s → (s .coming ≡ s .protection → ⊥) → s .left ≡ 0 → commanding (standing s) ≡ true
+unfolding absent
+command-stands s (none e) d z = absurd (d (subst (λ (r : Slot). r .coming ≡ r .protection) (sym e) (unfold absentSlot freshSlot in refl)))
+command-stands s (some k l h) d z = ap commanding (stands-own s (ne-eqb (s .kind) 0 k) h) ∙ ⊎-elim (λ c. c) (λ n. absurd (n z)) (coming-where s (some k l h) d .0)
 
 -- "high voltage on": it is on in every phase of a protect or clear
 pub command-high : (s : Slot) → Reach s → commanding (s .phase) ≡ true → s .voltage ≡ true
