@@ -1,22 +1,26 @@
--- A form in full, byte by byte, and what is refused of it: a bench with a memory in slot 0 and a memory with sensor in slot 2.
+-- A form in full, byte by byte, and what is refused of it: a bench with a memory in slot 0 and a memory with sensor in slot 2; and the longest form.
 -- Assumes nothing.
-use Prim.Native.Nat.{ℕ}
+use Prim.Native.Nat.{ℕ, _+_, _/_, _%_}
 use mathlib.Core.Path.{_≡_, refl}
 use mathlib.Core.Bool.{true, false}
-use mathlib.Core.List.{List, [], _∷_, _++_}
+use mathlib.Core.List.{List, [], _∷_, map, _++_}
 use lib.ListN.{length, take, set, replicate}
+use Rattle.proof_lists.specs.Each.{mapFrom}
+use Rattle.rules.specs.declared.Answer.the-variants as answer
 use Rattle.rules.specs.declared.Bus.{Bus}
 use Rattle.rules.specs.declared.Phase.the-variants.{Control, Deaf}
-use Rattle.rules.specs.declared.Refusal.the-variants.{MemoryLength, WrongState, Busy, TooShort}
+use Rattle.rules.specs.declared.Refusal.the-variants.{MemoryLength, WrongState, Busy, TooShort, WrongForm}
 use Rattle.rules.specs.declared.Sensor.{Sensor}
 use Rattle.rules.specs.declared.Slot.{Slot}
 use Rattle.rules.specs.Modelled.{memoryBytes}
-use Rattle.rules.specs.Fields.{inPhase, withLeft}
-use Rattle.rules.specs.Fresh.{freshSensor, absentSlot, atRest}
+use Rattle.rules.specs.Events.{refusalNumber}
+use Rattle.rules.specs.Fields.{inPhase, withLeft, pointing}
+use Rattle.rules.specs.Fresh.{noBlocks, freshSensor, absentSlot, atRest}
+use Rattle.save_rules.specs.declared.Saved.{Saved}
 use Rattle.save_rules.specs.declared.Saved.the-variants.{Form, Refused}
 use Rattle.save_rules.specs.Form.{formOf}
-use Rattle.save_rules.specs.Saving.{saveOf}
-use Rattle.save_rules.specs.Reading.{busIn, memoryIn, accepted}
+use Rattle.save_rules.specs.Saving.{saveOf, savedNumber, savedValue}
+use Rattle.save_rules.specs.Reading.{busIn, memoryIn, accepted, restoreOf}
 use Rattle.save_rules.specs.Open.{open-saved}
 
 -- slot 0: length 3, half 1, counter 80h, block 1 protected, high voltage off; slot 2: length 5, blocks 0 and 2 protected, high voltage on
@@ -151,3 +155,55 @@ departures = record {
   high-timeout = refl;
   wrong-timeout = refl;
 }
+
+-- Reading: a memory of another length comes first, then a form that is not accepted; both leave the bus, and every byte of the memory, though all but the form's last
+-- byte is right. The old bus is not looked at: it may be busy, and out of range.
+abbrev oldBus : Bus
+oldBus = withSlots memoryOne (withLeft 9 (inPhase Deaf memoryOne))
+
+pub record Readings : Type 0 where
+  pub one-less : restoreOf oldBus (replicate 4095 0) [] ≡ (record { bus = oldBus; answer = answer.Refused MemoryLength }, replicate 4095 0)
+  pub one-more : restoreOf oldBus (replicate 4097 0) sampleForm ≡ (record { bus = oldBus; answer = answer.Refused MemoryLength }, replicate 4097 0)
+  pub wrong-form : restoreOf oldBus blank (set sampleForm 1074 0x02) ≡ (record { bus = oldBus; answer = answer.Refused WrongForm }, blank)
+  pub right-form : restoreOf oldBus blank sampleForm ≡ (record { bus = sampleBus; answer = answer.Nothing }, memoryIn sampleForm blank)
+
+pub readings : Readings
+unfolding open-saved
+readings = record { one-less = refl; one-more = refl; wrong-form = refl; right-form = refl }
+
+-- The number and the value of each result of saving.
+pub numbers : map {B = ℕ × ℕ} (λ (r : Saved). (savedNumber r, savedValue r)) (Refused MemoryLength ∷ Refused WrongState ∷ Refused Busy ∷ Refused TooShort ∷ Form 1075 ∷ [])
+    ≡ (1, 0) ∷ (6, 0) ∷ (8, 0) ∷ (9, 0) ∷ (0, 1075) ∷ []
+unfolding savedNumber savedValue refusalNumber
+numbers = refl
+
+-- The longest form: eight memories with sensors, told apart by counter and pointer. Byte j of slot k is j / (k + 1), modulo 256, so that no two places have the same
+-- bytes in all slots. Every field has the slots in their order, and the memory has each slot's bytes in theirs.
+abbrev numbered : ℕ → Slot
+numbered k = atRest 2 5 0 k noBlocks false (pointing k freshSensor)
+
+abbrev fullBus : Bus
+fullBus = record { slots = map numbered (0 ∷ 1 ∷ 2 ∷ 3 ∷ 4 ∷ 5 ∷ 6 ∷ 7 ∷ []) }
+
+abbrev fullMemory : List ℕ
+fullMemory = mapFrom (λ n b. n % 512 / (n / 512 + 1) % 256) 0 blank
+
+abbrev ofEach : (ℕ → List ℕ) → List ℕ
+ofEach f = f 0 ++ f 1 ++ f 2 ++ f 3 ++ f 4 ++ f 5 ++ f 6 ++ f 7
+
+abbrev fullForm : List ℕ
+fullForm =
+    (0x01 ∷ 0x00 ∷ 0x10 ∷ []) ++ ofEach (λ k. 2 ∷ 5 ∷ [])
+    ++ (0x02 ∷ 0x10 ∷ 0x00 ∷ []) ++ fullMemory
+    ++ (0x03 ∷ 0x00 ∷ 0x20 ∷ []) ++ ofEach (λ k. 0x00 ∷ 0 ∷ k ∷ 0 ∷ [])
+    ++ (0x04 ∷ 0x00 ∷ 0x78 ∷ []) ++ ofEach (λ k. k ∷ replicate 11 0x00 ++ 0x01 ∷ 0x00 ∷ 0x01 ∷ [])
+
+pub record Full : Type 0 where
+  pub form : formOf fullBus fullMemory ≡ fullForm
+  pub saved : saveOf fullBus fullMemory (replicate 4276 0xEE) ≡ (Form 4276, fullForm)
+  pub short : saveOf fullBus fullMemory (replicate 4275 0xEE) ≡ (Refused TooShort, replicate 4275 0xEE)
+  pub bus : busIn fullForm ≡ fullBus
+
+pub full : Full
+unfolding open-saved
+full = record { form = refl; saved = refl; short = refl; bus = refl }

@@ -1,13 +1,14 @@
 -- Numbers as the form writes them: a word of two bytes, a byte of bits, and registers that fit in a byte.
 -- Assumes nothing.
 use Prim.Native.Nat.{ℕ, zero, suc, _+_, _*_, _/_, _%_, _^_, _≤_, _<_}
-use native.Mathlib.Nat.{pow-suc}
+use native.Mathlib.Nat.{pow-suc, mul-comm, div-one, div-div-eq-div-mul}
 use native.Mathlib.Omega.{arith}
-use mathlib.Core.Path.{_≡_, refl, _∙_, ap, ap₂}
+use mathlib.Core.Path.{_≡_, refl, sym, _∙_, ap, ap₂}
 use mathlib.Core.Bool.{Bool, true, false, cond}
 use mathlib.Core.List.{List, [], _∷_}
 use lib.Bits.{bitAnd, and-le-r}
-use lib.ListN.{length}
+use lib.Dec.{eqb}
+use lib.ListN.{length, getD}
 use borrow.Author.Tests.{eqb-true, eq-eqb, ne-eqb}
 use Rattle.rules.specs.Refusals.{keptIn}
 use Rattle.save_rules.specs.Form.{bitsOf, bitsIn}
@@ -35,6 +36,16 @@ pub length-bits : (n v : ℕ) → length (bitsIn n v) ≡ n
 unfolding bitsIn
 length-bits zero v = refl
 length-bits (suc n) v = ap suc (length-bits n (v / 2))
+
+-- "bit b is block b": of what is read, and of what is written
+pub block-of-bit : (n v b : ℕ) → b < n → getD (bitsIn n v) b false ≡ eqb (v / 2 ^ b % 2) 1
+unfolding bitsIn
+block-of-bit zero v b h = absurd (omega arith)
+block-of-bit (suc n) v zero h = ap (λ (w : ℕ). eqb (w % 2) 1) (sym (div-one v))
+block-of-bit (suc n) v (suc b) h = block-of-bit n (v / 2) b (omega arith) ∙ ap (λ (w : ℕ). eqb (w % 2) 1) (div-div-eq-div-mul v 2 (2 ^ b) ∙ ap (v /_) (mul-comm 2 (2 ^ b) ∙ sym (pow-suc 2 b)))
+
+pub bit-of-block : (bs : List Bool) (b : ℕ) → b < length bs → eqb (bitsOf bs / 2 ^ b % 2) 1 ≡ getD bs b false
+bit-of-block bs b h = sym (block-of-bit (length bs) (bitsOf bs) b h) ∙ ap (λ (cs : List Bool). getD cs b false) (bits-back bs)
 
 -- n bits make a number below 2 to the n: so four are at most 15
 pub bit-small : (b : Bool) → cond b 1 0 ≤ 1

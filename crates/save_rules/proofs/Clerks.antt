@@ -1,9 +1,10 @@
--- Request P5: "A restore is a shared event; demand 3 then speaks of the runs after it, from equal restored slot s."
+-- Request P5: "A restore is a shared event; demand 3 then speaks of the runs after it, from equal restored slot s." And of demand 3: "So two neighbouring
+-- exchanges to different slots may change places", in those runs too.
 -- Assumes nothing.
 use Prim.Native.Nat.{ℕ, _<_}
 use mathlib.Core.Path.{_≡_, refl, sym, _∙_, ap, subst}
 use mathlib.Core.Bool.{true}
-use mathlib.Core.List.{List}
+use mathlib.Core.List.{List, [], _∷_, _++_}
 use lib.ListN.{length, getD}
 use Rattle.proof_lists.specs.Parts.{part}
 use Rattle.proof_lists.specs.Tests.{cond-cases}
@@ -14,9 +15,11 @@ use Rattle.rules.specs.Modelled.{slotCount, slotBytes, memoryBytes, absent}
 use Rattle.rules.specs.Open.{open-fields}
 use Rattle.rules.specs.Fresh.{freshSlot, absentSlot, atRest}
 use Rattle.rules.specs.Runs.{Bench}
-use Rattle.runs.specs.Exchanges.{Item, strike}
+use Rattle.runs.specs.Exchanges.{Inside, Item, exchange, controls, addressed, strike}
 use Rattle.runs.proofs.TwoClerks.Demand3.{Ready, Parts, Same, demand3}
+use Rattle.runs.proofs.TwoClerks.Stretches.{Moved, Movable, swap-stretches, swap-run}
 use Rattle.runs.proofs.TwoClerks.Struck.{Idles}
+use Rattle.runs.proofs.TwoClerks.Swap as swap
 use Rattle.save_rules.specs.Reading.{busIn, memoryIn, restored, accepted}
 use Rattle.save_rules.specs.Rested.{rested, restedBus}
 use Rattle.save_rules.proofs.Back.{rested-at}
@@ -55,3 +58,27 @@ demand3-restored k h f g n o a b l w s e r q is js p t u =
     demand3 k (restored f n) (restored g o) r q is js (x .ready) (y .ready)
     (record { in-first = rw (x .slots) h; in-second = rw (y .slots) h; idle = x .idle k; slot = s; bytes = e })
     p t u
+
+-- The swap behind a restore, with a addressed to slot t and b to another slot u: of four stretches, and of any run that parses so.
+module _
+    (f n : List ℕ)
+    (accepts : accepted f n ≡ true)
+    (sized : length n ≡ memoryBytes)
+    (t u : ℕ)
+    (a b : List Inside)
+    (ne : t ≡ u → ⊥)
+    (to-t : addressed t (controls true a) ≡ true)
+    (to-u : addressed u (controls true b) ≡ true)
+    (before later : List Item)
+  where
+    rests : swap.AtRest (restored f n)
+    rests = let x : AtRest (restored f n) = restored-at-rest f n accepts sized in record { full = x .slots; idle = λ k h. x .idle k }
+
+    pub swap-restored : (e g s l : List Event)
+        → Parts (restored f n) e before → Parts (restored f n) g (exchange a ∷ []) → Parts (restored f n) s (exchange b ∷ []) → Parts (restored f n) l later
+        → Moved (restored f n) e g s l before (exchange a) (exchange b) later
+    swap-restored = swap-stretches (restored f n) (restored-at-rest f n accepts sized .ready) rests t u a b ne to-t to-u before later
+
+    pub swap-run-restored : (r : List Event) → Parts (restored f n) r (before ++ exchange a ∷ exchange b ∷ later)
+        → Movable (restored f n) r before (exchange a) (exchange b) later
+    swap-run-restored = swap-run (restored f n) (restored-at-rest f n accepts sized .ready) rests t u a b ne to-t to-u before later
