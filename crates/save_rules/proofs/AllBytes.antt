@@ -37,7 +37,7 @@ sampleBus = record { slots = memoryOne ∷ absentSlot ∷ atRest 2 5 0 0x07 (tru
 abbrev sampleMemory : List ℕ
 sampleMemory = replicate 512 0xA0 ++ replicate 512 0xA1 ++ replicate 512 0xA2 ++ replicate 2560 0xFF
 
-abbrev sampleForm : List ℕ
+abbrev pub sampleForm : List ℕ
 sampleForm =
     (0x01 ∷ 0x00 ∷ 0x10 ∷ 1 ∷ 3 ∷ 0 ∷ 0 ∷ 2 ∷ 5 ∷ replicate 10 0)
     ++ (0x02 ∷ 0x04 ∷ 0x00 ∷ []) ++ replicate 512 0xA0 ++ replicate 512 0xA2
@@ -45,7 +45,7 @@ sampleForm =
     ++ (0x04 ∷ 0x00 ∷ 0x0F ∷ 0x05 ∷ 0x02 ∷ 0x41 ∷ 0x05 ∷ 0x00 ∷ 0x01 ∷ 0x04 ∷ 0x06 ∷ 0x40 ∷ 0xC1 ∷ 0x90 ∷ 0x00 ∷ 0x03 ∷ 0x00 ∷ 0x01 ∷ [])
 
 -- any other memory, to read into
-abbrev blank : List ℕ
+abbrev pub blank : List ℕ
 blank = replicate memoryBytes 0
 
 -- what it is saved as, bytes past the form staying; that this is accepted; and what it restores to, bytes of absent slots staying

@@ -2,9 +2,11 @@
 -- exchanges to different slots may change places", in those runs too.
 -- Assumes nothing.
 use Prim.Native.Nat.{ℕ, _<_}
+use native.Mathlib.Omega.{arith}
 use mathlib.Core.Path.{_≡_, refl, sym, _∙_, ap, subst}
 use mathlib.Core.Bool.{true}
 use mathlib.Core.List.{List, [], _∷_, _++_}
+use lib.IntN.{pos}
 use lib.ListN.{length, getD}
 use Rattle.proof_lists.specs.Parts.{part}
 use Rattle.proof_lists.specs.Tests.{cond-cases}
@@ -15,13 +17,16 @@ use Rattle.rules.specs.Modelled.{slotCount, slotBytes, memoryBytes, absent}
 use Rattle.rules.specs.Open.{open-fields}
 use Rattle.rules.specs.Fresh.{freshSlot, absentSlot, atRest}
 use Rattle.rules.specs.Runs.{Bench}
-use Rattle.runs.specs.Exchanges.{Inside, Item, exchange, controls, addressed, strike}
+use Rattle.runs.specs.Exchanges.{Inside, byte, Item, exchange, controls, addressed, strike}
 use Rattle.runs.proofs.TwoClerks.Demand3.{Ready, Parts, Same, demand3}
 use Rattle.runs.proofs.TwoClerks.Stretches.{Moved, Movable, swap-stretches, swap-run}
 use Rattle.runs.proofs.TwoClerks.Struck.{Idles}
 use Rattle.runs.proofs.TwoClerks.Swap as swap
+use Rattle.runs.proofs.TwoClerks.Instances.{open-clerks}
 use Rattle.save_rules.specs.Reading.{busIn, memoryIn, restored, accepted}
 use Rattle.save_rules.specs.Rested.{rested, restedBus}
+use Rattle.save_rules.specs.Open.{open-saved}
+use Rattle.save_rules.proofs.AllBytes.{sampleForm, blank, sample}
 use Rattle.save_rules.proofs.Back.{rested-at}
 use Rattle.save_rules.proofs.Once.{typed-read, accepted-in-range, length-restored, restored-rested}
 
@@ -82,3 +87,17 @@ module _
     pub swap-run-restored : (r : List Event) → Parts (restored f n) r (before ++ exchange a ∷ exchange b ∷ later)
         → Movable (restored f n) r before (exchange a) (exchange b) later
     swap-run-restored = swap-run (restored f n) (restored-at-rest f n accepts sized .ready) rests t u a b ne to-t to-u before later
+
+-- All that the swap asks for can be met: behind the restore of one form, two clerks write to slots 0 and 2.
+abbrev event : ℕ → ℕ → Event
+event kind value = record { kind = kind; slot = record { 0 = 0 }; value = pos value }
+
+abbrev write : ℕ → List Event
+write control = event 1 0 ∷ event 2 control ∷ event 2 0x00 ∷ event 2 0x5A ∷ event 4 0 ∷ []
+
+abbrev writes : ℕ → List Inside
+writes control = byte control ∷ byte 0x00 ∷ byte 0x5A ∷ []
+
+pub writes-swapped : Moved (restored sampleForm blank) [] (write 0xA0) (write 0xA4) [] [] (exchange (writes 0xA0)) (exchange (writes 0xA4)) []
+unfolding open-clerks open-saved
+writes-swapped = swap-restored sampleForm blank (sample .accepts) refl 0 2 (writes 0xA0) (writes 0xA4) (λ e. omega arith) refl refl [] [] [] (write 0xA0) (write 0xA4) [] refl refl refl refl

@@ -21,7 +21,7 @@ use Rattle.runs.proofs.TwoClerks.Demand3.{Parts, slot, Same, begun, dem
 use Rattle.runs.proofs.TwoClerks.Stretches.{Moved, swap-from-setup}
 
 -- a parse, a striking out and a run of items on known values compute
-unfoldable open-clerks : Unit {0}
+unfoldable pub open-clerks : Unit {0}
 unfolding open-all Exchanges.keptBy Exchanges.actsOf Exchanges.itemsOf Exchanges.within Exchanges.onto Exchanges.opened Exchanges.closed Exchanges.more Exchanges.controls Exchanges.names Exchanges.mute Exchanges.someOf Exchanges.addressed Exchanges.toNone Exchanges.toOther Exchanges.shared Exchanges.struckGap Exchanges.struck Exchanges.strike Exchanges.own Exchanges.insideAct Exchanges.gapAct Exchanges.upToStop Exchanges.itemActs Exchanges.flatten Exchanges.went Exchanges.told Exchanges.ownTold
 open-clerks = tt
 
