@@ -89,12 +89,12 @@ module _ (kinds : List ℕ) where
   bytes-acted (b ∷ bs) h = byte-acted b (h .0) (bytes-acted bs (h .1))
 
 -- the bytes of a page are bytes
-every-take : (P : ℕ → Type 0) (n : ℕ) (l : List ℕ) → Every P l → Every P (take n l)
+pub every-take : (P : ℕ → Type 0) (n : ℕ) (l : List ℕ) → Every P l → Every P (take n l)
 every-take P zero l h = tt
 every-take P (suc n) [] h = tt
 every-take P (suc n) (x ∷ l) h = (h .0, every-take P n l (h .1))
 
-every-drop : (P : ℕ → Type 0) (n : ℕ) (l : List ℕ) → Every P l → Every P (drop n l)
+pub every-drop : (P : ℕ → Type 0) (n : ℕ) (l : List ℕ) → Every P l → Every P (drop n l)
 every-drop P zero l h = h
 every-drop P (suc n) [] h = tt
 every-drop P (suc n) (x ∷ l) h = every-drop P n l (h .1)

@@ -5,10 +5,10 @@ use native.Mathlib.Omega.{arith}
 use mathlib.Core.Path.{_≡_, refl, sym, _∙_, ap, ap₂, subst}
 use mathlib.Core.List.{List, [], _∷_, _++_, map}
 use lib.Dec.{eqb}
-use lib.ListN.{length, getD, take, drop}
-use lib.Seq.{sets, sets-eq, take-all, take-suc}
+use lib.ListN.{length, getD, take, drop, List·getD-append}
+use lib.Seq.{sets-eq, take-all, take-suc}
 use borrow.Author.Tests.{lt-ltb}
-use Rattle.proof_lists.specs.Each.{Every}
+use Rattle.proof_lists.specs.Each.{Every, every-at}
 use Rattle.proof_lists.specs.Tests.{by-test}
 use Rattle.rules.specs.declared.Event.{Event}
 use Rattle.rules.specs.declared.Slot.{Slot}
@@ -18,10 +18,11 @@ use Rattle.plan_rules.specs.Records.{wordOf, recordOf, recordsOf, laid, 
 use Rattle.plan_rules.specs.Plan.{event, byte, stop, tick, ticks, fiveTicks, pageAt, pageBytes, pageHalf, pageCounter, selecting, writing, differs, halfBefore, pageEvents, pagesBefore}
 use Rattle.plan_rules.proofs.Acted.{every-part}
 
--- an event of a plan: a kind, and a value that is no word below zero
+-- an event of a plan: a kind that is a byte, and a value that is no word below zero
 pub record Plain (e : Event) : Type 0 where
   pub kind : ℕ
   pub value : ℕ
+  pub low : kind ≤ 255
   pub small : value < 32768
   pub is : e ≡ event kind value
 
@@ -60,51 +61,70 @@ unfolding recordsOf recordOf
 records-length [] = refl
 records-length (e ∷ es) = let i = records-length es in omega arith
 
+-- the buffer that they are laid into: the records, and what stood behind them
+laid-is : (es : List Event) (buffer : List ℕ) → 4 * length es ≤ length buffer → laid es buffer ≡ recordsOf es ++ drop (4 * length es) buffer
+unfolding laid
+laid-is es buffer l =
+    let f = records-length es in
+    let e : 0 + length (recordsOf es) ≡ 4 * length es = omega arith in
+    sets-eq (recordsOf es) buffer 0 (omega arith) ∙ ap (λ (n : ℕ). recordsOf es ++ drop n buffer) e
+
 -- all of them, from the buffer
 events-back : (es : List Event) (buffer : List ℕ) → Every Plain es → 4 * length es ≤ length buffer → (n : ℕ) → n ≤ length es → eventsIn (laid es buffer) n ≡ take n es
-unfolding eventsIn laid
+unfolding eventsIn
 events-back es buffer h l zero m = refl
 events-back es buffer h l (suc n) m =
-    let f = records-length es in
-    let e : sets buffer 0 (recordsOf es) ≡ recordsOf es ++ drop (0 + length (recordsOf es)) buffer = sets-eq (recordsOf es) buffer 0 (omega arith) in
     ap₂ (λ (v : List Event) (r : Event). v ++ r ∷ []) (events-back es buffer h l n (omega arith))
-    (ap (λ (b : List ℕ). recordAt b (4 * n)) e ∙ record-back es (drop (0 + length (recordsOf es)) buffer) tick h n m)
+    (ap (λ (b : List ℕ). recordAt b (4 * n)) (laid-is es buffer l) ∙ record-back es (drop (4 * length es) buffer) tick h n m)
     ∙ sym (take-suc es n tick m)
 
 pub read-back : (es : List Event) (buffer : List ℕ) → Every Plain es → 4 * length es ≤ length buffer → eventsIn (laid es buffer) (length es) ≡ es
 read-back es buffer h l = events-back es buffer h l (length es) (omega arith) ∙ take-all (length es) es (omega arith)
+
+-- the bytes of the records are bytes
+records-small : (es : List Event) → Every Plain es → Every (λ b. b ≤ 255) (recordsOf es)
+unfolding recordsOf recordOf wordOf
+records-small [] h = tt
+records-small (e ∷ es) h =
+    let p = h .0 in
+    rw (p .is) (p .low, (omega arith, (omega arith, (omega arith, records-small es (h .1)))))
+
+pub small-at : (es : List Event) (buffer : List ℕ) → Every Plain es → 4 * length es ≤ length buffer → (i : ℕ) → i < 4 * length es → getD (laid es buffer) i 0 ≤ 255
+small-at es buffer h l i b =
+    let f : i < length (recordsOf es) = rw (records-length es) b in
+    rw (laid-is es buffer l, List·getD-append (recordsOf es) (drop (4 * length es) buffer) 0 i f) (every-at (λ n. n ≤ 255) i (recordsOf es) 0 f (records-small es h))
 
 -- every event of a plan is one of those
 every-append : (es fs : List Event) → Every Plain es → Every Plain fs → Every Plain (es ++ fs)
 every-append [] fs h g = g
 every-append (e ∷ es) fs h g = (h .0, every-append es fs (h .1) g)
 
-plain : (kind value : ℕ) → value < 32768 → Plain (event kind value)
-plain kind value h = record { kind = kind; value = value; small = h; is = refl }
+plain : (kind value : ℕ) → kind ≤ 255 → value < 32768 → Plain (event kind value)
+plain kind value l h = record { kind = kind; value = value; low = l; small = h; is = refl }
 
 ticks-plain : (n : ℕ) → Every Plain (ticks n)
 unfolding ticks
 ticks-plain zero = tt
-ticks-plain (suc n) = (plain 6 0 (omega arith), ticks-plain n)
+ticks-plain (suc n) = (plain 6 0 (omega arith) (omega arith), ticks-plain n)
 
 bytes-plain : (bs : List ℕ) → Every (λ b. b ≤ 255) bs → Every Plain (map byte bs)
 bytes-plain [] h = tt
-bytes-plain (b ∷ bs) h = (plain 2 b (let l = h .0 in omega arith), bytes-plain bs (h .1))
+bytes-plain (b ∷ bs) h = (plain 2 b (omega arith) (let l = h .0 in omega arith), bytes-plain bs (h .1))
 
 module _ (old image : List ℕ) (s : Slot) (k : ℕ) (below : k < slotCount) (bytes : Every (λ b. b ≤ 255) image) where
   selecting-plain : (now h : ℕ) → h ≤ 1 → Every Plain (selecting now h)
   unfolding selecting
-  selecting-plain now h l = by-test (eqb h now) (λ e. rw e tt) (λ e. rw e (plain 1 0 (omega arith), (plain 2 (0x6C + 2 * h) (omega arith), (plain 4 0 (omega arith), tt))))
+  selecting-plain now h l = by-test (eqb h now) (λ e. rw e tt) (λ e. rw e (plain 1 0 (omega arith) (omega arith), (plain 2 (0x6C + 2 * h) (omega arith) (omega arith), (plain 4 0 (omega arith) (omega arith), tt))))
 
   writing-plain : (p : ℕ) → Every Plain (writing k (pageCounter p) (pageAt p image) (s .length))
   unfolding writing
   writing-plain p = (
-    plain 1 0 (omega arith),
+    plain 1 0 (omega arith) (omega arith),
     (
-      plain 2 (0xA0 + 2 * k) (omega arith),
+      plain 2 (0xA0 + 2 * k) (omega arith) (omega arith),
       (
-        plain 2 (pageCounter p) (unfold pageCounter in omega arith),
-        every-append (map byte (pageAt p image)) (stop ∷ ticks (s .length)) (bytes-plain (pageAt p image) (unfold pageAt in every-part (λ b. b ≤ 255) pageBytes p image bytes)) (plain 4 0 (omega arith), ticks-plain (s .length)),
+        plain 2 (pageCounter p) (omega arith) (unfold pageCounter in omega arith),
+        every-append (map byte (pageAt p image)) (stop ∷ ticks (s .length)) (bytes-plain (pageAt p image) (unfold pageAt in every-part (λ b. b ≤ 255) pageBytes p image bytes)) (plain 4 0 (omega arith) (omega arith), ticks-plain (s .length)),
       ),
     ),
   )
