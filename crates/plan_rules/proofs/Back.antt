@@ -1,12 +1,12 @@
--- The records laid into a buffer read back, as the script program reads them, as the events that they were made of.
+-- The records laid into a buffer read back, as the script program reads them, as the events that they were made of; behind them the buffer is what it was.
 -- Assumes nothing.
 use Prim.Native.Nat.{ℕ, zero, suc, _+_, _-_, _*_, _/_, _%_, _<_, _≤_}
 use native.Mathlib.Omega.{arith}
 use mathlib.Core.Path.{_≡_, refl, sym, _∙_, ap, ap₂, subst}
 use mathlib.Core.List.{List, [], _∷_, _++_, map}
 use lib.Dec.{eqb}
-use lib.ListN.{length, getD, take, drop, List·getD-append}
-use lib.Seq.{sets-eq, take-all, take-suc}
+use lib.ListN.{length, getD, set, take, drop, List·getD-append}
+use lib.Seq.{sets, sets-eq, length-sets, drop-set-lt, take-all, take-suc}
 use borrow.Author.Tests.{lt-ltb}
 use Rattle.proof_lists.specs.Each.{Every, every-at}
 use Rattle.proof_lists.specs.Tests.{by-test}
@@ -68,6 +68,19 @@ laid-is es buffer l =
     let f = records-length es in
     let e : 0 + length (recordsOf es) ≡ 4 * length es = omega arith in
     sets-eq (recordsOf es) buffer 0 (omega arith) ∙ ap (λ (n : ℕ). recordsOf es ++ drop n buffer) e
+
+-- of any buffer, long enough or not: what stands behind the records, and the length, are what they were
+behind-sets : (vs l : List ℕ) (i n : ℕ) → i + length vs ≤ n → drop n (sets l i vs) ≡ drop n l
+behind-sets [] l i n h = refl
+behind-sets (v ∷ vs) l i n h = behind-sets vs (set l i v) (suc i) n (omega arith) ∙ drop-set-lt n l i v (omega arith)
+
+pub laid-behind : (es : List Event) (buffer : List ℕ) → drop (4 * length es) (laid es buffer) ≡ drop (4 * length es) buffer
+unfolding laid
+laid-behind es buffer = let f = records-length es in behind-sets (recordsOf es) buffer 0 (4 * length es) (omega arith)
+
+pub laid-length : (es : List Event) (buffer : List ℕ) → length (laid es buffer) ≡ length buffer
+unfolding laid
+laid-length es buffer = length-sets buffer 0 (recordsOf es)
 
 -- all of them, from the buffer
 events-back : (es : List Event) (buffer : List ℕ) → Every Plain es → 4 * length es ≤ length buffer → (n : ℕ) → n ≤ length es → eventsIn (laid es buffer) n ≡ take n es

@@ -2,9 +2,10 @@
 -- Assumes nothing.
 use Prim.Native.Nat.{ℕ, zero, suc, _+_, _*_, _<_, _≤_}
 use native.Mathlib.Omega.{arith}
+use native.Mathlib.Nat.{mul-add, mul-le-mul}
 use mathlib.Core.Path.{_≡_, refl, _∙_, ap, ap₂}
-use mathlib.Core.Bool.{true, false, cond}
-use mathlib.Core.List.{List, [], _∷_, _++_, map}
+use mathlib.Core.Bool.{true, false, not, cond}
+use mathlib.Core.List.{List, [], _∷_, _++_, map, append-nil}
 use lib.Dec.{eqb}
 use lib.ListN.{length, replicate, length-append}
 use borrow.Author.Tests.{eqb-false}
@@ -22,7 +23,8 @@ use Rattle.rules.proofs.Range.Kept.{facts}
 use Rattle.plan_rules.specs.Plan.{five, ticks, fiveTicks, settled, slotAt, bytesAt, pageAt, pageCount, pageHalf, pageCounter, selecting, writing, same, differs, halfBefore, pageEvents, pagesBefore, planEvents, pageBlock, barred, barredBefore, bufferBytes, wrongLengths, noSuchSlot, forbidden, planned, planOf}
 use Rattle.plan_rules.specs.Plan as Plan
 use Rattle.plan_rules.specs.declared.Planned.the-variants.{Records}
-use Rattle.plan_rules.proofs.Settled.{short-cycle, settled-sound, slot-ranged, settled-number, settled-slot, settled-part}
+use Rattle.plan_rules.specs.Effect.{differing, selectionsBefore}
+use Rattle.plan_rules.proofs.Settled.{short-cycle, settled-sound, slot-ranged, settled-number, settled-length, settled-slot, settled-part}
 use Rattle.plan_rules.proofs.Others.{ticks-passed}
 use Rattle.plan_rules.proofs.Pages.{page-length}
 
@@ -49,78 +51,103 @@ high : (p : ℕ) → p < 16 → pageHalf (p + 16) ≡ 1
 unfolding pageHalf
 high p h = omega arith
 
-module _ (old image : List ℕ) (s : Slot) (k : ℕ) (halves : s .half ≤ 1) (short : s .length ≤ 5) (wanted : length image ≡ 512) where
-  half-small : (p : ℕ) → p ≤ 32 → halfBefore old image s p ≤ 1
-  unfolding halfBefore
-  half-small zero h = halves
-  half-small (suc p) h = cond-cases (λ (n : ℕ). n ≤ 1) (differs old image p) (λ e. unfold pageHalf in omega arith) (λ e. half-small p (omega arith))
+length-selecting : (now h : ℕ) → length (selecting now h) ≡ 3 * cond (not (eqb h now)) 1 0
+unfolding selecting
+length-selecting now h = by-test (eqb h now) (λ e. rw e) (λ e. rw e)
 
-  half-step : (p : ℕ) → halfBefore old image s (suc p) ≡ cond (differs old image p) (pageHalf p) (halfBefore old image s p)
-  unfolding halfBefore
-  half-step p = refl
+-- the pages 0 to p - 1: each that differs has its twenty records and the slot's ticks, and each half that is selected has three
+module _ (old image : List ℕ) (s : Slot) (k : ℕ) (wanted : length image ≡ 512) where
+  pages-counted : (p : ℕ) → p ≤ 32 → length (pagesBefore old image s k p) ≡ (20 + s .length) * length (differing old image p) + 3 * selectionsBefore old image s p
+  unfolding pagesBefore pageEvents differing selectionsBefore
+  pages-counted zero h = omega arith
+  pages-counted (suc p) h =
+      let i = pages-counted p (omega arith) in
+      let w = length-writing k (pageCounter p) (pageAt p image) (s .length) in
+      let f = page-length p image wanted h in
+      let c = length-selecting (halfBefore old image s p) (pageHalf p) in
+      by-test (differs old image p)
+      (λ d. rw (d, length-append (pagesBefore old image s k p), length-append (selecting (halfBefore old image s p) (pageHalf p)), length-append (differing old image p), mul-add (20 + s .length)) (omega arith))
+      (λ d. rw (d, append-nil (pagesBefore old image s k p), append-nil (differing old image p)) (omega arith))
 
-  -- one page more: at most 25 records, and three more where another half is selected
-  page-most : (p : ℕ) → p < 32 → length (writing k (pageCounter p) (pageAt p image) (s .length)) ≤ 25
-  page-most p l = let e = length-writing k (pageCounter p) (pageAt p image) (s .length) in let f = page-length p image wanted l in omega arith
+  -- no more pages differ than there are
+  few-differ : (p : ℕ) → length (differing old image p) ≤ p
+  unfolding differing
+  few-differ zero = omega arith
+  few-differ (suc p) =
+      let i = few-differ p in
+      by-test (differs old image p) (λ d. rw (d, length-append (differing old image p)) (omega arith)) (λ d. rw (d, append-nil (differing old image p)) (omega arith))
 
-  length-step : (p : ℕ) → length (pagesBefore old image s k (suc p)) ≡ length (pagesBefore old image s k p) + cond (differs old image p) (length (selecting (halfBefore old image s p) (pageHalf p)) + length (writing k (pageCounter p) (pageAt p image) (s .length))) 0
-  unfolding pagesBefore pageEvents
-  length-step p = length-append (pagesBefore old image s k p) _ ∙ by-test (differs old image p)
-      (λ d. rw d (ap (λ (n : ℕ). length (pagesBefore old image s k p) + n) (length-append (selecting (halfBefore old image s p) (pageHalf p)) _))) (λ d. rw d)
+  module _ (halves : s .half ≤ 1) where
+    half-small : (p : ℕ) → p ≤ 32 → halfBefore old image s p ≤ 1
+    unfolding halfBefore
+    half-small zero h = halves
+    half-small (suc p) h = cond-cases (λ (n : ℕ). n ≤ 1) (differs old image p) (λ e. unfold pageHalf in omega arith) (λ e. half-small p (omega arith))
 
-  length-selecting : (now h : ℕ) → length (selecting now h) ≡ cond (eqb h now) 0 3
-  unfolding selecting
-  length-selecting now h = by-test (eqb h now) (λ e. rw e) (λ e. rw e)
+    -- among the pages of half 0 the half goes down at most once
+    low-most : (p : ℕ) → p ≤ 16 → selectionsBefore old image s p + halfBefore old image s p ≤ s .half
+    unfolding selectionsBefore halfBefore
+    low-most zero h = omega arith
+    low-most (suc p) h =
+        let i = low-most p (omega arith) in
+        let z : pageHalf p ≡ 0 = low p (omega arith) in
+        by-test (differs old image p)
+        (λ d. by-test (eqb (pageHalf p) (halfBefore old image s p))
+        (λ e. rw (d, e) (omega arith))
+        (λ e. let ne = eqb-false (pageHalf p) (halfBefore old image s p) e in rw (d, e) (omega (arith, ne))))
+        (λ d. rw d (omega arith))
 
-  -- in half 0 the half goes down at most once
-  low-most : (p : ℕ) → p ≤ 16 → length (pagesBefore old image s k p) + 3 * halfBefore old image s p ≤ 25 * p + 3 * s .half
-  unfolding halfBefore
-  low-most zero h = unfold pagesBefore in omega arith
-  low-most (suc p) h =
-      let i = low-most p (omega arith) in
-      let z : pageHalf p ≡ 0 = low p (omega arith) in
-      let m = page-most p (omega arith) in
-      let b = half-small p (omega arith) in
-      let w = length-selecting (halfBefore old image s p) (pageHalf p) in
-      rw (length-step p) (by-test (differs old image p)
-      (λ d. rw d (by-test (eqb (pageHalf p) (halfBefore old image s p))
-      (λ e. let c : length (selecting (halfBefore old image s p) (pageHalf p)) ≡ 0 = w ∙ rw e in omega arith)
-      (λ e. let c : length (selecting (halfBefore old image s p) (pageHalf p)) ≡ 3 = w ∙ rw e in let ne = eqb-false (pageHalf p) (halfBefore old image s p) e in omega (arith, ne))))
-      (λ d. rw d (omega arith)))
+    -- and among those of half 1 up at most once
+    high-step : (p : ℕ) → p < 16 → selectionsBefore old image s (p + 16) ≤ s .half + halfBefore old image s (p + 16)
+        → selectionsBefore old image s (suc (p + 16)) ≤ s .half + halfBefore old image s (suc (p + 16))
+    unfolding selectionsBefore halfBefore
+    high-step p h i =
+        let z : pageHalf (p + 16) ≡ 1 = high p h in
+        let b = half-small (p + 16) (omega arith) in
+        by-test (differs old image (p + 16))
+        (λ d. by-test (eqb (pageHalf (p + 16)) (halfBefore old image s (p + 16)))
+        (λ e. rw (d, e) (omega arith))
+        (λ e. let ne = eqb-false (pageHalf (p + 16)) (halfBefore old image s (p + 16)) e in rw (d, e) (omega (arith, ne))))
+        (λ d. rw d (omega arith))
 
-  -- and in half 1 up at most once
-  high-most : (p : ℕ) → p + 16 ≤ 32 → length (pagesBefore old image s k (p + 16)) + 3 ≤ 25 * (p + 16) + 6 + 3 * halfBefore old image s (p + 16)
-  high-most zero h = let i = low-most 16 (omega arith) in omega arith
-  high-most (suc p) h =
-      let i = high-most p (omega arith) in
-      let z : pageHalf (p + 16) ≡ 1 = high p (omega arith) in
-      let m = page-most (p + 16) (omega arith) in
-      let b = half-small (p + 16) (omega arith) in
-      let w = length-selecting (halfBefore old image s (p + 16)) (pageHalf (p + 16)) in
-      let v : halfBefore old image s (suc (p + 16)) ≡ cond (differs old image (p + 16)) (pageHalf (p + 16)) (halfBefore old image s (p + 16)) = half-step (p + 16) in
-      let e : suc p + 16 ≡ suc (p + 16) = omega arith in
-      rw (e, length-step (p + 16), v) (by-test (differs old image (p + 16))
-      (λ d. rw d (by-test (eqb (pageHalf (p + 16)) (halfBefore old image s (p + 16)))
-      (λ e. let c : length (selecting (halfBefore old image s (p + 16)) (pageHalf (p + 16))) ≡ 0 = w ∙ rw e in omega arith)
-      (λ e. let c : length (selecting (halfBefore old image s (p + 16)) (pageHalf (p + 16))) ≡ 3 = w ∙ rw e in let ne = eqb-false (pageHalf (p + 16)) (halfBefore old image s (p + 16)) e in omega (arith, ne))))
-      (λ d. rw d (omega arith)))
+    high-most : (p : ℕ) → p ≤ 16 → selectionsBefore old image s (p + 16) ≤ s .half + halfBefore old image s (p + 16)
+    high-most zero h = let i = low-most 16 (omega arith) in omega arith
+    high-most (suc p) h = let e : suc p + 16 ≡ suc (p + 16) = omega arith in rw e (high-step p h (high-most p (omega arith)))
 
-  pages-most : length (pagesBefore old image s k 32) ≤ 806
-  pages-most = let i = high-most 16 (omega arith) in let b = half-small 32 (omega arith) in omega arith
+    pages-most : s .length ≤ 5 → length (pagesBefore old image s k 32) ≤ 806
+    pages-most short =
+        let c = pages-counted 32 (omega arith) in
+        let w : 20 + s .length ≤ 25 = omega arith in
+        let d = mul-le-mul w (few-differ 32) in
+        let i = high-most 16 (omega arith) in
+        let b = half-small 32 (omega arith) in
+        omega arith
 
--- the most that any plan has, of any bench in range, whether or not it may be carried out
-pub plan-most : (k : ℕ) (x : Bench) (image : List ℕ) → length (x .memory) ≡ memoryBytes → inRange (x .bus) ≡ true → k < length (x .bus .slots)
-    → length image ≡ slotBytes → length (planEvents k x image) ≤ 811
-unfolding planEvents
-plan-most k x image long ranged below wanted =
-    let s = settled-sound x long ranged in
-    let n = settled-number x long ranged in
-    let half = facts (slotAt k (settled x)) (slot-ranged (settled x) (s .long) (s .ranged) k (rw n below)) .halves in
-    let count = short-cycle (slotAt k (settled x)) (slot-ranged (settled x) (s .long) (s .ranged) k (rw n below)) in
-    let few = pages-most (bytesAt k (settled x)) image (slotAt k (settled x)) k half count wanted in
-    let five : length fiveTicks ≡ 5 = unfold fiveTicks ticks in refl in
-    let all = length-append fiveTicks (pagesBefore (bytesAt k (settled x)) image (slotAt k (settled x)) k pageCount) in
-    omega arith
+-- any plan of any bench in range, whether or not it may be carried out
+module _ (k : ℕ) (x : Bench) (image : List ℕ) (long : length (x .memory) ≡ memoryBytes) (ranged : inRange (x .bus) ≡ true) (below : k < length (x .bus .slots)) (wanted : length image ≡ slotBytes) where
+  abbrev now : Slot
+  now = slotAt k (settled x)
+
+  abbrev old : List ℕ
+  old = bytesAt k (settled x)
+
+  five-first : length (planEvents k x image) ≡ 5 + length (pagesBefore old image now k pageCount)
+  unfolding planEvents fiveTicks ticks
+  five-first = length-append fiveTicks (pagesBefore old image now k pageCount)
+
+  -- its length: five ticks; twenty records and the slot's own count of ticks for each page that differs; three for each half that is selected
+  pub plan-counted : length (planEvents k x image) ≡ 5 + (20 + (slotAt k x) .length) * length (differing old image pageCount) + 3 * selectionsBefore old image now pageCount
+  plan-counted =
+      let pages = pages-counted old image now k wanted pageCount (omega arith) in
+      let own = settled-length x long ranged k below in
+      five-first ∙ rw (pages, own) (omega arith)
+
+  -- and the most that it has
+  pub plan-most : length (planEvents k x image) ≤ 811
+  plan-most =
+      let s = settled-sound x long ranged in
+      let in-range = slot-ranged (settled x) (s .long) (s .ranged) k (rw (settled-number x long ranged) below) in
+      let few = pages-most old image now k wanted (facts now in-range .halves) (short-cycle now in-range) in
+      omega (arith, five-first)
 
 -- and one that has them all: every page differs, half 1 stands, and the slot takes five ticks
 abbrev pub fullBench : Bench

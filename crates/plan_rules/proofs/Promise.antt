@@ -1,17 +1,18 @@
 -- Request P1, put together: what the planner gives for every input, row by row; and what whoever runs the records that it gives has.
 -- Assumes nothing.
-use Prim.Native.Nat.{ℕ, _<_, _≤_}
+use Prim.Native.Nat.{ℕ, _+_, _*_, _<_, _≤_}
 use native.Mathlib.Omega.{arith}
 use mathlib.Core.Path.{_≡_, refl, sym, _∙_, ap, ap₂}
 use mathlib.Core.Bool.{true, false, not}
 use mathlib.Core.List.{List}
-use lib.ListN.{length}
+use lib.ListN.{length, drop}
 use borrow.Author.Tests.{eq-eqb, not-true, not-false}
 use Rattle.proof_lists.specs.Each.{Every}
 use Rattle.proof_lists.specs.Tests.{cond-cases}
 use Rattle.rules.specs.declared.Bus.{Bus}
 use Rattle.rules.specs.declared.Event.{Event}
 use Rattle.rules.specs.declared.Refusal.{Refusal}
+use Rattle.rules.specs.declared.Slot.{Slot}
 use Rattle.rules.specs.declared.SlotNo.{SlotNo}
 use Rattle.rules.specs.Modelled.{slotCount}
 use Rattle.rules.specs.Events.{refusalNumber}
@@ -24,14 +25,15 @@ use Rattle.rules.proofs.Range.Judged.{refusalOf, numbered}
 use Rattle.plan_rules.specs.declared.Planned.{Planned}
 use Rattle.plan_rules.specs.declared.Planned.the-variants.{Records, Refused}
 use Rattle.plan_rules.specs.Records.{laid, eventsIn}
-use Rattle.plan_rules.specs.Plan.{fiveTicks, slotAt, bufferBytes, wrongLengths, noSuchSlot, forbidden, planEvents, planned, planOf, planNumber, planValue}
+use Rattle.plan_rules.specs.Plan.{fiveTicks, settled, slotAt, bytesAt, pageCount, bufferBytes, wrongLengths, noSuchSlot, forbidden, planEvents, planned, planOf, planNumber, planValue}
+use Rattle.plan_rules.specs.Effect.{differing, selectionsBefore}
 use Rattle.plan_rules.proofs.Settled.{Sixteen}
 use Rattle.plan_rules.proofs.Given.{right-lengths, slot-below, slot-there, slot-present}
 use Rattle.plan_rules.proofs.Carried.{Asked}
 use Rattle.plan_rules.proofs.Right.{done, Right, NoMore, is-right, does-no-more}
-use Rattle.plan_rules.proofs.Count.{plan-most}
+use Rattle.plan_rules.proofs.Count.{plan-counted, plan-most}
 use Rattle.plan_rules.proofs.Again.{Again, planned-again}
-use Rattle.plan_rules.proofs.Back.{read-back, plan-plain}
+use Rattle.plan_rules.proofs.Back.{laid-behind, laid-length, read-back, plan-plain}
 
 module _ (b : Bus) (m : List ℕ) (k : SlotNo) (image buffer : List ℕ) where
   abbrev pub bench : Bench
@@ -92,13 +94,24 @@ module _ (b : Bus) (m : List ℕ) (k : SlotNo) (image buffer : List ℕ) where
     pub arrays : Sixteen (slotAt (k .0) bench)
     pub bytes : Every (λ n. n ≤ 255) image
 
-  -- "write script records into a lent buffer [..] so that running them leaves exactly the image in that slot. [..] At most 811 records, their number returned": what
-  -- holds of a number n that the planner gives, and of the records in the buffer
+  -- the slot as the five ticks leave it, and its bytes
+  abbrev pub now : Slot
+  now = slotAt (k .0) (settled bench)
+
+  abbrev pub old : List ℕ
+  old = bytesAt (k .0) (settled bench)
+
+  -- "write script records into a lent buffer [..] so that running them leaves exactly the image in that slot. [..] At most 811 records, their number returned, the
+  -- buffer past them unchanged": what holds of a number n that the planner gives, and of the buffer after it. The number is that of five ticks; of a page's
+  -- exchange "followed by the slot's own count of ticks", for each page that differs; and of a half's, for each that is selected.
   pub record Promised (n : ℕ) (after′ : List ℕ) : Type 0 where
     pub asked : Asked (k .0) bench image
     pub number : n ≡ length plan
+    pub counted : length plan ≡ 5 + (20 + (slotAt (k .0) bench) .length) * length (differing old image pageCount) + 3 * selectionsBefore old image now pageCount
     pub most : n ≤ 811
     pub records : eventsIn after′ n ≡ plan
+    pub behind : drop (4 * n) after′ ≡ drop (4 * n) buffer
+    pub sized : length after′ ≡ length buffer
     pub right : Right (k .0) bench image
     pub no-more : NoMore (k .0) bench image
     pub again : Again (k .0) bench image
@@ -137,8 +150,11 @@ module _ (b : Bus) (m : List ℕ) (k : SlotNo) (image buffer : List ℕ) where
       record {
         asked = asked;
         number = g .4;
+        counted = plan-counted (k .0) bench image (sizes .0) (g .1) (slot-there k b (g .2)) (sizes .1);
         most = let n≡ = g .4 in omega arith;
         records = ap₂ eventsIn (g .5) (g .4) ∙ read-back plan buffer (unfold planEvents in plan-plain _ image _ (k .0) below (typed .bytes)) (let s = sizes .2 in omega arith);
+        behind = rw (g .4, g .5) (laid-behind plan buffer);
+        sized = rw (g .5) (laid-length plan buffer);
         right = is-right (k .0) bench image asked;
         no-more = does-no-more (k .0) bench image asked;
         again = planned-again (k .0) bench image asked;

@@ -1,6 +1,6 @@
 -- What a plan does on the bus, in the words that the theorems of proofs/ use: over the law's own steps, and without a look at how plans are made.
 -- Assumes nothing.
-use Prim.Native.Nat.{ℕ, zero, suc, _/_}
+use Prim.Native.Nat.{ℕ, zero, suc, _+_, _/_}
 use mathlib.Core.Bool.{Bool, false, not, cond, _&&_, _||_}
 use mathlib.Core.List.{List, [], _∷_, _++_}
 use lib.Dec.{eqb}
@@ -51,6 +51,11 @@ module _ (old image : List ℕ) where
     unfoldable pub counterBefore : ℕ → ℕ
     counterBefore zero = s .counter
     counterBefore (suc p) = cond (differs old image p) (pageCounter p) (counterBefore p)
+
+    -- how many times a half was selected by then: for each page that differs, where another half stood
+    unfoldable pub selectionsBefore : ℕ → ℕ
+    selectionsBefore zero = 0
+    selectionsBefore (suc p) = selectionsBefore p + cond (differs old image p && not (eqb (pageHalf p) (halfBefore old image s p))) 1 0
 
     -- the half that another slot, which stood in half h, then stands in: the one that was selected last
     unfoldable pub feltBefore : ℕ → ℕ → ℕ
