@@ -15,3 +15,5 @@ pub mod Again
 pub mod Back
 pub mod Given
 pub mod Promise
+pub mod Tables
+pub mod Whole
