@@ -1,19 +1,26 @@
--- Request P1's rows, computed: each length with those one byte off it, each slot number with the first past the eight, and the rows in their order.
+-- Request P1's rows, computed: each length with those one byte off it, each slot number with the first past the eight, each block with the ends of all; the
+-- rows in their order; what is judged after the five ticks; and records as bytes.
 -- Assumes nothing.
 use Prim.Native.Nat.{ℕ}
 use mathlib.Core.Path.{_≡_, refl}
 use mathlib.Core.Bool.{Bool, true, false}
 use mathlib.Core.List.{List, [], _∷_, map}
+use lib.IntN.{ℤ, pos, negsuc}
 use lib.ListN.{set, replicate}
 use Rattle.rules.specs.declared.Bus.{Bus}
+use Rattle.rules.specs.declared.Event.{Event}
+use Rattle.rules.specs.declared.Slot.{Slot}
 use Rattle.rules.specs.declared.SlotNo.{SlotNo}
 use Rattle.rules.specs.Open.{open-all}
-use Rattle.rules.specs.Fields.{protecting, inHalf}
-use Rattle.rules.specs.Fresh.{freshSlot, absentSlot}
+use Rattle.rules.specs.Fields.{atCounter, inHalf, withLeft, protecting, expecting, latched}
 use Rattle.rules.specs.Events.{refusalNumber}
+use Rattle.rules.specs.Fresh.{noBytes, noMarks, noBlocks, freshSlot, absentSlot}
+use Rattle.rules.specs.Runs.{Bench}
+use Rattle.plan_rules.specs.declared.Planned.{Planned}
 use Rattle.plan_rules.specs.Records as Records
+use Rattle.plan_rules.specs.Records.{recordsOf}
 use Rattle.plan_rules.specs.Plan as Plan
-use Rattle.plan_rules.specs.Plan.{wrongLengths, noSuchSlot, planOf, planNumber}
+use Rattle.plan_rules.specs.Plan.{pageCount, barredBefore, wrongLengths, noSuchSlot, planOf, planNumber, planValue}
 
 -- a plan for known values computes
 unfoldable pub open-plan : Unit {0}
@@ -59,24 +66,73 @@ pub row-3-full : map (λ n. noSuchSlot (slot n) full) tries ≡ false ∷ false 
 unfolding open-plan
 row-3-full = refl
 
--- "Order 1, 6, 3, 7": a bus with a memory in slot 0, whose last block is protected, and a slot 1 that is absent and protected all over; the same with a
--- half of 2 in slot 7. By the bus, the slot, the image and the length of the buffer; what is given a row's number meets the rows behind it too
-abbrev good : Bus
-good = record { slots = protecting (false ∷ false ∷ false ∷ true ∷ []) (freshSlot 1 5) ∷ protecting (replicate 4 true) absentSlot ∷ replicate 6 absentSlot }
+-- "a page that differs lies in a protected block": one block is protected, and one byte differs, the first or the last of a block
+abbrev seventhRow : ℕ → ℕ → Bool
+seventhRow block at = barredBefore (zeros 512) (set (zeros 512) at 1) (protecting (set noBlocks block true) (freshSlot 1 5)) pageCount
 
-abbrev odd : Bus
-odd = record { slots = set (good .slots) 7 (inHalf 2 absentSlot) }
+pub row-7 : map (λ block. map (seventhRow block) (0 ∷ 127 ∷ 128 ∷ 255 ∷ 256 ∷ 383 ∷ 384 ∷ 511 ∷ [])) (0 ∷ 1 ∷ 2 ∷ 3 ∷ [])
+    ≡ (true ∷ true ∷ false ∷ false ∷ false ∷ false ∷ false ∷ false ∷ [])
+    ∷ (false ∷ false ∷ true ∷ true ∷ false ∷ false ∷ false ∷ false ∷ [])
+    ∷ (false ∷ false ∷ false ∷ false ∷ true ∷ true ∷ false ∷ false ∷ [])
+    ∷ (false ∷ false ∷ false ∷ false ∷ false ∷ false ∷ true ∷ true ∷ []) ∷ []
+unfolding open-plan
+row-7 = refl
 
-abbrev given : Bus → ℕ → List ℕ → ℕ → ℕ
-given b k image n = planNumber (planOf b (zeros 4096) (slot k) image (zeros n) .0)
+-- what is given, by its number and value, for slot k, an image and a buffer of n bytes
+abbrev given : Bench → ℕ → List ℕ → ℕ → ℕ × ℕ
+given x k image n = let v : Planned = planOf (x .bus) (x .memory) (slot k) image (zeros n) .0 in (planNumber v, planValue v)
 
--- images that differ from the memory in the last byte of block 2, and in the last byte of block 3
+-- images that differ from 512 zeros in no byte, in the last of block 2, and in the last of block 3
+abbrev none : List ℕ
+none = zeros 512
+
 abbrev third : List ℕ
-third = set (zeros 512) 383 1
+third = set none 383 1
 
 abbrev last : List ℕ
-last = set (zeros 512) 511 1
+last = set none 511 1
 
-pub order : given odd 1 last 4095 ∷ given odd 1 last 4096 ∷ given good 1 last 4096 ∷ given good 0 last 4096 ∷ given good 0 third 4096 ∷ [] ≡ 1 ∷ 6 ∷ 3 ∷ 7 ∷ 0 ∷ []
+-- "Order 1, 6, 3, 7": slot 0 with its last block protected, and slot 1 absent, but with all four; the same with a half of 2 in slot 7. What is given a row's
+-- number meets the rows behind it too
+abbrev good : Bench
+good = record {
+  bus = record { slots = protecting (set noBlocks 3 true) (freshSlot 1 5) ∷ protecting (replicate 4 true) absentSlot ∷ replicate 6 absentSlot };
+  memory = zeros 4096;
+}
+
+abbrev odd : Bench
+odd = record { bus = record { slots = set (good .bus .slots) 7 (inHalf 2 absentSlot) }; memory = zeros 4096 }
+
+pub order : given odd 1 last 4095 ∷ given odd 1 last 4096 ∷ given good 1 last 4096 ∷ given good 0 last 4096 ∷ given good 0 third 4096 ∷ []
+    ≡ (1, 0) ∷ (6, 0) ∷ (3, 0) ∷ (7, 0) ∷ (0, 33) ∷ []
 unfolding open-plan
 order = refl
+
+-- "pages and protection are judged after them": slot 0 with five ticks left of a protect, of a clear, and of a write of 01h to its last byte
+abbrev bench : Slot → Bench
+bench s = record { bus = record { slots = s ∷ replicate 7 absentSlot }; memory = zeros 4096 }
+
+abbrev cycle : Slot
+cycle = withLeft 5 (freshSlot 1 5)
+
+abbrev protect : Slot
+protect = expecting (replicate 4 true) cycle
+
+abbrev clear : Slot
+clear = protecting (replicate 4 true) cycle
+
+abbrev write : Slot
+write = latched (set noBytes 15 1) (set noMarks 15 true) (atCounter 0xF0 (inHalf 1 cycle))
+
+pub after-the-ticks : given (bench protect) 0 last 4096 ∷ given (bench clear) 0 last 4096 ∷ given (bench write) 0 last 4096 ∷ given (bench write) 0 none 4096 ∷ []
+    ≡ (7, 0) ∷ (0, 33) ∷ (0, 5) ∷ (0, 30) ∷ []
+unfolding open-plan
+after-the-ticks = refl
+
+-- "kind, slot, value high byte first, two's complement": records as bytes
+abbrev event : ℕ → ℕ → ℤ → Event
+event kind slot value = record { kind = kind; slot = record { 0 = slot }; value = value }
+
+pub records : recordsOf (event 9 5 (negsuc 639) ∷ event 9 6 (pos 2000) ∷ event 7 3 (negsuc 0) ∷ []) ≡ 9 ∷ 5 ∷ 0xFD ∷ 0x80 ∷ 9 ∷ 6 ∷ 0x07 ∷ 0xD0 ∷ 7 ∷ 3 ∷ 0xFF ∷ 0xFF ∷ []
+unfolding open-plan
+records = refl
