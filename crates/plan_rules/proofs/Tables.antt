@@ -1,5 +1,5 @@
--- Request P1's rows, computed: each length with those one byte off it, each slot number with the first past the eight, each block with the ends of all; the
--- rows in their order; what is judged after the five ticks; and records as bytes.
+-- Request P1's rows, computed: each length with those one byte off it, each slot number with the first past the eight, each block with the ends of all; where
+-- the pages lie; the rows in their order; what is judged after the five ticks; and records as bytes.
 -- Assumes nothing.
 use Prim.Native.Nat.{ℕ}
 use mathlib.Core.Path.{_≡_, refl}
@@ -16,17 +16,18 @@ use Rattle.rules.specs.Fields.{atCounter, inHalf, withLeft, protecting, expecti
 use Rattle.rules.specs.Events.{refusalNumber}
 use Rattle.rules.specs.Fresh.{noBytes, noMarks, noBlocks, freshSlot, absentSlot}
 use Rattle.rules.specs.Runs.{Bench}
+use Rattle.script_text.specs.Records.{valueAt, recordAt}
 use Rattle.plan_rules.specs.declared.Planned.{Planned}
 use Rattle.plan_rules.specs.Records as Records
-use Rattle.plan_rules.specs.Records.{recordsOf}
+use Rattle.plan_rules.specs.Records.{recordsOf, eventsIn}
 use Rattle.plan_rules.specs.Plan as Plan
-use Rattle.plan_rules.specs.Plan.{pageCount, barredBefore, wrongLengths, noSuchSlot, planOf, planNumber, planValue}
+use Rattle.plan_rules.specs.Plan.{pageCount, pageHalf, pageBlock, pageCounter, barredBefore, wrongLengths, noSuchSlot, planOf, planNumber, planValue}
 
 -- a plan for known values computes
 unfoldable pub open-plan : Unit {0}
 unfolding Plan.ticks Plan.fiveTicks Plan.settled Plan.slotAt Plan.bytesAt Plan.pageAt Plan.pageHalf Plan.pageBlock Plan.pageCounter Plan.selecting Plan.writing Plan.same Plan.differs
     Plan.barred Plan.barredBefore Plan.halfBefore Plan.pageEvents Plan.pagesBefore Plan.planEvents Plan.wrongLengths Plan.noSuchSlot Plan.forbidden Plan.planned Plan.planOf Plan.planNumber
-    Plan.planValue Records.wordOf Records.recordOf Records.recordsOf Records.laid Records.eventsIn refusalNumber open-all
+    Plan.planValue Records.wordOf Records.recordOf Records.recordsOf Records.laid Records.eventsIn recordAt valueAt refusalNumber open-all
 open-plan = tt
 
 abbrev slot : ℕ → SlotNo
@@ -66,6 +67,15 @@ pub row-3-full : map (λ n. noSuchSlot (slot n) full) tries ≡ false ∷ false 
 unfolding open-plan
 row-3-full = refl
 
+-- pages at the ends of the four blocks: the half, the block and the counter
+abbrev placeOf : ℕ → ℕ × ℕ × ℕ
+placeOf p = (pageHalf p, pageBlock p .0, pageCounter p)
+
+pub pages : map placeOf (0 ∷ 7 ∷ 8 ∷ 15 ∷ 16 ∷ 23 ∷ 24 ∷ 31 ∷ [])
+    ≡ (0, 0, 0x00) ∷ (0, 0, 0x70) ∷ (0, 1, 0x80) ∷ (0, 1, 0xF0) ∷ (1, 2, 0x00) ∷ (1, 2, 0x70) ∷ (1, 3, 0x80) ∷ (1, 3, 0xF0) ∷ []
+unfolding open-plan
+pages = refl
+
 -- "a page that differs lies in a protected block": one block is protected, and one byte differs, the first or the last of a block
 abbrev seventhRow : ℕ → ℕ → Bool
 seventhRow block at = barredBefore (zeros 512) (set (zeros 512) at 1) (protecting (set noBlocks block true) (freshSlot 1 5)) pageCount
@@ -92,7 +102,7 @@ third = set none 383 1
 abbrev last : List ℕ
 last = set none 511 1
 
--- "Order 1, 6, 3, 7": slot 0 with its last block protected, and slot 1 absent, but with all four; the same with a half of 2 in slot 7. What is given a row's
+-- "Order 1, 6, 3, 7": slot 0 with its last block protected, and an absent slot 1 with all four; the same with a half of 2 in slot 7. What is given a row's
 -- number meets the rows behind it too
 abbrev good : Bench
 good = record {
@@ -124,15 +134,30 @@ clear = protecting (replicate 4 true) cycle
 abbrev write : Slot
 write = latched (set noBytes 15 1) (set noMarks 15 true) (atCounter 0xF0 (inHalf 1 cycle))
 
-pub after-the-ticks : given (bench protect) 0 last 4096 ∷ given (bench clear) 0 last 4096 ∷ given (bench write) 0 last 4096 ∷ given (bench write) 0 none 4096 ∷ []
-    ≡ (7, 0) ∷ (0, 33) ∷ (0, 5) ∷ (0, 30) ∷ []
+-- and of such a write where all blocks are protected
+abbrev guarded : Slot
+guarded = protecting (replicate 4 true) (expecting (replicate 4 true) write)
+
+pub after-the-ticks : given (bench protect) 0 last 4096 ∷ given (bench clear) 0 last 4096
+    ∷ given (bench write) 0 last 4096 ∷ given (bench write) 0 none 4096 ∷ given (bench guarded) 0 last 4096 ∷ given (bench guarded) 0 none 4096 ∷ []
+    ≡ (7, 0) ∷ (0, 33) ∷ (0, 5) ∷ (0, 30) ∷ (0, 5) ∷ (7, 0) ∷ []
 unfolding open-plan
 after-the-ticks = refl
 
--- "kind, slot, value high byte first, two's complement": records as bytes
+-- "kind, slot, value high byte first, two's complement": events as bytes, and read again
 abbrev event : ℕ → ℕ → ℤ → Event
 event kind slot value = record { kind = kind; slot = record { 0 = slot }; value = value }
 
-pub records : recordsOf (event 9 5 (negsuc 639) ∷ event 9 6 (pos 2000) ∷ event 7 3 (negsuc 0) ∷ []) ≡ 9 ∷ 5 ∷ 0xFD ∷ 0x80 ∷ 9 ∷ 6 ∷ 0x07 ∷ 0xD0 ∷ 7 ∷ 3 ∷ 0xFF ∷ 0xFF ∷ []
+abbrev told : List Event
+told = event 9 5 (negsuc 639) ∷ event 9 6 (pos 2000) ∷ event 7 3 (negsuc 0) ∷ []
+
+abbrev written : List ℕ
+written = 0x09 ∷ 0x05 ∷ 0xFD ∷ 0x80 ∷ 0x09 ∷ 0x06 ∷ 0x07 ∷ 0xD0 ∷ 0x07 ∷ 0x03 ∷ 0xFF ∷ 0xFF ∷ []
+
+pub records : recordsOf told ≡ written
 unfolding open-plan
 records = refl
+
+pub records-read : eventsIn written 3 ≡ told
+unfolding open-plan
+records-read = refl
