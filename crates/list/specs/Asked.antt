@@ -63,3 +63,7 @@ answeredBy text output out = (record { end = length text; output = output }, set
 
 unfoldable pub answerOf : Bench → List ℕ → List ℕ → List ℕ → Answered × List ℕ
 answerOf x number rs out = cond (tooMany rs) (answeredBy tooManyText false out) (answeredBy (listFor x number rs) true out)
+
+-- what such a result says is written: the front of the output, as far as its end says, on the one or the other
+unfoldable pub fronted : Answered → List ℕ → Written
+fronted r out = cond (r .output) (onOutput (take (r .end) out)) (onErrors (take (r .end) out))

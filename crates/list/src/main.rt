@@ -1,19 +1,19 @@
 // The list program: a setup, a number of answer places and records on standard input; the records given as one list, and a line for each answer
-// place on standard output, or what stands in the way. It begins by `opening`, reads, and writes what `answer` puts at the front of the output: all
-// that decides is said and proved there, in `list_lend` and in `list_entry`. The status that a result has, the script `run` gives it (the file
-// status).
+// place on standard output, or what stands in the way. Its input is bounded: so it is one read, one function, `written`, whose contract says all
+// that is written for what came, and one write. The status that a result has, the script `run` gives it (the file status).
 ghost use mathlib.Core.Path.{_≡_};
+ghost use mathlib.Core.Bool.{cond};
 ghost use Prim.Native.Nat.{_≤_};
+ghost use lib.Dec.{ltb};
 ghost use lib.ListN.{length};
 ghost use Rattle.list_lend.specs.Listed.{numberIn};
-ghost use Rattle.list.specs.Asked.{answerOf, putFor};
-ghost use Rattle.list.specs.Program.{Served};
+ghost use Rattle.list.specs.Asked.{answerOf, fronted, putFor, writtenFor};
 use libc::STDIN_FILENO;
-use libc::STDOUT_FILENO;
 use rules::Bus;
 
-// Bytes of one record more than a list may have.
+// Bytes of one record more than a list may have; and of setup, number of places and so many records, which is all that is ever looked at.
 const TOO_MANY: usize = 16388;
+const INPUT: usize = 16406;
 
 // What is written in the end: the front of the output, as far as its end says, and whether it is for standard output, or for standard error.
 struct Answered {
@@ -63,30 +63,37 @@ fn answer(bus: Bus, mem: &mut [u8], number: &[u8], records: &[u8], out: &mut [u8
     Answered { end, output: true }
 }
 
-// What follows the setup: the number of places, then records to the end of the input, or one more than a list may have. Then the answer, which is
-// at the front of the output.
-fn serve(bus: Bus, mem: &mut [u8], out: &mut [u8]) -> Answered
-    requires { ⌜ 262140 ≤ length (now out) ⌝ }
-    ensures { λ r. ⌜ (r .end ≤ length (now (out .exit))) × Served bus (now (mem .entry)) (now (out .entry)) r (now (out .exit)) ⌝ }
+// The smaller of two numbers.
+fn least(a: usize, b: usize) -> usize
+    ensures { λ r. ⌜ (r ≡ cond (ltb a b) a b) × (r ≤ a) × (r ≤ b) ⌝ }
 {
-    let mut number = [0u8; 2];
-    let mut records = [0u8; TOO_MANY];
-    let n = io::read_full(STDIN_FILENO, &mut number);
-    let came = io::read_full(STDIN_FILENO, &mut records);
-    answer(bus, mem, &number[..n], &records[..came], out)
+    if a < b { a } else { b }
 }
 
-fn main() {
+// All that is to be written for all that came, put at the front of the output: what a cut or a bad setup gets, or the answer to what follows it.
+fn written(input: &[u8], out: &mut [u8]) -> Answered
+    requires { ⌜ (length (now input) ≤ 16406) × (262140 ≤ length (now out)) ⌝ }
+    ensures { λ r. ⌜ (r .end ≤ length (now (out .exit))) × (fronted r (now (out .exit)) ≡ writtenFor (now (input .entry))) ⌝ }
+{
     let mut mem = [0u8; 4096];
-    let mut out = room();
-    let begun = script_streams::opening::begin(STDOUT_FILENO, &mut mem, &mut out);
-    if begun.on {
-        let bus = begun.bus;
-        let answered = serve(bus, &mut mem, &mut out);
-        script_streams::opening::write(
-            script_streams::opening::descriptor(answered.output),
-            &out,
-            answered.end,
-        );
+    let came = input.len();
+    let head = least(came, 16);
+    let begun = script_turns::frame::begin(&input[..head], &mut mem, out);
+    let end = begun.end;
+    if !begun.on {
+        return Answered { end, output: true };
     }
+    let places = least(came, 18);
+    let bus = begun.bus;
+    answer(bus, &mut mem, &input[head..places], &input[places..], out)
+}
+
+// One read, one answer, one write. Of an input that goes on behind one record too many the rest is not read: the answer is the same.
+fn main() {
+    let mut input = [0u8; INPUT];
+    let mut out = room();
+    let came = io::read_full(STDIN_FILENO, &mut input);
+    let answered = written(&input[..came], &mut out);
+    let to = script_streams::opening::descriptor(answered.output);
+    script_streams::opening::write(to, &out, answered.end);
 }
