@@ -1,3 +1,5 @@
 pub mod Fits
 pub mod Laws
 pub mod Whole
+pub mod Printed
+pub mod Promise

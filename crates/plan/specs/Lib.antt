@@ -1,3 +1,4 @@
 pub mod Asked
 pub mod Went
 pub mod Program
+pub mod Printed

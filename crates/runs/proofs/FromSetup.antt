@@ -2,6 +2,7 @@
 pub mod Reached
 pub mod Together
 pub mod Plain
+pub mod Arrays
 pub mod Story
 pub mod OneStory
 pub mod History
