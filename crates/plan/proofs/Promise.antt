@@ -35,11 +35,12 @@ use Rattle.script_turns.specs.Script.{benchTo, recordsIn}
 use Rattle.plan_rules.specs.declared.Planned.{Planned}
 use Rattle.plan_rules.specs.declared.Planned.the-variants.{Records, Refused}
 use Rattle.plan_rules.specs.Records.{laid, eventsIn}
-use Rattle.plan_rules.specs.Plan.{slotAt, bytesAt, bufferBytes, noSuchSlot, wrongLengths, forbidden, planEvents, planOf}
+use Rattle.plan_rules.specs.Effect.{Typed}
+use Rattle.plan_rules.specs.Plan.{bytesAt, bufferBytes, noSuchSlot, wrongLengths, forbidden, planEvents, planOf}
 use Rattle.plan_rules.proofs.Acted.{every-take, every-drop}
 use Rattle.plan_rules.proofs.Given.{slot-below, slot-there}
 use Rattle.plan_rules.proofs.Back.{small-at, plan-plain}
-use Rattle.plan_rules.proofs.Promise.{Typed, Promised, promised, Verdict, row-1, row-6, row-3, row-7, no-row, judged}
+use Rattle.plan_rules.proofs.Promise.{Promised, promised, Verdict, row-1, row-6, row-3, row-7, no-row, judged}
 use Rattle.plan_pages.specs.Listing.{countLine, recordLines, textOf}
 use Rattle.plan.specs.Asked.{planText, lastText, askedBench, answerTo, writtenFor}
 use Rattle.plan.specs.Printed.{eventsRead}
@@ -125,14 +126,13 @@ module _ (bs : List ℕ) (bytes : Every (λ b. b ≤ 255) bs) where
     image-bytes : Every (λ b. b ≤ 255) image
     image-bytes = every-take (λ b. b ≤ 255) 512 (drop 4113 bs) (every-drop (λ b. b ≤ 255) 4113 bs bytes)
 
-    typed : noSuchSlot slot (bench .bus) ≡ false → Typed (bench .bus) (bench .memory) slot image zeros
-    unfolding slotAt askedBench
-    typed there = record {
-      slots = number-of-slots;
-      arrays = every-at Sixteen (slot .0) (bench .bus .slots) absentSlot (slot-there slot (bench .bus) there)
-          (subst (Everywhere Sixteen) (sym run) (sixteen (pairsOf bs) (take 4096 (drop 16 bs)) (eventsIn more (recordsIn more))));
-      bytes = image-bytes;
-    }
+    typed : noSuchSlot slot (bench .bus) ≡ false → Typed (bench .bus) slot image
+    unfolding askedBench
+    typed there =
+        let arrays : Sixteen (getD (bench .bus .slots) (slot .0) absentSlot) =
+        every-at Sixteen (slot .0) (bench .bus .slots) absentSlot (slot-there slot (bench .bus) there)
+        (subst (Everywhere Sixteen) (sym run) (sixteen (pairsOf bs) (take 4096 (drop 16 bs)) (eventsIn more (recordsIn more)))) in
+        record { slot = record { slots = number-of-slots; latch = arrays .0; marks = arrays .1 }; bytes = image-bytes }
 
     module _ (n : ℕ) (there : noSuchSlot slot (bench .bus) ≡ false) (e : given .0 ≡ Records n) where
       promise : Promised (bench .bus) (bench .memory) slot image zeros n (given .1)

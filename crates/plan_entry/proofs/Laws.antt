@@ -2,27 +2,75 @@
 -- Assumes nothing.
 use mathlib.Core.Path.{_≡_, sym, _∙_, ap, ap₂}
 use mathlib.Core.Bool.{Bool, true, false, not}
-use mathlib.Core.List.{List}
-use Prim.Native.Nat.{ℕ, _*_, _<_}
-use lib.ListN.{length, getD, take, drop, replicate}
-use borrow.Author.Tests.{not-false}
+use mathlib.Core.List.{List, map}
+use Prim.Native.Nat.{ℕ, _*_, _<_, _≤_}
+use native.Mathlib.Omega.{arith}
+use lib.Dec.{eqb}
+use lib.ListN.{length, getD, take, drop, replicate, List·getD-map}
+use borrow.Author.Tests.{lt-ltb, le-ltb, not-false}
 use Rattle.proof_lists.specs.Each.{allOf-at, getD-any}
 use Rattle.proof_lists.specs.Parts.{part-flat}
 use Rattle.rules.specs.declared.Act.the-variants.{Tick}
 use Rattle.rules.specs.declared.Bus.{Bus}
-use Rattle.rules.specs.declared.Refusal.the-variants.{MemoryLength, WrongSlot, WrongState}
+use Rattle.rules.specs.declared.Refusal.{Refusal}
+use Rattle.rules.specs.declared.Refusal.the-variants.{MemoryLength, UnknownKind, WrongSlot, WrongValue, WrongSetup, WrongState, ProtectedPage, Busy, TooShort, WrongForm}
 use Rattle.rules.specs.declared.Slot.{Slot}
 use Rattle.rules.specs.declared.SlotNo.{SlotNo}
 use Rattle.rules.specs.Modelled.{memoryBytes}
-use Rattle.rules.specs.Fresh.{absentSlot}
-use Rattle.rules.specs.Refusals.{slotInRange, inRange}
+use Rattle.rules.specs.Fresh.{freshSlot, absentSlot}
+use Rattle.rules.specs.Events.{refusalNumber}
+use Rattle.rules.specs.Refusals.{slotInRange, kindsOf, kindAt, inRange}
 use Rattle.rules.specs.Runs.{Bench, slotAfter, partAfter}
 use Rattle.plan_rules.specs.declared.Planned.{Planned}
 use Rattle.plan_rules.specs.declared.Planned.the-variants.{Refused}
-use Rattle.plan_rules.specs.Plan.{wrongLengths, noSuchSlot, forbidden, planEvents, planOf, slotAt, bytesAt}
+use Rattle.plan_rules.specs.Effect.{SlotTyped}
+use Rattle.plan_rules.specs.Plan.{wrongLengths, noSuchSlot, forbidden, planEvents, planOf, planNumber, slotAt, bytesAt}
 use Rattle.plan_rules.proofs.Given.{right-lengths, slot-there}
 use Rattle.plan_rules.proofs.Settled.{settled-slot, settled-part}
 use Rattle.plan_pages.specs.Alone.{aloneOf}
+
+-- row 3: a number above 7, and a slot by its own kind; and what its types say of it
+pub missing-above : (k : SlotNo) (b : Bus) → 7 < k .0 → true ≡ noSuchSlot k b
+unfolding noSuchSlot
+missing-above k b h = rw (lt-ltb 7 (k .0) h)
+
+module _ (k : SlotNo) (b : Bus) (d : Slot) (below : k .0 ≤ 7) (eight : length (b .slots) ≡ 8) where
+  same-slot : getD (b .slots) (k .0) d ≡ getD (b .slots) (k .0) absentSlot
+  same-slot = getD-any (b .slots) (k .0) d absentSlot (omega arith)
+
+  missing-kind : eqb ((getD (b .slots) (k .0) d) .kind) 0 ≡ noSuchSlot k b
+  unfolding noSuchSlot kindAt kindsOf absentSlot freshSlot
+  missing-kind =
+      let e : getD (map (λ (s : Slot). s .kind) (b .slots)) (k .0) 0 ≡ (getD (b .slots) (k .0) absentSlot) .kind = List·getD-map (λ (s : Slot). s .kind) (b .slots) (k .0) absentSlot in
+      rw (le-ltb 7 (k .0) below, e) (ap (λ (s : Slot). eqb (s .kind) 0) same-slot)
+
+  pub by-kind : (v : ℕ) → (v ≡ (getD (b .slots) (k .0) d) .kind) × (length ((getD (b .slots) (k .0) d) .latch) ≡ 16) × (length ((getD (b .slots) (k .0) d) .marks) ≡ 16)
+      → (eqb v 0 ≡ noSuchSlot k b) × (eqb v 0 ≡ false → SlotTyped b k)
+  by-kind v h = (
+    ap (λ (n : ℕ). eqb n 0) (h .0) ∙ missing-kind,
+    λ e. record {
+      slots = eight;
+      latch = sym (ap (λ (s : Slot). length (s .latch)) same-slot) ∙ h .1;
+      marks = sym (ap (λ (s : Slot). length (s .marks)) same-slot) ∙ h .2;
+    },
+  )
+
+-- a refusal has a number above 0
+pub not-refused : (r : Refusal) (p : Planned) {A : Type 0} → p ≡ Refused r → planNumber p ≡ 0 → A
+unfolding planNumber refusalNumber
+not-refused r p e z = absurd (above r (sym (ap planNumber e) ∙ z))
+  where
+    above : (r : Refusal) → refusalNumber r ≡ 0 → ⊥
+    above MemoryLength h = omega arith
+    above UnknownKind h = omega arith
+    above WrongSlot h = omega arith
+    above WrongValue h = omega arith
+    above WrongSetup h = omega arith
+    above WrongState h = omega arith
+    above ProtectedPage h = omega arith
+    above Busy h = omega arith
+    above TooShort h = omega arith
+    above WrongForm h = omega arith
 
 pub slot-ranged : (k : SlotNo) (b : Bus) (d : Slot) → noSuchSlot k b ≡ false → inRange b ≡ true → slotInRange (getD (b .slots) (k .0) d) ≡ true
 unfolding inRange

@@ -20,11 +20,12 @@ use Rattle.rules.specs.Refusals.{kindsOf, inRange}
 use Rattle.rules.specs.Runs.{Bench, after, answers, slotAfter, partAfter}
 use Rattle.runs.specs.Exchanges.{went, told}
 use Rattle.proof_lists.specs.Parts.{length-part}
+use Rattle.runs.proofs.FromSetup.Arrays.{Sixteen}
 use Rattle.runs.proofs.TwoClerks.Alone.{slot-went, part-went}
 use Rattle.runs.proofs.TwoClerks.Joined.{after-joined}
 use Rattle.plan_rules.specs.Plan.{fiveTicks, settled, slotAt, bytesAt, pageBlock, differs, barred, barredBefore, pagesBefore, forbidden}
 use Rattle.plan_rules.specs.Effect.{due, differing, ownBefore, otherBefore}
-use Rattle.plan_rules.proofs.Settled.{Sixteen, length-range, settled-sound, settled-number, slot-ranged, settled-left, settled-kind, settled-length, settled-sixteen}
+use Rattle.plan_rules.proofs.Settled.{length-range, settled-sound, settled-number, slot-ranged, settled-left, settled-kind, settled-length, settled-sixteen}
 use Rattle.plan_rules.proofs.Ran.{Ran}
 use Rattle.plan_rules.proofs.Page.{FreeIn}
 use Rattle.plan_rules.proofs.Others.{Passed, absent-passed}

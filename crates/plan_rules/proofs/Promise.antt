@@ -26,8 +26,7 @@ use Rattle.plan_rules.specs.declared.Planned.{Planned}
 use Rattle.plan_rules.specs.declared.Planned.the-variants.{Records, Refused}
 use Rattle.plan_rules.specs.Records.{laid, eventsIn}
 use Rattle.plan_rules.specs.Plan.{fiveTicks, settled, slotAt, bytesAt, pageCount, bufferBytes, wrongLengths, noSuchSlot, forbidden, planEvents, planned, planOf, planNumber, planValue}
-use Rattle.plan_rules.specs.Effect.{differing, selectionsBefore}
-use Rattle.plan_rules.proofs.Settled.{Sixteen}
+use Rattle.plan_rules.specs.Effect.{Typed, differing, selectionsBefore}
 use Rattle.plan_rules.proofs.Given.{right-lengths, slot-below, slot-there, slot-present}
 use Rattle.plan_rules.proofs.Carried.{Asked}
 use Rattle.plan_rules.proofs.Right.{done, Right, NoMore, is-right, does-no-more}
@@ -88,12 +87,6 @@ module _ (b : Bus) (m : List ℕ) (k : SlotNo) (image buffer : List ℕ) where
           let sizes = right-lengths m image buffer h in
           unfold planValue in plan-most (k .0) bench image (sizes .0) i (slot-there k b j) (sizes .1)
 
-  -- what the types of the program say of what is handed in
-  pub record Typed : Type 0 where
-    pub slots : length (b .slots) ≡ slotCount
-    pub arrays : Sixteen (slotAt (k .0) bench)
-    pub bytes : Every (λ n. n ≤ 255) image
-
   -- the slot as the five ticks leave it, and its bytes
   abbrev pub now : Slot
   now = slotAt (k .0) (settled bench)
@@ -129,7 +122,7 @@ module _ (b : Bus) (m : List ℕ) (k : SlotNo) (image buffer : List ℕ) where
   given-records n v (row-7 {r} q h i j f) e = absurd (refused r q (omega arith) (ap planNumber e))
   given-records n v (no-row h i j f) e = (h, i, j, f, sym (ap planValue e), refl)
 
-  pub promised : (n : ℕ) → Typed → planOf b m k image buffer .0 ≡ Records n → Promised n (planOf b m k image buffer .1)
+  pub promised : (n : ℕ) → Typed b k image → planOf b m k image buffer .0 ≡ Records n → Promised n (planOf b m k image buffer .1)
   promised n typed e =
       let g = given-records n (planOf b m k image buffer) judged e in
       let sizes = right-lengths m image buffer (g .0) in
@@ -138,10 +131,10 @@ module _ (b : Bus) (m : List ℕ) (k : SlotNo) (image buffer : List ℕ) where
       let asked : Asked (k .0) bench image = record {
         long = sizes .0;
         ranged = g .1;
-        number = typed .slots;
+        number = typed .slot .slots;
         below = below;
         present = present;
-        arrays = typed .arrays;
+        arrays = unfold slotAt in (typed .slot .latch, typed .slot .marks);
         wanted = sizes .1;
         bytes = typed .bytes;
         allowed = g .3;
@@ -161,7 +154,7 @@ module _ (b : Bus) (m : List ℕ) (k : SlotNo) (image buffer : List ℕ) where
       }
 
   -- asked again after the run, with any buffer, the planner gives the five ticks
-  module _ (n : ℕ) (typed : Typed) (e : planOf b m k image buffer .0 ≡ Records n) where
+  module _ (n : ℕ) (typed : Typed b k image) (e : planOf b m k image buffer .0 ≡ Records n) where
     abbrev then : Bench
     then = done (k .0) bench image
 

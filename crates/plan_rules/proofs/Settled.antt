@@ -25,6 +25,7 @@ use Rattle.rules.proofs.Memory.Protection.{kind-next, length-next, still-presen
 use Rattle.rules.proofs.Memory.Stored.{memory-length-after}
 use Rattle.rules.proofs.Range.Kept.{facts, after-in-range}
 use Rattle.rules.proofs.Run.Cases.{present-next, next-cases}
+use Rattle.runs.proofs.FromSetup.Arrays.{Sixteen, slot-sixteen}
 use Rattle.runs.proofs.TwoClerks.Alone.{slot-went, part-went}
 use Rattle.runs.proofs.TwoClerks.Foreign.{absent-after}
 use Rattle.runs.proofs.TwoClerks.RunAnswers.{Sound, after-kept}
@@ -89,14 +90,6 @@ left-none s v = by-test (absent s)
     (λ a. ap (λ (t : Slot). t .left) (absent-after 0 fiveTimes s a) ∙ absent-left s v a)
     (λ a. let l = length-range s v a in let f = facts s v .lefts in left-after five s a ∙ omega arith)
 
--- the latch and the marks are arrays of sixteen
-abbrev pub Sixteen : Slot → Type 0
-Sixteen s = (length (s .latch) ≡ 16) × (length (s .marks) ≡ 16)
-
-tick-sixteen : (s : Slot) → Sixteen s → Sixteen (slotNext 0 Tick s)
-unfolding presentNext open-memory open-fields
-tick-sixteen s h = next-cases Sixteen 0 Tick s (λ a. h) (λ a. cond-cases Sixteen (eqb (s .left) 1) (λ e. (refl, refl)) (λ e. h))
-
 module _ (x : Bench) (long : length (x .memory) ≡ memoryBytes) (ranged : inRange (x .bus) ≡ true) where
   -- the bench is as sound as it was
   pub settled-sound : Sound (kindsOf (x .bus)) (settled x)
@@ -124,4 +117,4 @@ module _ (x : Bench) (long : length (x .memory) ≡ memoryBytes) (ranged : inRan
         ∙ ticks-keep (λ (s : Slot). s .length ≡ (slotAt i x) .length) (λ s e. length-next 0 Tick s ∙ e) five (slotAt i x) refl
 
     pub settled-sixteen : Sixteen (slotAt i x) → Sixteen (slotAt i (settled x))
-    settled-sixteen h = rw (settled-slot i x long ranged below) (ticks-keep Sixteen tick-sixteen five (slotAt i x) h)
+    settled-sixteen h = rw (settled-slot i x long ranged below) (ticks-keep Sixteen (slot-sixteen 0 Tick) five (slotAt i x) h)

@@ -1,20 +1,37 @@
 -- What a plan does on the bus, in the words that the theorems of proofs/ use: over the law's own steps, and without a look at how plans are made.
 -- Assumes nothing.
-use Prim.Native.Nat.{ℕ, zero, suc, _+_, _/_}
+use Prim.Native.Nat.{ℕ, zero, suc, _+_, _/_, _≤_}
+use mathlib.Core.Path.{_≡_}
 use mathlib.Core.Bool.{Bool, false, not, cond, _&&_, _||_}
 use mathlib.Core.List.{List, [], _∷_, _++_}
 use lib.Dec.{eqb}
+use lib.ListN.{length, getD}
+use Rattle.proof_lists.specs.Each.{Every}
 use Rattle.rules.specs.declared.Act.{Act}
 use Rattle.rules.specs.declared.Answer.{Answer}
 use Rattle.rules.specs.declared.Answer.the-variants.{Nothing, Ack}
+use Rattle.rules.specs.declared.Bus.{Bus}
 use Rattle.rules.specs.declared.Event.{Event}
 use Rattle.rules.specs.declared.Phase.the-variants.{Idle}
 use Rattle.rules.specs.declared.Slot.{Slot}
-use Rattle.rules.specs.Modelled.{addressOf}
+use Rattle.rules.specs.declared.SlotNo.{SlotNo}
+use Rattle.rules.specs.Modelled.{slotCount, addressOf}
+use Rattle.rules.specs.Fresh.{absentSlot}
 use Rattle.rules.specs.Fields.{inPhase, inHalf, atCounter, withLeft}
 use Rattle.rules.specs.Memory.{abandoned, cancelled}
 use Rattle.rules.specs.Slot.{standing, letGo, slotNext}
 use Rattle.plan_rules.specs.Plan.{pageBytes, pageHalf, pageCounter, differs, halfBefore}
+
+-- what the types of the program say of what is handed in: of slot k of the bus, that it is one of eight, with a latch and marks of sixteen; and of
+-- the image, that it has bytes
+pub record SlotTyped (b : Bus) (k : SlotNo) : Type 0 where
+  pub slots : length (b .slots) ≡ slotCount
+  pub latch : length (getD (b .slots) (k .0) absentSlot .latch) ≡ 16
+  pub marks : length (getD (b .slots) (k .0) absentSlot .marks) ≡ 16
+
+pub record Typed (b : Bus) (k : SlotNo) (image : List ℕ) : Type 0 where
+  pub slot : SlotTyped b k
+  pub bytes : Every (λ n. n ≤ 255) image
 
 -- every byte of a plan is acknowledged, and nothing else of it is answered
 unfoldable pub due : Event → Answer
