@@ -94,9 +94,10 @@ stopped bs out m o n r at b off room =
     let g : goesOn (head bs) ≡ false = ap (λ (z : Begun × List ℕ × List ℕ). z .0 .on) e ∙ off in
     let end : length line ≡ r .end = ap (λ (z : Begun × List ℕ × List ℕ). z .0 .end) e in
     let put : sets out 0 line ≡ o = ap (λ (z : Begun × List ℕ × List ℕ). z .2) e in
-    let long : length o ≡ length out = sym (ap length put) ∙ length-sets out 0 line in
-    (omega (arith, first-length (head bs)),
-    ap₂ (λ (n : ℕ) (z : List ℕ). onOutput (take n z)) (sym end) (sym put) ∙ ap onOutput (written out line (omega (arith, first-length (head bs)))) ∙ sym (stops bs g))
+    let long : length o ≡ length out = sym (ap length put) ∙ length-sets out 0 line in (
+      omega (arith, first-length (head bs)),
+      ap₂ (λ (n : ℕ) (z : List ℕ). onOutput (take n z)) (sym end) (sym put) ∙ ap onOutput (written out line (omega (arith, first-length (head bs)))) ∙ sym (stops bs g),
+    )
 
 -- the number of places and the records, as they are cut out of what came
 module _ (bs : List ℕ) (whole : ltb (length bs) 16 ≡ false) where

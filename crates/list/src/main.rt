@@ -13,6 +13,7 @@ use rules::Bus;
 
 // Bytes of one record more than a list may have; and of setup, number of places and so many records, which is all that is ever looked at.
 const TOO_MANY: usize = 16388;
+
 const INPUT: usize = 16406;
 
 // What is written in the end: the front of the output, as far as its end says, and whether it is for standard output, or for standard error.

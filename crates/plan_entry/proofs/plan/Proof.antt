@@ -30,18 +30,22 @@ plan-spec =
     (λ c. search needs)
     (λ c.
     let f = c .before .before .before .before in
-    let j = f .before .before in
-    (refused-by _ _ _ _ _
-    (plan-state _ _ _ _ _ _ (j .before .before .wrong-lengths .ensures) (f .before .if1 .left) _ (j .before .in-range .ensures) (f .if2 .taken))
-    (c .before .before .refused2 .ensures), not-refused _ _ (c .before .before .refused2 .ensures .0)))
+    let j = f .before .before in (
+      refused-by _ _ _ _ _
+          (plan-state _ _ _ _ _ _ (j .before .before .wrong-lengths .ensures) (f .before .if1 .left) _ (j .before .in-range .ensures) (f .if2 .taken))
+          (c .before .before .refused2 .ensures),
+      not-refused _ _ (c .before .before .refused2 .ensures .0),
+    ))
     (λ c κs. search needs)
     (λ c. search needs)
     (λ c.
     let f = c .before .before .before .before in
-    let j = f .before .before .before in
-    (refused-by _ _ _ _ _
-    (plan-slot _ _ _ _ _ _ (j .before .before .wrong-lengths .ensures) (f .before .before .if1 .left) _ (j .before .in-range .ensures) (f .before .if2 .left) _ (j .no-such-slot .ensures .0) (f .if3 .taken))
-    (c .before .before .refused3 .ensures), not-refused _ _ (c .before .before .refused3 .ensures .0)))
+    let j = f .before .before .before in (
+      refused-by _ _ _ _ _
+          (plan-slot _ _ _ _ _ _ (j .before .before .wrong-lengths .ensures) (f .before .before .if1 .left) _ (j .before .in-range .ensures) (f .before .if2 .left) _ (j .no-such-slot .ensures .0) (f .if3 .taken))
+          (c .before .before .refused3 .ensures),
+      not-refused _ _ (c .before .before .refused3 .ensures .0),
+    ))
     (λ c. search needs)
     (λ c. search needs)
     (λ c. let j = c .before .before .before .before in slot-below _ _ (sym (j .no-such-slot .ensures .0) ∙ c .before .if3 .left))
