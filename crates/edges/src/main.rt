@@ -6,6 +6,7 @@ use capture_rules::Verdict;
 use edges_text::commands::Bench;
 use libc::STDOUT_FILENO;
 use list_lend::text::Told;
+use plan_rules::Planned;
 use rules::Answer;
 use rules::BlockNo;
 use rules::Bus;
@@ -115,6 +116,59 @@ fn put(shelf: &mut [u8; 8192], v: u32, n: u32, i: u32) {
     shelf[(512 * (n % 16) + i % 512) as usize] = (v % 256) as u8;
 }
 
+// A plan for a slot of the bench with the first `length` bytes, laid into the first `room` bytes of the shelf.
+fn planned(
+    slots: [Slot; 8],
+    mem: &[u8],
+    length: usize,
+    slot: SlotNo,
+    image: &[u8],
+    shelf: &mut [u8],
+    room: usize,
+) -> Planned {
+    let end = least(length, mem.len());
+    let n = least(room, shelf.len());
+    plan_entry::plan(Bus { slots }, &mem[..end], slot, image, &mut shelf[..n])
+}
+
+// What stands behind so many records, as it was and as it is.
+fn rest(old: &[u8], shelf: &[u8], records: usize) {
+    let end = 4 * least(records, 2048);
+    let was = least(end, old.len());
+    let is = least(end, shelf.len());
+    edges_text::report::behind(!check::same(&old[was..], &shelf[is..]));
+}
+
+// What a command asks for: a slot, and the bytes of its image, which stood on the shelf where the slot's own bytes stand in the memory, and of the
+// buffer.
+fn asked(slots: [Slot; 8], mem: &[u8], length: usize, t: [u32; 38], old: &[u8], shelf: &mut [u8]) -> Planned {
+    let k = (t[1] % 256) as u8;
+    let from = least(512 * ((k % 8) as usize), old.len());
+    let size = least(t[2] as usize, old.len() - from);
+    planned(slots, mem, length, SlotNo(k), &old[from..from + size], shelf, t[3] as usize)
+}
+
+// A plan, and what came of it.
+fn lay(b: Bench, mem: &[u8; 8192], old: &[u8; 8192], shelf: &mut [u8; 8192], t: [u32; 38]) {
+    let slots = b.slots;
+    let p = asked(slots, mem, b.length, t, old, shelf);
+    match p {
+        Planned::Records(n) => {
+            edges_text::report::planned(n);
+            rest(old, shelf, n);
+        }
+        Planned::Refused(r) => {
+            edges_text::report::answer(Answer::Refused(r));
+            edges_text::report::changed(!check::same(old, shelf));
+        }
+    }
+}
+
+fn plan(b: Bench, mem: &[u8; 8192], shelf: &mut [u8; 8192], t: [u32; 38]) {
+    let old = *shelf;
+    lay(b, mem, &old, shelf, t);
+}
+
 // What is done with the shelf.
 fn shelve(b: Bench, mem: &mut [u8; 8192], shelf: &mut [u8; 8192], t: [u32; 38]) -> Bench {
     match t[0] {
@@ -122,6 +176,8 @@ fn shelve(b: Bench, mem: &mut [u8; 8192], shelf: &mut [u8; 8192], t: [u32; 38]) 
         edges_text::names::SAVE => save(b, mem, shelf, t[1]),
         edges_text::names::FORM => edges_text::report::at(shelf, t[1], t[2]),
         edges_text::names::PUT => put(shelf, t[1], t[2], t[3]),
+        edges_text::names::PLAN => plan(b, mem, shelf, t),
+        edges_text::names::RECORD => edges_text::report::record(shelf, t[1]),
         _ => {}
     }
     b

@@ -171,6 +171,18 @@ pub fn changed(is: bool) {
     word(names::CHANGED);
 }
 
+// What came of a plan: how many records it has, and whether the buffer is another behind them.
+pub fn planned(records: usize) {
+    sign(b':');
+    count(records);
+    word(names::RECORDS);
+}
+
+pub fn behind(is: bool) {
+    changed(is);
+    word(names::BEHIND);
+}
+
 // A block: how long the part is, its first byte and its last.
 pub fn part(bytes: &[u8]) {
     sign(b':');
@@ -187,11 +199,26 @@ pub fn part(bytes: &[u8]) {
     hex(state::wide(bytes[bytes.len() - 1]));
 }
 
+// A byte behind a space.
+fn byte(mem: &[u8; 8192], at: u32) {
+    sign(b' ');
+    hex(state::wide(mem[(at % 8192) as usize]));
+}
+
 // The byte at an address of a slot.
 pub fn at(mem: &[u8; 8192], n: u32, i: u32) {
     sign(b':');
-    sign(b' ');
-    hex(state::wide(mem[(512 * (n % 16) + i % 512) as usize]));
+    byte(mem, 512 * (n % 16) + i % 512);
+}
+
+// The four bytes of record k.
+pub fn record(mem: &[u8; 8192], k: u32) {
+    let from = 4 * (k % 2048);
+    sign(b':');
+    byte(mem, from);
+    byte(mem, from + 1);
+    byte(mem, from + 2);
+    byte(mem, from + 3);
 }
 
 // What stands at the answer places of a list: the lines as the list program writes them, each behind a space instead of its end.

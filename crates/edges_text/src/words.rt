@@ -139,7 +139,7 @@ pub fn bytes(t: [u32; 38]) -> usize
 }
 
 // How many numbers each command takes, in the order of `names::ALL`; 99 for what is none, and for those that take more or fewer.
-const COUNTS: [usize; 23] = [
+const COUNTS: [usize; 25] = [
     0,
     16,
     1,
@@ -153,6 +153,8 @@ const COUNTS: [usize; 23] = [
     2,
     3,
     99,
+    3,
+    1,
     3,
     0,
     1,
@@ -178,21 +180,27 @@ fn count(t: [u32; 38]) -> usize {
         return listed(bytes(t));
     }
     let n = (t[0] % names::WORD) as usize;
-    if n < 23 { COUNTS[n] } else { 99 }
+    if n < 25 { COUNTS[n] } else { 99 }
 }
 
 // How large its last number may be.
 fn most(verb: u32) -> u32 {
     match verb {
         names::SETUP | names::BLOCK | names::CHECK | names::LIST => 255,
-        names::MEMORY | names::SAVE | names::RESTORE => 8192,
+        names::MEMORY | names::SAVE | names::RESTORE | names::PLAN => 8192,
+        names::RECORD => 2047,
         names::SHOW => 7,
         names::AT | names::FORM | names::PUT => 511,
         _ => 65535,
     }
 }
 
-// Whether a command has the numbers that it takes, and no more; those before the last are bytes. What a slot is handed is not looked at here.
+// And one before it: a byte, but for the length of an image, which may reach from any slot's place on the shelf to the end.
+fn before(verb: u32, i: usize) -> u32 {
+    if (verb == names::PLAN) & (i == 2) { 4608 } else { 255 }
+}
+
+// Whether a command has the numbers that it takes, and no more. What a slot is handed is not looked at here.
 fn is_whole(t: [u32; 38]) -> bool {
     if t[0] == names::SLOT {
         return true;
@@ -203,7 +211,7 @@ fn is_whole(t: [u32; 38]) -> bool {
     for i in 1..38usize {
         let v = t[i];
         ok = ok
-            & (((i < n) & (v < 256)) | ((i == n) & (v <= top)) | ((n < i) & (v == names::MISSING)));
+            & (((i < n) & (v <= before(t[0], i))) | ((i == n) & (v <= top)) | ((n < i) & (v == names::MISSING)));
     }
     ok
 }
