@@ -131,37 +131,55 @@ fn planned(
     plan_entry::plan(Bus { slots }, &mem[..end], slot, image, &mut shelf[..n])
 }
 
-// What stands behind so many records, as it was and as it is.
-fn rest(old: &[u8], shelf: &[u8], records: usize) {
-    let end = 4 * least(records, 2048);
-    let was = least(end, old.len());
-    let is = least(end, shelf.len());
-    edges_text::report::behind(!check::same(&old[was..], &shelf[is..]));
-}
-
-// What a command asks for: a slot, and the bytes of its image, which stood on the shelf where the slot's own bytes stand in the memory, and of the
-// buffer.
-fn asked(slots: [Slot; 8], mem: &[u8], length: usize, t: [u32; 38], old: &[u8], shelf: &mut [u8]) -> Planned {
+// The plan that a command asks for. Its image stood on the shelf where the slot's own bytes stand in the memory.
+fn asked(
+    slots: [Slot; 8],
+    mem: &[u8],
+    length: usize,
+    t: [u32; 38],
+    old: &[u8],
+    shelf: &mut [u8],
+) -> Planned {
     let k = (t[1] % 256) as u8;
     let from = least(512 * ((k % 8) as usize), old.len());
     let size = least(t[2] as usize, old.len() - from);
-    planned(slots, mem, length, SlotNo(k), &old[from..from + size], shelf, t[3] as usize)
+    planned(
+        slots,
+        mem,
+        length,
+        SlotNo(k),
+        &old[from..from + size],
+        shelf,
+        t[3] as usize,
+    )
+}
+
+// The number of records or the refusal; where the rest of the buffer begins.
+fn told(p: Planned) -> usize {
+    match p {
+        Planned::Records(n) => {
+            edges_text::report::planned(n);
+            4 * least(n, 2048)
+        }
+        Planned::Refused(r) => {
+            edges_text::report::answer(Answer::Refused(r));
+            0
+        }
+    }
+}
+
+// The rest of the shelf, as it was and as it is.
+fn rest(old: &[u8], shelf: &[u8], from: usize) {
+    let was = least(from, old.len());
+    let is = least(from, shelf.len());
+    edges_text::report::rest(!check::same(&old[was..], &shelf[is..]), from);
 }
 
 // A plan, and what came of it.
 fn lay(b: Bench, mem: &[u8; 8192], old: &[u8; 8192], shelf: &mut [u8; 8192], t: [u32; 38]) {
     let slots = b.slots;
-    let p = asked(slots, mem, b.length, t, old, shelf);
-    match p {
-        Planned::Records(n) => {
-            edges_text::report::planned(n);
-            rest(old, shelf, n);
-        }
-        Planned::Refused(r) => {
-            edges_text::report::answer(Answer::Refused(r));
-            edges_text::report::changed(!check::same(old, shelf));
-        }
-    }
+    let from = told(asked(slots, mem, b.length, t, old, shelf));
+    rest(old, shelf, from);
 }
 
 fn plan(b: Bench, mem: &[u8; 8192], shelf: &mut [u8; 8192], t: [u32; 38]) {

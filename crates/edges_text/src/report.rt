@@ -171,16 +171,18 @@ pub fn changed(is: bool) {
     word(names::CHANGED);
 }
 
-// What came of a plan: how many records it has, and whether the buffer is another behind them.
+// What came of a plan: how many records it has, and whether the buffer is another behind them, or at all where there are none.
 pub fn planned(records: usize) {
     sign(b':');
     count(records);
     word(names::RECORDS);
 }
 
-pub fn behind(is: bool) {
+pub fn rest(is: bool, from: usize) {
     changed(is);
-    word(names::BEHIND);
+    if 0 < from {
+        word(names::BEHIND);
+    }
 }
 
 // A block: how long the part is, its first byte and its last.

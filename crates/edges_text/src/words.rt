@@ -195,9 +195,13 @@ fn most(verb: u32) -> u32 {
     }
 }
 
-// And one before it: a byte, but for the length of an image, which may reach from any slot's place on the shelf to the end.
+// And one before it: a byte, or the length of an image, for which the shelf has so many bytes from every slot's place on.
 fn before(verb: u32, i: usize) -> u32 {
-    if (verb == names::PLAN) & (i == 2) { 4608 } else { 255 }
+    if (verb == names::PLAN) & (i == 2) {
+        4608
+    } else {
+        255
+    }
 }
 
 // Whether a command has the numbers that it takes, and no more. What a slot is handed is not looked at here.
@@ -211,7 +215,9 @@ fn is_whole(t: [u32; 38]) -> bool {
     for i in 1..38usize {
         let v = t[i];
         ok = ok
-            & (((i < n) & (v <= before(t[0], i))) | ((i == n) & (v <= top)) | ((n < i) & (v == names::MISSING)));
+            & (((i < n) & (v <= before(t[0], i)))
+                | ((i == n) & (v <= top))
+                | ((n < i) & (v == names::MISSING)));
     }
     ok
 }
