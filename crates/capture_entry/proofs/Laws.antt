@@ -23,7 +23,7 @@ use Rattle.capture_rules.specs.declared.Verdict.{Verdict}
 use Rattle.capture_rules.specs.declared.Verdict.the-variants.{Refused}
 use Rattle.capture_rules.specs.Capture.{capturedIn, leftOver, verdictFrom, closed, startOf, verdictOf}
 use Rattle.capture_rules.specs.Agreement.{isRefusal}
-use Rattle.capture_rules.proofs.Promise.{refused-setup}
+use Rattle.capture_rules.proofs.Promise.{at-setup}
 use Rattle.capture_pieces.specs.declared.pieces.Checked.{Checked}
 use Rattle.capture_pieces.specs.Piece.{pieceOf}
 
@@ -36,7 +36,7 @@ module _ (ps : List Pair) (r : Outcome) (e : r ≡ setupOf ps) where
       (λ g. absurd (false≢true (rw g at (sym (ap (λ (o : Outcome). isRefusal (o .answer)) e) ∙ ap isRefusal a))))
       (λ g.
       let n : refusalNumber x ≡ 5 = rw g at (ap valueOf (sym a) ∙ ap (λ (o : Outcome). valueOf (o .answer)) e) in
-      ap Refused (sym (numbered x) ∙ ap refusalOf n) ∙ sym (refused-setup ps m bs h g))
+      ap Refused (sym (numbered x) ∙ ap refusalOf n) ∙ sym (at-setup ps m bs h g))
 
   pub good-setup : OneOf (0 ∷ 1 ∷ 2 ∷ 3 ∷ []) (tagOf the-type (r .answer)) → allOf goodPair ps ≡ true
   unfolding setupOf

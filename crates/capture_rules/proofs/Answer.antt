@@ -1,4 +1,4 @@
--- A record agrees exactly if the model's answer is the captured one and no refusal; and which one a refused record gives.
+-- A record agrees exactly if the model's answer is the captured one and no refusal; and which number a refused record gives.
 -- Assumes nothing.
 use Prim.Native.Nat.{ℕ, _<_}
 use native.Mathlib.Omega.{arith}
@@ -10,13 +10,13 @@ use lib.Dec.{eqb}
 use Rattle.proof_lists.specs.Tests.{and-left, and-right, both}
 use Rattle.rules.specs.declared.Answer.{Answer}
 use Rattle.rules.specs.declared.Answer.the-variants.{Nothing, Ack, Nack, Data, Refused}
-use Rattle.rules.specs.declared.Refusal.{Refusal}
-use Rattle.rules.specs.Events.{valueOf}
+use Rattle.rules.specs.Events.{letterOf, valueOf}
 use Rattle.rules.specs.Runs.{Bench, answered}
+use Rattle.rules.proofs.Range.Judged.{Row, refused-at-row}
 use Rattle.capture_rules.specs.declared.Seen.{Seen}
 use Rattle.capture_rules.specs.declared.Verdict.the-variants.{Differs}
 use Rattle.capture_rules.specs.Capture.{Captured, agrees, verdictFrom}
-use Rattle.capture_rules.specs.Agreement.{codeOf, asSeen, meant, isRefusal}
+use Rattle.capture_rules.specs.Agreement.{codeOf, asSeen, meant, isRefusal, recordOf, modelOf, seenOf}
 
 pub agree-to : (a : Answer) (s : Seen) → agrees a s ≡ true → (isRefusal a ≡ false) × (asSeen a ≡ meant s)
 unfolding agrees isRefusal asSeen meant codeOf valueOf
@@ -38,11 +38,25 @@ agree-from (Data b) s t e =
     both (eqb (s .code) 3) (eqb (s .byte) b) (eq-eqb (s .code) 3 f) (eq-eqb (s .byte) b (sym g))
 agree-from (Refused r) s t e = absurd (false≢true (sym t))
 
--- "A record that the model refuses differs, whatever was captured, and gives the refusal"
-pub refused-differs : (n : ℕ) (x : Bench) (c : Captured) (cs : List Captured) (r : Refusal) → answered (c .event) x ≡ Refused r
-    → verdictFrom n x (c ∷ cs) ≡ Differs n (Refused r) (c .seen)
-unfolding verdictFrom agrees
-refused-differs n x c cs r e = rw e
+-- an answer `R` and a number is that refusal, and agrees with nothing
+by-letter : (a : Answer) (s : Seen) (k : ℕ) → letterOf a ≡ 0x52 → valueOf a ≡ k → (agrees a s ≡ false) × (asSeen a ≡ record { code = 4; byte = k })
+unfolding agrees asSeen codeOf letterOf
+by-letter Nothing s k l v = omega (arith, l)
+by-letter Ack s k l v = omega (arith, l)
+by-letter Nack s k l v = omega (arith, l)
+by-letter (Data b) s k l v = omega (arith, l)
+by-letter (Refused r) s k l v = (refl, rw v)
+
+-- "A record that the model refuses counts as differing and gives the refusal number.": an event that meets row k of the refusals is named, with 4 for
+-- refused and k as the model's answer, whatever was captured
+pub refused-differs : (n : ℕ) (x : Bench) (c : Captured) (cs : List Captured) (k : ℕ) → Row (x .bus) (x .memory) (c .event) k
+    → (recordOf (verdictFrom n x (c ∷ cs)) ≡ n) × (asSeen (modelOf (verdictFrom n x (c ∷ cs))) ≡ record { code = 4; byte = k })
+    × (seenOf (verdictFrom n x (c ∷ cs)) ≡ c .seen)
+unfolding verdictFrom recordOf modelOf seenOf
+refused-differs n x c cs k r =
+    let a = refused-at-row (c .event) x k r in
+    let d = by-letter (answered (c .event) x) (c .seen) k (a .letter) (a .value) in
+    rw (d .0) (refl, d .1, refl)
 
 -- "a code that is none of the five differs too"
 unknown : (a : Answer) (s : Seen) → 4 < s .code → agrees a s ≡ false

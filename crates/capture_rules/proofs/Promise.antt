@@ -1,7 +1,8 @@
 -- Request P2, put together: when each verdict is given, of whatever is handed in. Each is given exactly then.
 -- Assumes nothing.
-use Prim.Native.Nat.{ℕ, _/_}
+use Prim.Native.Nat.{ℕ, suc, _/_}
 use native.Mathlib.Nat.{zero-add}
+use native.Mathlib.Omega.{arith}
 use mathlib.Core.Path.{_≡_, refl, sym, _∙_, ap, ap₂}
 use mathlib.Core.Bool.{true, false, false≢true}
 use mathlib.Core.List.{List, [], _++_}
@@ -14,12 +15,13 @@ use Rattle.rules.specs.declared.Answer.{Answer}
 use Rattle.rules.specs.declared.Pair.{Pair}
 use Rattle.rules.specs.declared.Refusal.the-variants.{MemoryLength, WrongSetup}
 use Rattle.rules.specs.Modelled.{memoryBytes}
+use Rattle.rules.specs.Events.{refusalNumber}
 use Rattle.rules.specs.Refusals.{wrongLength, goodPair}
 use Rattle.capture_rules.specs.declared.Seen.{Seen}
 use Rattle.capture_rules.specs.declared.Verdict.{Verdict}
 use Rattle.capture_rules.specs.declared.Verdict.the-variants.{Accepted, Differs, Short, Refused}
 use Rattle.capture_rules.specs.Capture.{capturedTo, capturedIn, leftOver, verdictFrom, benchFrom, closed, startOf, verdictOf}
-use Rattle.capture_rules.specs.Agreement.{Alike, First, Begins, isAccepted, isShort, isRefused, onward}
+use Rattle.capture_rules.specs.Agreement.{Alike, First, Begins, isAccepted, isShort, verdictNumber, onward}
 use Rattle.capture_rules.proofs.Cut.{not-accepted}
 use Rattle.capture_rules.proofs.Pieces.{left-pieces, verdict-pieces}
 use Rattle.capture_rules.proofs.First.{accepted-to, accepted-from, differs-to, differs-from, decided}
@@ -46,29 +48,39 @@ closed-differs left Short k a s h = h
 closed-differs left (Refused r) k a s h = h
 
 module _ (ps : List Pair) (m : List ℕ) where
-  -- "refusal 1 for a memory that is not 4,096 bytes, then 5 for a bad setup, both before any record"
-  pub refused-memory : (bs : List ℕ) → (length m ≡ memoryBytes → ⊥) → verdictOf ps m bs ≡ Refused MemoryLength
+  -- the refusal that is given, before any record, and where neither is the verdict on the records
+  pub at-memory : (bs : List ℕ) → (length m ≡ memoryBytes → ⊥) → verdictOf ps m bs ≡ Refused MemoryLength
   unfolding verdictOf wrongLength
-  refused-memory bs h = rw (ne-eqb (length m) memoryBytes h)
+  at-memory bs h = rw (ne-eqb (length m) memoryBytes h)
 
-  pub refused-setup : (bs : List ℕ) → length m ≡ memoryBytes → allOf goodPair ps ≡ false → verdictOf ps m bs ≡ Refused WrongSetup
+  pub at-setup : (bs : List ℕ) → length m ≡ memoryBytes → allOf goodPair ps ≡ false → verdictOf ps m bs ≡ Refused WrongSetup
   unfolding verdictOf wrongLength
-  refused-setup bs h g = rw (eq-eqb (length m) memoryBytes h, g)
+  at-setup bs h g = rw (eq-eqb (length m) memoryBytes h, g)
+
+  begun : Begins ps m → (bs : List ℕ) → verdictOf ps m bs ≡ closed (leftOver bs) (verdictFrom 0 (startOf ps m) (capturedIn bs))
+  unfolding verdictOf wrongLength
+  begun b bs = rw (eq-eqb (length m) memoryBytes (b .memory), b .setup)
+
+  -- "refusal 1 for a memory that is not 4,096 bytes, then 5 for a bad setup, both before any record"
+  pub refused-memory : (bs : List ℕ) → (length m ≡ memoryBytes → ⊥) → verdictNumber (verdictOf ps m bs) ≡ 1
+  unfolding verdictNumber refusalNumber
+  refused-memory bs h = ap verdictNumber (at-memory bs h)
+
+  pub refused-setup : (bs : List ℕ) → length m ≡ memoryBytes → allOf goodPair ps ≡ false → verdictNumber (verdictOf ps m bs) ≡ 5
+  unfolding verdictNumber refusalNumber
+  refused-setup bs h g = ap verdictNumber (at-setup bs h g)
 
   -- and for nothing else
-  pub begins : (bs : List ℕ) → isRefused (verdictOf ps m bs) ≡ false → Begins ps m
-  unfolding isRefused
+  pub begins : (bs : List ℕ) → verdictNumber (verdictOf ps m bs) ≡ 0 → Begins ps m
   begins bs h =
       by-test (eqb (length m) memoryBytes)
       (λ e.
       by-test (allOf goodPair ps) (λ g. record { memory = eqb-true (length m) memoryBytes e; setup = g })
-      (λ g. absurd (false≢true (sym h ∙ ap isRefused (refused-setup bs (eqb-true (length m) memoryBytes e) g)))))
-      (λ e. absurd (false≢true (sym h ∙ ap isRefused (refused-memory bs (eqb-false (length m) memoryBytes e)))))
-
-  -- otherwise it is the verdict on the records
-  begun : Begins ps m → (bs : List ℕ) → verdictOf ps m bs ≡ closed (leftOver bs) (verdictFrom 0 (startOf ps m) (capturedIn bs))
-  unfolding verdictOf wrongLength
-  begun b bs = rw (eq-eqb (length m) memoryBytes (b .memory), b .setup)
+      (λ g. absurd (none (sym h ∙ refused-setup bs (eqb-true (length m) memoryBytes e) g))))
+      (λ e. absurd (none (sym h ∙ refused-memory bs (eqb-false (length m) memoryBytes e))))
+    where
+      none : {n : ℕ} → 0 ≡ suc n → ⊥
+      none e = omega (arith, e)
 
   -- "A capture with no records is accepted."
   pub no-records : Begins ps m → verdictOf ps m [] ≡ Accepted
@@ -78,9 +90,9 @@ module _ (ps : List Pair) (m : List ℕ) where
   module _ (bs : List ℕ) where
     -- "accepts exactly if the model gives each of those answers from those beginnings"
     pub accepted-exactly : verdictOf ps m bs ≡ Accepted → Begins ps m × (leftOver bs ≡ 0) × Alike (startOf ps m) (capturedIn bs)
-    unfolding isRefused
+    unfolding verdictNumber
     accepted-exactly h =
-        let b : Begins ps m = begins bs (ap isRefused h) in
+        let b : Begins ps m = begins bs (ap verdictNumber h) in
         let c : (leftOver bs ≡ 0) × (verdictFrom 0 (startOf ps m) (capturedIn bs) ≡ Accepted) = closed-accepted (leftOver bs) _ (sym (begun b bs) ∙ h) in
         (b, c .0, accepted-to 0 (startOf ps m) (capturedIn bs) (c .1))
 
@@ -91,9 +103,9 @@ module _ (ps : List Pair) (m : List ℕ) where
     -- "otherwise it names the first record that differs, the model's answer and the captured one"
     pub differs-exactly : (k : ℕ) (a : Answer) (s : Seen) → verdictOf ps m bs ≡ Differs k a s
         → Begins ps m × First 0 (startOf ps m) (capturedIn bs) k a s
-    unfolding isRefused
+    unfolding verdictNumber
     differs-exactly k a s h =
-        let b : Begins ps m = begins bs (ap isRefused h) in
+        let b : Begins ps m = begins bs (ap verdictNumber h) in
         (b, differs-to 0 (startOf ps m) (capturedIn bs) k a s (closed-differs (leftOver bs) _ k a s (sym (begun b bs) ∙ h)))
 
     pub exactly-differs : (k : ℕ) (a : Answer) (s : Seen) → Begins ps m → First 0 (startOf ps m) (capturedIn bs) k a s → verdictOf ps m bs ≡ Differs k a s
@@ -106,20 +118,20 @@ module _ (ps : List Pair) (m : List ℕ) where
     exactly-short b l r = begun b bs ∙ rw (accepted-from 0 (startOf ps m) (capturedIn bs) r, ne-eqb (leftOver bs) 0 l)
 
     pub short-exactly : verdictOf ps m bs ≡ Short → Begins ps m × (leftOver bs ≡ 0 → ⊥) × Alike (startOf ps m) (capturedIn bs)
-    unfolding isRefused closed isShort
+    unfolding verdictNumber closed isShort
     short-exactly h =
-        let b : Begins ps m = begins bs (ap isRefused h) in
+        let b : Begins ps m = begins bs (ap verdictNumber h) in
         let e : closed (leftOver bs) (verdictFrom 0 (startOf ps m) (capturedIn bs)) ≡ Short = sym (begun b bs) ∙ h in
         decided 0 (startOf ps m) (capturedIn bs)
         (λ f. (b, λ l. false≢true (ap isShort (rw (f, l) at e)), accepted-to 0 (startOf ps m) (capturedIn bs) f))
         (λ k a s f. absurd (not-short (sym (rw f at e))))
 
     -- nothing is refused but for the two reasons
-    pub not-refused : Begins ps m → isRefused (verdictOf ps m bs) ≡ false
-    unfolding isRefused closed
+    pub not-refused : Begins ps m → verdictNumber (verdictOf ps m bs) ≡ 0
+    unfolding verdictNumber closed
     not-refused b =
-        ap isRefused (begun b bs)
-        ∙ decided 0 (startOf ps m) (capturedIn bs) (λ f. rw f (cond-cases (λ v. isRefused v ≡ false) (eqb (leftOver bs) 0) (λ e. refl) (λ e. refl))) (λ k a s f. rw f)
+        ap verdictNumber (begun b bs)
+        ∙ decided 0 (startOf ps m) (capturedIn bs) (λ f. rw f (cond-cases (λ v. verdictNumber v ≡ 0) (eqb (leftOver bs) 0) (λ e. refl) (λ e. refl))) (λ k a s f. rw f)
 
   -- "the verdict over pieces, cut between any two records, is the verdict over the whole"
   pub in-pieces : Begins ps m → (p q : List ℕ) → leftOver p ≡ 0

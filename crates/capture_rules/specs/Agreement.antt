@@ -13,7 +13,7 @@ use Rattle.rules.specs.declared.Answer.the-variants as answer
 use Rattle.rules.specs.declared.Event.{Event}
 use Rattle.rules.specs.declared.Pair.{Pair}
 use Rattle.rules.specs.Modelled.{memoryBytes}
-use Rattle.rules.specs.Events.{valueOf}
+use Rattle.rules.specs.Events.{refusalNumber, valueOf}
 use Rattle.rules.specs.Refusals.{goodPair}
 use Rattle.rules.specs.Runs.{Bench, after, answered, answers}
 use Rattle.capture_rules.specs.declared.Seen.{Seen}
@@ -102,11 +102,12 @@ isShort (Differs k a s) = false
 isShort Short = true
 isShort (Refused r) = false
 
-unfoldable pub isRefused : Verdict → Bool
-isRefused Accepted = false
-isRefused (Differs k a s) = false
-isRefused Short = false
-isRefused (Refused r) = true
+-- the number of the refusal that a verdict is, and 0 where it is none
+unfoldable pub verdictNumber : Verdict → ℕ
+verdictNumber Accepted = 0
+verdictNumber (Differs k a s) = 0
+verdictNumber Short = 0
+verdictNumber (Refused r) = refusalNumber r
 
 -- a verdict, and then the one on the records behind it
 unfoldable pub onward : Verdict → Verdict → Verdict

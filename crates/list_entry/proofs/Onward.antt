@@ -1,6 +1,6 @@
 -- What the walk over a list needs: what is left to do at event i, one event more, none left; and that memory and state go on standing.
 -- Assumes nothing.
-use mathlib.Core.Path.{_≡_, sym, _∙_, ap, ap₂}
+use mathlib.Core.Path.{_≡_, refl, sym, _∙_, ap, ap₂}
 use mathlib.Core.Bool.{true}
 use mathlib.Core.List.{List, [], _∷_, _++_, append-assoc, append-nil}
 use Prim.Native.Nat.{ℕ, suc, _+_, _<_, _≤_}
@@ -17,6 +17,7 @@ use Rattle.rules.specs.declared.Bus.{Bus}
 use Rattle.rules.specs.declared.Event.{Event}
 use Rattle.rules.specs.declared.Refusal.the-variants.{TooShort}
 use Rattle.rules.specs.Modelled.{memoryBytes}
+use Rattle.rules.specs.Events.{refusalNumber, letterOf, valueOf}
 use Rattle.rules.specs.Refusals.{inRange}
 use Rattle.rules.specs.Runs.{Bench, next, answered, after, answers}
 use Rattle.list_entry.specs.Lists.{tooFew, notTaken, taken, listed, eventsOf, standing}
@@ -59,10 +60,16 @@ rest-none es i x places upto over =
     (ap₂ (λ (ks : List Answer) (n : ℕ). ks ++ drop n places) (append-nil (take i places)) (le-antisymm over upto) ∙ take-append-drop i places)
 
 -- ---- the call, by its two cases
--- "An answer list shorter than the event list is refusal 9, before every other check and with nothing changed": whatever memory and state are
-pub too-few : (b : Bus) (m : List ℕ) (es : List Event) (places : List Answer) → length places < length es → eventsOf b m es places ≡ (record { bus = b; answer = Refused TooShort }, m, places)
+pub not-enough : (b : Bus) (m : List ℕ) (es : List Event) (places : List Answer) → length places < length es → eventsOf b m es places ≡ (record { bus = b; answer = Refused TooShort }, m, places)
 unfolding eventsOf listed tooFew notTaken
-too-few b m es places short = rw (lt-ltb (length places) (length es) short)
+not-enough b m es places short = rw (lt-ltb (length places) (length es) short)
+
+-- "An answer list shorter than the event list is refusal 9, before every other check and with nothing changed": whatever memory and state are
+pub too-few : (b : Bus) (m : List ℕ) (es : List Event) (places : List Answer) → length places < length es
+    → (letterOf (eventsOf b m es places .0 .answer) ≡ 0x52) × (valueOf (eventsOf b m es places .0 .answer) ≡ 9)
+    × (eventsOf b m es places .0 .bus ≡ b) × (eventsOf b m es places .1 ≡ m) × (eventsOf b m es places .2 ≡ places)
+unfolding letterOf valueOf refusalNumber
+too-few b m es places short = rw (not-enough b m es places short) (refl, refl, refl, refl, refl)
 
 -- otherwise the call is not refused, whatever its events are
 pub enough : (b : Bus) (m : List ℕ) (es : List Event) (places : List Answer) → length es ≤ length places → eventsOf b m es places ≡ taken (record { bus = b; memory = m }) es places

@@ -2,7 +2,7 @@
 -- Assumes nothing.
 use mathlib.Core.Path.{_≡_, refl, sym, _∙_, ap, ap₂}
 use mathlib.Core.Bool.{false}
-use mathlib.Core.List.{List, [], _∷_, _++_, append-assoc, append-nil}
+use mathlib.Core.List.{List, [], _∷_, _++_, map, append-assoc, append-nil}
 use Prim.Native.Nat.{ℕ, suc, _+_, _≤_, zero-le}
 use native.Mathlib.Omega.{arith}
 use borrow.Author.Tests.{ltb-true, ltb-false}
@@ -20,13 +20,14 @@ use Rattle.rules.specs.declared.Refusal.the-variants.{MemoryLength, WrongState}
 use Rattle.rules.specs.declared.Ruling.{Ruling}
 use Rattle.rules.specs.declared.Ruling.the-variants as ruling
 use Rattle.rules.specs.Modelled.{memoryBytes}
+use Rattle.rules.specs.Events.{refusalNumber, letterOf, valueOf}
 use Rattle.rules.specs.Refusals.{inRange}
 use Rattle.rules.specs.Runs.{Bench, rulingOn, ruledNext, ruledAnswer, next, answered, after, answers, eventOf, ruledOutcome}
 use Rattle.bus_event.proofs.Laws.{ruling-short, ruling-odd}
 use Rattle.bus_event.proofs.Onward.{event-bench, event-answer}
 use Rattle.runs.proofs.TwoClerks.Joined.{after-joined, answers-joined}
 use Rattle.list_entry.specs.Lists.{Left, taken, eventsOf, calledTwice}
-use Rattle.list_entry.proofs.Onward.{too-few, enough}
+use Rattle.list_entry.proofs.Onward.{not-enough, enough}
 
 -- as many answers as events
 pub length-answers : (es : List Event) (x : Bench) → length (answers es x) ≡ length es
@@ -106,7 +107,7 @@ module _ (b : Bus) (m : List ℕ) (es : List Event) (places : List Answer) where
   unfolding taken
   past-unchanged =
       by-test (ltb (length places) (length es))
-      (λ t. ap (λ (z : Left). drop (length es) (z .2)) (too-few b m es places (ltb-true (length places) (length es) t)))
+      (λ t. ap (λ (z : Left). drop (length es) (z .2)) (not-enough b m es places (ltb-true (length places) (length es) t)))
       (λ t. ap (λ (z : Left). drop (length es) (z .2)) (enough b m es places (ltb-false (length places) (length es) t)) ∙ drop-at (answers es bench) (drop (length es) places) (length es) (length-answers es bench))
 
   -- there are as many places as before
@@ -114,7 +115,7 @@ module _ (b : Bus) (m : List ℕ) (es : List Event) (places : List Answer) where
   unfolding taken
   same-places =
       by-test (ltb (length places) (length es))
-      (λ t. ap (λ (z : Left). length (z .2)) (too-few b m es places (ltb-true (length places) (length es) t)))
+      (λ t. ap (λ (z : Left). length (z .2)) (not-enough b m es places (ltb-true (length places) (length es) t)))
       (λ t.
       let l : length es ≤ length places = ltb-false (length places) (length es) t in
       ap (λ (z : Left). length (z .2)) (enough b m es places l)
@@ -122,32 +123,48 @@ module _ (b : Bus) (m : List ℕ) (es : List Event) (places : List Answer) where
       ∙ omega (arith, length-answers es bench, length-drop (length es) places))
 
 -- ---- "refused ones included": where every event is refused, for the memory's length or for the state, nothing but the answers is changed
-refused-all : (r : Refusal) (x : Bench) → ((e : Event) → rulingOn e x ≡ ruling.Refused r) → (es : List Event) → (after es x ≡ x) × (answers es x ≡ replicate (length es) (Refused r))
-unfolding after answers next answered ruledNext ruledAnswer
+-- an answer by the paper's letter and value
+abbrev said : Answer → ℕ × ℕ
+said a = (letterOf a, valueOf a)
+
+refused-all : (r : Refusal) (x : Bench) → ((e : Event) → rulingOn e x ≡ ruling.Refused r) → (es : List Event)
+    → (after es x ≡ x) × (map said (answers es x) ≡ replicate (length es) (0x52, refusalNumber r))
+unfolding after answers next answered ruledNext ruledAnswer letterOf valueOf
 refused-all r x all [] = (refl, refl)
 refused-all r x all (e ∷ es) =
     let stays : next e x ≡ x = ap (λ (q : Ruling). ruledNext q x) (all e) in
     let rest = refused-all r x all es in
-    (ap (after es) stays ∙ rest .0, ap₂ (λ (a : Answer) (ks : List Answer). a ∷ ks) (ap (λ (q : Ruling). ruledAnswer q x) (all e)) (ap (answers es) stays ∙ rest .1))
+    (ap (after es) stays ∙ rest .0, ap₂ (λ (p : ℕ × ℕ) (ps : List (ℕ × ℕ)). p ∷ ps) (ap (λ (q : Ruling). said (ruledAnswer q x)) (all e)) (ap (λ (y : Bench). map said (answers es y)) stays ∙ rest .1))
 
 module _ (b : Bus) (m : List ℕ) (es : List Event) (places : List Answer) (l : length es ≤ length places) where
   abbrev at : Bench
   at = record { bus = b; memory = m }
 
-  -- what such a list leaves
-  abbrev allRefused : Refusal → Left
-  allRefused r = (record { bus = b; answer = Nothing }, m, replicate (length es) (Refused r) ++ drop (length es) places)
+  -- every event is answered `R` and the number; the call itself is not refused, and all else is as it was
+  pub record AllRefused (n : ℕ) : Type 0 where
+    pub call : letterOf (eventsOf b m es places .0 .answer) ≡ 0x2D
+    pub bus : eventsOf b m es places .0 .bus ≡ b
+    pub memory : eventsOf b m es places .1 ≡ m
+    pub each : map said (take (length es) (eventsOf b m es places .2)) ≡ replicate (length es) (0x52, n)
+    pub past : drop (length es) (eventsOf b m es places .2) ≡ drop (length es) places
 
-  all-refused : (r : Refusal) → ((e : Event) → rulingOn e at ≡ ruling.Refused r) → eventsOf b m es places ≡ allRefused r
-  unfolding taken
+  all-refused : (r : Refusal) → ((e : Event) → rulingOn e at ≡ ruling.Refused r) → AllRefused (refusalNumber r)
+  unfolding taken letterOf
   all-refused r all =
       let c = refused-all r at all es in
-      enough b m es places l ∙ ap₂ (λ (z : Bench) (ks : List Answer). (record { bus = z .bus; answer = Nothing }, z .memory, ks ++ drop (length es) places)) (c .0) (c .1)
+      let e = enough b m es places l in
+      record {
+        call = ap (λ (z : Left). letterOf (z .0 .answer)) e;
+        bus = ap (λ (z : Left). z .0 .bus) e ∙ ap (λ (x : Bench). x .bus) (c .0);
+        memory = ap (λ (z : Left). z .1) e ∙ ap (λ (x : Bench). x .memory) (c .0);
+        each = ap (map said) (answers-first b m es places l) ∙ c .1;
+        past = past-unchanged b m es places;
+      }
 
-  pub wrong-memory : (length m ≡ memoryBytes → ⊥) → eventsOf b m es places ≡ allRefused MemoryLength
-  unfolding rulingOn
+  pub wrong-memory : (length m ≡ memoryBytes → ⊥) → AllRefused 1
+  unfolding rulingOn refusalNumber
   wrong-memory h = all-refused MemoryLength (λ e. ruling-short b m e h)
 
-  pub wrong-state : length m ≡ memoryBytes → inRange b ≡ false → eventsOf b m es places ≡ allRefused WrongState
-  unfolding rulingOn inRange
+  pub wrong-state : length m ≡ memoryBytes → inRange b ≡ false → AllRefused 6
+  unfolding rulingOn inRange refusalNumber
   wrong-state h odd = all-refused WrongState (λ e. ruling-odd b m e (inRange b) h refl odd)

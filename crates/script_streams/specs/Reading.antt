@@ -4,9 +4,9 @@
 use Prim.Native.Nat.{ℕ, _+_, _≤_}
 use mathlib.Core.Path.{_≡_}
 use mathlib.Core.Bool.{Bool, true, false, cond, _&&_}
-use mathlib.Core.List.{List, [], _∷_}
+use mathlib.Core.List.{List, [], _∷_, _++_}
 use lib.Dec.{ltb}
-use lib.ListN.{length}
+use lib.ListN.{length, take}
 use Rattle.rules.specs.declared.Bus.{Bus}
 use Rattle.rules.specs.Runs.{Bench}
 use Rattle.script_turns.specs.declared.turns.Turned.{Turned}
@@ -44,6 +44,14 @@ turnsLeave q (r ∷ rs) =
 abbrev pub begun : Bench → List ℕ → List ℕ → Ran
 begun x buf out = record { bench = x; buf = buf; held = 0; came = true; out = out }
 
+-- what the turns put at the front of the output, one after another
+unfoldable pub turnsPut : Ran → List Read → List ℕ
+turnsPut q [] = []
+turnsPut q (r ∷ rs) =
+    let t : Turned × List ℕ × List ℕ × List ℕ =
+    turnOf (q .bench .bus) (q .bench .memory) (readInto (q .buf) (q .held) r) (q .held) (length (r .came)) (q .out) in
+    take (t .0 .end) (t .3) ++ turnsPut (turnsLeave q (r ∷ [])) rs
+
 -- what goes from one read to the next, with memory, buffer and output
 abbrev pub ranOf : Going → Bool → List ℕ → List ℕ → List ℕ → Ran
 ranOf g came m buf out = record { bench = record { bus = g .bus; memory = m }; buf = buf; held = g .held; came = came; out = out }
@@ -71,6 +79,12 @@ UpToLast [] = Unit {0}
 UpToLast (r ∷ []) = Unit {0}
 UpToLast (r ∷ s ∷ rs) = (brought r ≡ true) × UpToLast (s ∷ rs)
 
+-- and the last brought nothing: the input has ended
+unfoldable pub Exhausted : List Read → Type 0
+Exhausted [] = ⊥
+Exhausted (r ∷ []) = brought r ≡ false
+Exhausted (r ∷ s ∷ rs) = Exhausted (s ∷ rs)
+
 -- more reads than any input has
 abbrev pub mostReads : ℕ
 mostReads = 18446744073709551615
@@ -93,3 +107,9 @@ pub record Served (b : Bus) (m out stored written : List ℕ) : Type 0 where
   pub left : List ℕ
   pub ended : Ended true b m out going stored left
   pub finished : written ≡ cond (going .told) (finishOf (going .held) left .1) left
+
+-- what is put at the front of the output from there on: by the turns, and at the end, unless a write failed
+unfoldable pub servedPut : (b : Bus) (m out stored written : List ℕ) → Served b m out stored written → List ℕ
+servedPut b m out stored written s =
+    turnsPut (begun (record { bus = b; memory = m }) (s .ended .buf) out) (s .ended .reached .reads)
+    ++ cond (s .going .told) (take (finishOf (s .going .held) (s .left) .0) written) []

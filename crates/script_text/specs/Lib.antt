@@ -1,3 +1,5 @@
 pub mod Decimal
 pub mod Letters
+pub mod Open
+pub mod Quoted
 pub mod Records

@@ -5,3 +5,4 @@ pub mod StepLaws
 pub mod Whole
 pub mod Onward
 pub mod Determined
+pub mod Examples

@@ -1,4 +1,5 @@
 pub mod Frame
+pub mod Open
 pub mod Program
 pub mod Script
 pub mod Steps

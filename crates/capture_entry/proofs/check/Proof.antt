@@ -7,7 +7,7 @@ use Rattle.proof_lists.specs.Stores.{all-copied}
 use Rattle.rules.specs.declared.Outcome.{Outcome}
 use Rattle.rules.specs.Refusals.{inRange}
 use Rattle.rules.proofs.Range.Kept.{setup-in-range}
-use Rattle.capture_rules.proofs.Promise.{refused-memory}
+use Rattle.capture_rules.proofs.Promise.{at-memory}
 use Rattle.capture_entry.proofs.Laws.{bad-setup, good-setup, whole-capture}
 use Rattle.capture_entry.proofs.check.Statement.{statement}
 use Rattle.capture_entry.proofs.check.Tie as tie
@@ -16,7 +16,7 @@ pub check-spec : {M : Type 1} → statement M
 check-spec =
     tie.close
     (tie.spec
-    (λ c. sym (refused-memory _ _ _ (c .if1 .taken)))
+    (λ c. sym (at-memory _ _ _ (c .if1 .taken)))
     (λ c κs. search needs)
     (λ c. search needs)
     (λ c. bad-setup _ _ (c .before .before .before .setup .ensures) _ _ _ (c .before .answer .given .1) (c .before .before .before .before .if1 .left))

@@ -67,7 +67,7 @@ use Rattle.rules.proofs.Outcome as R
 use Rattle.rules.proofs.Outcome.Laws as R′
 use Rattle.bus_event.proofs.Onward.{event-bench, event-answer}
 use Rattle.list_entry.specs.Lists.{standing, eventsOf}
-use Rattle.list_entry.proofs.Onward.{restOf, rest-more, rest-none, too-few, all-run, judged}
+use Rattle.list_entry.proofs.Onward.{restOf, rest-more, rest-none, not-enough, all-run, judged}
 use Rattle.list_entry.proofs.Values.{busVal, eventVal, answerVal, outcomeVal}
 use Rattle.proof_walks.proofs.Relent.{Kept, lends-again, comes-back}
 use Rattle.proof_walks.proofs.Locals.{typeOf, placed, tail, order, span, free-all}
@@ -421,7 +421,7 @@ module _ {M : Type 1} (𝓤 : URA M) (H : Heap 𝓤) (A : Atoms 𝓤) (W : Given
       land ! (from ! (stop !)) (init ! (p 0) refl (LL.lawful R.the-type R′.the-laws 𝓤 H A W .typed r _ is .0)) $ rewrite ! (p 0) (λ (u : Val). ‵ (fat fullShare (τ 0) l₀ 0 u)) (ap only (LL.tells R.the-type R′.the-laws r _ is)) refl $
       returns-within ! Post refl (look ! (p 0) refl) $ forget ! (p 11) refl $ forget ! (p 10) refl $ forget ! (p 9) refl $ forget ! (p 4) refl $ forget ! (p 3) refl $ forget ! (p 2) refl $ forget ! (p 1) refl $ forget ! (p 0) refl $
       move ! (order count) $ free-all ! (blocks-of l₀ l₁ l₂ l₃ l₄ l₅ l₆ l₇ l₈ l₉ l₁₀ l₁₁ l₁₂ l₁₃ l₁₄ l₁₅ l₁₆ l₁₇ l₁₈) $
-      by ! (exits r ms ns (subst (Is R.the-row r) (LL.tells R.the-type R′.the-laws r _ is) is) refl refl (too-few b₀ ms es ns (ltb→lt (length ns) (length es) short) ∙ ap (λ (o : Outcome). (o, ms, ns)) (sym e)))))))))
+      by ! (exits r ms ns (subst (Is R.the-row r) (LL.tells R.the-type R′.the-laws r _ is) is) refl refl (not-enough b₀ ms es ns (ltb→lt (length ns) (length es) short) ∙ ap (λ (o : Outcome). (o, ms, ns)) (sym e)))))))))
       (λ plenty. let enough : length es ≤ length ns = nltb→le (length ns) (length es) plenty in
       skips ! $ exec ! (𝓣 .C) (𝓣 .Λ) (blocks-of l₀ l₁ l₂ l₃ l₄ l₅ l₆ l₇ l₈ l₉ l₁₀ l₁₁ l₁₂ l₁₃ l₁₄ l₁₅ l₁₆ l₁₇ l₁₈) parts.t-5 (atRet (blocks-of l₀ l₁ l₂ l₃ l₄ l₅ l₆ l₇ l₈ l₉ l₁₀ l₁₁ l₁₂ l₁₃ l₁₄ l₁₅ l₁₆ l₁₇ l₁₈) Post) $
       -- whether memory and state stand

@@ -1,7 +1,7 @@
 -- All records of the input have been run, in whatever reads that comes.
 -- Assumes nothing.
-use mathlib.Core.Path.{_≡_, refl, sym, _∙_, ap}
-use mathlib.Core.Bool.{Bool, true, cond}
+use mathlib.Core.Path.{_≡_, refl, sym, _∙_, ap, ap₂}
+use mathlib.Core.Bool.{Bool, true, false, false≢true, cond, _&&_}
 use mathlib.Core.List.{List, [], _∷_, _++_, append-nil, append-assoc}
 use Prim.Native.Nat.{ℕ, _/_, _%_, _<_}
 use native.Mathlib.Omega.{arith}
@@ -18,7 +18,7 @@ use Rattle.script_turns.proofs.turns.Laws.{left-length}
 use Rattle.script_turns.proofs.turns.Cut.{bench-cut}
 use Rattle.script_turns.proofs.turns.Whole.{After, turn-come, turns-whole}
 use Rattle.script_streams.specs.declared.reading.Going.{Going}
-use Rattle.script_streams.specs.Reading.{Ran, turnsLeave, begun, Ended, Served}
+use Rattle.script_streams.specs.Reading.{Ran, turnsLeave, turnsPut, begun, Exhausted, mostReads, Ended, Served, servedPut}
 
 -- from any turn on: all records of what is held and of what comes have been run, and what is left of them is held
 pub turns-left : (q : Ran) (h : List ℕ) (rs : List Read) → q .held ≡ length h → length h < 4 → take (length h) (q .buf) ≡ h
@@ -62,7 +62,49 @@ ended-left lines b m out g stored written e =
     let t = turns-left (begun (record { bus = b; memory = m }) (e .buf) out) [] (e .reached .reads) refl (omega arith) refl in
     (sym (ap (λ (z : Ran). z .bench) (e .reached .turned)) ∙ t .0, sym (ap (λ (z : Ran). z .held) (e .reached .turned)) ∙ t .1)
 
--- (`serve` and its contract): what the turns put at the front of the output one after another, and the last line, are the lines of what came
+-- It has read until a read brought nothing, unless a write failed or that many reads were made.
+last-came : (q : Ran) (r : Read) (rs : List Read) → (turnsLeave q (r ∷ rs)) .came ≡ false → Exhausted (r ∷ rs)
+unfolding turnsLeave Exhausted
+last-came q r [] e = e
+last-came q r (s ∷ rs) e = last-came (turnsLeave q (r ∷ [])) s rs e
+
+pub ended-exhausted : (lines : Bool) (b : Bus) (m out : List ℕ) (g : Going) (stored written : List ℕ) (e : Ended lines b m out g stored written)
+    → g .told ≡ true → (length (e .reached .reads) ≡ mostReads → ⊥) → Exhausted (e .reached .reads)
+ended-exhausted lines b m out g stored written e t n =
+    let c : e .came ≡ false = nothing (e .came) (λ c. n (e .over (e .onward .on ∙ ap₂ _&&_ t c))) in
+    exhausted (begun (record { bus = b; memory = m }) (e .buf) out) (e .reached .reads) refl (ap (λ (z : Ran). z .came) (e .reached .turned) ∙ c)
+  where
+    nothing : (b : Bool) → (b ≡ true → ⊥) → b ≡ false
+    nothing true h = absurd (h refl)
+    nothing false h = refl
+
+    exhausted : (q : Ran) (rs : List Read) → q .came ≡ true → (turnsLeave q rs) .came ≡ false → Exhausted rs
+    exhausted q [] o c = absurd (false≢true (sym c ∙ o))
+    exhausted q (r ∷ rs) o c = last-came q r rs c
+
+-- WHAT `serve` PUTS AT THE FRONT OF THE OUTPUT, of its contract: turn after turn and at the end, what the program's composition of the steps writes
+puts-write : (q : Ran) (rs : List Read)
+    → turnsWrite (q .bench .bus) (q .bench .memory) (q .buf) (q .held) (q .out) rs
+    ≡ turnsPut q rs ++ take (finishOf ((turnsLeave q rs) .held) ((turnsLeave q rs) .out) .0) (finishOf ((turnsLeave q rs) .held) ((turnsLeave q rs) .out) .1)
+unfolding turnsWrite turnsPut turnsLeave
+puts-write q [] = refl
+puts-write q (r ∷ rs) =
+    let t : After = turnOf (q .bench .bus) (q .bench .memory) (readInto (q .buf) (q .held) r) (q .held) (length (r .came)) (q .out) in
+    ap (take (t .0 .end) (t .3) ++_) (puts-write (turnsLeave q (r ∷ [])) rs) ∙ sym (append-assoc (take (t .0 .end) (t .3)) _ _)
+
+pub served-puts : (b : Bus) (m out stored written : List ℕ) (s : Served b m out stored written) → s .going .told ≡ true
+    → servedPut b m out stored written s ≡ turnsWrite b m (s .ended .buf) 0 out (s .ended .reached .reads)
+unfolding servedPut
+served-puts b m out stored written s t =
+    let q : Ran = begun (record { bus = b; memory = m }) (s .ended .buf) out in
+    let ps : List ℕ = turnsPut q (s .ended .reached .reads) in
+    let h : ℕ = s .going .held in
+    let f : written ≡ finishOf h (s .left) .1 = s .finished ∙ ap (λ (z : Bool). cond z (finishOf h (s .left) .1) (s .left)) t in
+    ap (λ (z : Bool). ps ++ cond z (take (finishOf h (s .left) .0) written) []) t
+    ∙ ap (λ (z : List ℕ). ps ++ take (finishOf h (s .left) .0) z) f
+    ∙ sym (puts-write q (s .ended .reached .reads) ∙ ap (λ (z : Ran). ps ++ take (finishOf (z .held) (z .out) .0) (finishOf (z .held) (z .out) .1)) (s .ended .reached .turned))
+
+-- so these are the lines of what came
 pub served-writes : (b : Bus) (m out stored written : List ℕ) (s : Served b m out stored written) → length out ≡ 65536
     → turnsWrite b m (s .ended .buf) 0 out (s .ended .reached .reads)
     ≡ linesTo (record { bus = b; memory = m }) (inputOf (s .ended .reached .reads)) (recordsIn (inputOf (s .ended .reached .reads)))
