@@ -41,10 +41,10 @@ agree-from (Refused r) s t e = absurd (false≢true (sym t))
 -- an answer `R` and a number is that refusal, and agrees with nothing
 by-letter : (a : Answer) (s : Seen) (k : ℕ) → letterOf a ≡ 0x52 → valueOf a ≡ k → (agrees a s ≡ false) × (asSeen a ≡ record { code = 4; byte = k })
 unfolding agrees asSeen codeOf letterOf
-by-letter Nothing s k l v = omega (arith, l)
-by-letter Ack s k l v = omega (arith, l)
-by-letter Nack s k l v = omega (arith, l)
-by-letter (Data b) s k l v = omega (arith, l)
+by-letter Nothing s k l v = absurd (omega (arith, l))
+by-letter Ack s k l v = absurd (omega (arith, l))
+by-letter Nack s k l v = absurd (omega (arith, l))
+by-letter (Data b) s k l v = absurd (omega (arith, l))
 by-letter (Refused r) s k l v = (refl, rw v)
 
 -- "A record that the model refuses counts as differing and gives the refusal number.": an event that meets row k of the refusals is named, with 4 for

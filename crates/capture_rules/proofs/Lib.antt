@@ -3,3 +3,4 @@ pub mod Answer
 pub mod First
 pub mod Pieces
 pub mod Promise
+pub mod Examples

@@ -70,6 +70,7 @@ last-came q r (s ∷ rs) e = last-came (turnsLeave q (r ∷ [])) s rs e
 
 pub ended-exhausted : (lines : Bool) (b : Bus) (m out : List ℕ) (g : Going) (stored written : List ℕ) (e : Ended lines b m out g stored written)
     → g .told ≡ true → (length (e .reached .reads) ≡ mostReads → ⊥) → Exhausted (e .reached .reads)
+unfolding turnsLeave
 ended-exhausted lines b m out g stored written e t n =
     let c : e .came ≡ false = nothing (e .came) (λ c. n (e .over (e .onward .on ∙ ap₂ _&&_ t c))) in
     exhausted (begun (record { bus = b; memory = m }) (e .buf) out) (e .reached .reads) refl (ap (λ (z : Ran). z .came) (e .reached .turned) ∙ c)

@@ -111,6 +111,10 @@ script-after head more l =
     let d : drop 16 (head ++ more) ≡ more = sym (ap (λ n. drop n (head ++ more)) (add-zero (length head) ∙ l)) ∙ drop-append-add head more 0 in
     rw (long, pairs-of head more l, d)
 
+-- a bad setup, whatever follows it
+pub script-bad : (head more : List ℕ) → length head ≡ 16 → allOf goodPair (pairsOf head) ≡ false → scriptOf (head ++ more) ≡ badSetupLine
+script-bad head more l g = script-after head more l ∙ rw g
+
 -- the turns after a good setup
 good-setup : (ps : List Pair) (buf out : List ℕ) (rs : List Read) → 6 ≤ length out → Fits (length out) 0 rs
     → turnsWrite (setupOf ps .bus) startingMemory buf 0 out rs
