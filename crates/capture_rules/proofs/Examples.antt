@@ -12,7 +12,7 @@ use Rattle.rules.specs.declared.Refusal.the-variants.{MemoryLength, WrongSlot, 
 use Rattle.capture_rules.specs.declared.Seen.{Seen}
 use Rattle.capture_rules.specs.declared.Verdict.{Verdict}
 use Rattle.capture_rules.specs.declared.Verdict.the-variants.{Accepted, Differs, Short, Refused}
-use Rattle.capture_rules.specs.Capture.{verdictOf}
+use Rattle.capture_rules.specs.Capture.{closed, verdictOf}
 use Rattle.capture_rules.specs.Agreement.{asSeen, meant, recordOf, modelOf, seenOf, isAccepted, isShort, verdictNumber}
 use Rattle.capture_rules.specs.Open.{open-capture}
 
@@ -77,6 +77,14 @@ pub beginnings : map (λ (c : List Pair × List ℕ). verdictNumber (verdictOf (
     ≡ 1 ∷ 1 ∷ 1 ∷ 5 ∷ 0 ∷ []
 unfolding open-capture
 beginnings = refl
+
+-- what bytes that are left over, none or some, make of each sort of verdict
+abbrev all : List Verdict
+all = Accepted ∷ Short ∷ Refused MemoryLength ∷ Differs 17 (answer.Data 0x5A) (seen 2 9) ∷ []
+
+pub closings : (map (closed 0) all ≡ all) × (map (closed 1) all ≡ set all 0 Short)
+unfolding open-capture
+closings = (refl, refl)
 
 -- The paper's numbers for each sort of verdict: whether it accepts, whether it is short, the refusal's number, the record, the model's answer and the captured one.
 abbrev numbersOf : Verdict → Bool × Bool × ℕ × ℕ × Seen × Seen

@@ -15,7 +15,7 @@ use Rattle.capture_rules.specs.declared.Seen.{Seen}
 use Rattle.capture_rules.specs.declared.Verdict.the-variants.{Accepted, Differs}
 use Rattle.capture_rules.specs.Capture.{Captured, agrees, verdictFrom, benchFrom}
 use Rattle.capture_rules.specs.Agreement.{eventsOf, asSeen, meant, isRefusal, Alike, First, recordOf, modelOf, seenOf, onward}
-use Rattle.capture_rules.proofs.Cut.{not-accepted, verdict-cut}
+use Rattle.capture_rules.proofs.Cut.{not-accepted, verdict-cut, bench-cut}
 use Rattle.capture_rules.proofs.Answer.{agree-to, agree-from}
 
 -- one record in front
@@ -92,17 +92,30 @@ differs-to n x (c ∷ cs) k a s h =
     })
     (λ e. at-once n x c cs k a s e (rw e at h))
 
+-- the named record does not agree
+at-named : (n : ℕ) (x : Bench) (cs : List Captured) (k : ℕ) (a : Answer) (s : Seen) (r : First n x cs k a s)
+    → agrees (answered (r .here .event) (after (eventsOf (r .before)) x)) (r .here .seen) ≡ false
+at-named n x cs k a s r =
+    by-test (agrees (answered (r .here .event) (after (eventsOf (r .before)) x)) (r .here .seen))
+    (λ t. absurd (r .differs (agree-to a s (ap₂ agrees (r .model) (r .captured) ∙ t)))) (λ t. t)
+
 pub differs-from : (n : ℕ) (x : Bench) (cs : List Captured) (k : ℕ) (a : Answer) (s : Seen) → First n x cs k a s → verdictFrom n x cs ≡ Differs k a s
 unfolding verdictFrom onward
 differs-from n x cs k a s r =
-    let y : Bench = after (eventsOf (r .before)) x in
     let c : Captured = r .here in
-    let e : agrees (answered (c .event) y) (c .seen) ≡ false =
-    by-test (agrees (answered (c .event) y) (c .seen))
-    (λ t. absurd (r .differs (agree-to a s (ap₂ agrees (r .model) (r .captured) ∙ t)))) (λ t. t) in
+    let e = at-named n x cs k a s r in
     ap (verdictFrom n x) (r .parts) ∙ verdict-cut n x (r .before) (c ∷ r .behind)
     ∙ ap₂ (λ v z. onward v (verdictFrom (n + length (r .before)) z (c ∷ r .behind))) (accepted-from n x (r .before) (r .alike)) (bench-after x (r .before) (r .alike))
     ∙ rw (e, ← r .number, ← r .model, ← r .captured)
+
+-- the check has then run the records before it, and that one
+pub bench-named : (n : ℕ) (x : Bench) (cs : List Captured) (k : ℕ) (a : Answer) (s : Seen) (r : First n x cs k a s)
+    → benchFrom x cs ≡ next (r .here .event) (after (eventsOf (r .before)) x)
+unfolding benchFrom
+bench-named n x cs k a s r =
+    let y : Bench = after (eventsOf (r .before)) x in
+    ap (benchFrom x) (r .parts) ∙ bench-cut n x (r .before) (r .here ∷ r .behind) (accepted-from n x (r .before) (r .alike))
+    ∙ ap (λ (z : Bench). benchFrom z (r .here ∷ r .behind)) (bench-after x (r .before) (r .alike)) ∙ rw (at-named n x cs k a s r)
 
 -- "so no other number could be named", and neither another answer
 pub first-only : (n : ℕ) (x : Bench) (cs : List Captured) (k j : ℕ) (a b : Answer) (s t : Seen) → First n x cs k a s → First n x cs j b t

@@ -83,7 +83,7 @@ UpToLast (r ∷ s ∷ rs) = (brought r ≡ true) × UpToLast (s ∷ rs)
 unfoldable pub Exhausted : List Read → Type 0
 Exhausted [] = ⊥
 Exhausted (r ∷ []) = brought r ≡ false
-Exhausted (r ∷ s ∷ rs) = Exhausted (s ∷ rs)
+Exhausted (r ∷ s ∷ rs) = (brought r ≡ true) × Exhausted (s ∷ rs)
 
 -- more reads than any input has
 abbrev pub mostReads : ℕ

@@ -50,9 +50,10 @@ unfolding open-text isSetups isBlank placeLine placeLines answerLines dotLines
 lines = (refl, refl)
 
 -- "`R9` alone, or a line for each answer place"
-pub texts : (listText (Refused TooShort) (blank ∷ []) ≡ quoted "R9\n") × (listText Nothing (Ack ∷ blank ∷ []) ≡ quoted "A\n.\n")
+pub texts : map (λ (a : Answer). listText a (Ack ∷ blank ∷ [])) (Refused TooShort ∷ answers)
+    ≡ map quoted ("R9\n" ∷ "A\n.\n" ∷ "A\n.\n" ∷ "A\n.\n" ∷ "A\n.\n" ∷ [])
 unfolding open-text isSetups isBlank placeLine placeLines listText
-texts = (refl, refl)
+texts = refl
 
 -- "more gets a sentence on standard error"
 pub too-many : tooManyText ≡ quoted "list: more than 4096 records in one list\n"

@@ -18,7 +18,7 @@ use Rattle.script_turns.proofs.turns.Laws.{left-length}
 use Rattle.script_turns.proofs.turns.Cut.{bench-cut}
 use Rattle.script_turns.proofs.turns.Whole.{After, turn-come, turns-whole}
 use Rattle.script_streams.specs.declared.reading.Going.{Going}
-use Rattle.script_streams.specs.Reading.{Ran, turnsLeave, turnsPut, begun, Exhausted, mostReads, Ended, Served, servedPut}
+use Rattle.script_streams.specs.Reading.{Ran, turnsLeave, turnsPut, begun, UpToLast, Exhausted, mostReads, Ended, Served, servedPut}
 
 -- from any turn on: all records of what is held and of what comes have been run, and what is left of them is held
 pub turns-left : (q : Ran) (h : List ℕ) (rs : List Read) → q .held ≡ length h → length h < 4 → take (length h) (q .buf) ≡ h
@@ -62,26 +62,26 @@ ended-left lines b m out g stored written e =
     let t = turns-left (begun (record { bus = b; memory = m }) (e .buf) out) [] (e .reached .reads) refl (omega arith) refl in
     (sym (ap (λ (z : Ran). z .bench) (e .reached .turned)) ∙ t .0, sym (ap (λ (z : Ran). z .held) (e .reached .turned)) ∙ t .1)
 
--- It has read until a read brought nothing, unless a write failed or that many reads were made.
-last-came : (q : Ran) (r : Read) (rs : List Read) → (turnsLeave q (r ∷ rs)) .came ≡ false → Exhausted (r ∷ rs)
-unfolding turnsLeave Exhausted
-last-came q r [] e = e
-last-came q r (s ∷ rs) e = last-came (turnsLeave q (r ∷ [])) s rs e
+-- It has read until a read brought nothing, and no further, unless a write failed or that many reads were made.
+last-came : (q : Ran) (r : Read) (rs : List Read) → UpToLast (r ∷ rs) → (turnsLeave q (r ∷ rs)) .came ≡ false → Exhausted (r ∷ rs)
+unfolding turnsLeave UpToLast Exhausted
+last-came q r [] u e = e
+last-came q r (s ∷ rs) u e = (u .0, last-came (turnsLeave q (r ∷ [])) s rs (u .1) e)
 
 pub ended-exhausted : (lines : Bool) (b : Bus) (m out : List ℕ) (g : Going) (stored written : List ℕ) (e : Ended lines b m out g stored written)
     → g .told ≡ true → (length (e .reached .reads) ≡ mostReads → ⊥) → Exhausted (e .reached .reads)
 unfolding turnsLeave
 ended-exhausted lines b m out g stored written e t n =
     let c : e .came ≡ false = nothing (e .came) (λ c. n (e .over (e .onward .on ∙ ap₂ _&&_ t c))) in
-    exhausted (begun (record { bus = b; memory = m }) (e .buf) out) (e .reached .reads) refl (ap (λ (z : Ran). z .came) (e .reached .turned) ∙ c)
+    exhausted (begun (record { bus = b; memory = m }) (e .buf) out) (e .reached .reads) (e .before) refl (ap (λ (z : Ran). z .came) (e .reached .turned) ∙ c)
   where
     nothing : (b : Bool) → (b ≡ true → ⊥) → b ≡ false
     nothing true h = absurd (h refl)
     nothing false h = refl
 
-    exhausted : (q : Ran) (rs : List Read) → q .came ≡ true → (turnsLeave q rs) .came ≡ false → Exhausted rs
-    exhausted q [] o c = absurd (false≢true (sym c ∙ o))
-    exhausted q (r ∷ rs) o c = last-came q r rs c
+    exhausted : (q : Ran) (rs : List Read) → UpToLast rs → q .came ≡ true → (turnsLeave q rs) .came ≡ false → Exhausted rs
+    exhausted q [] u o c = absurd (false≢true (sym c ∙ o))
+    exhausted q (r ∷ rs) u o c = last-came q r rs u c
 
 -- WHAT `serve` PUTS AT THE FRONT OF THE OUTPUT, of its contract: turn after turn and at the end, what the program's composition of the steps writes
 puts-write : (q : Ran) (rs : List Read)

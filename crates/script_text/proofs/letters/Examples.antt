@@ -10,6 +10,11 @@ use Rattle.script_text.specs.Letters.{hexDigit, lineOf, shortLine, refus
 use Rattle.script_text.specs.Open.{open-text}
 use Rattle.script_text.specs.Quoted.{quoted}
 
+-- the characters that are written, by their bytes
+pub characters : quoted "-?.: 09ANDRSs\n" ≡ 0x2D ∷ 0x3F ∷ 0x2E ∷ 0x3A ∷ 0x20 ∷ 0x30 ∷ 0x39 ∷ 0x41 ∷ 0x4E ∷ 0x44 ∷ 0x52 ∷ 0x53 ∷ 0x73 ∷ 0x0A ∷ []
+unfolding open-text
+characters = refl
+
 -- "two hex digits in capitals"
 pub hex-digits : map hexDigit (0 ∷ 1 ∷ 2 ∷ 3 ∷ 4 ∷ 5 ∷ 6 ∷ 7 ∷ 8 ∷ 9 ∷ 10 ∷ 11 ∷ 12 ∷ 13 ∷ 14 ∷ 15 ∷ []) ≡ quoted "0123456789ABCDEF"
 unfolding open-text

@@ -46,6 +46,8 @@ table =
     (memory ++ wholeCase, "-\nA\nA\nA\n-\n-\nN\n-\n-\nA\n")
     -- and then the byte that was written, and the next one: "Memory starts as FFh"
     ∷ (memory ++ wholeCase ++ byte 0x00 ++ start ++ byte 0xA1 ++ more ++ last ++ last ++ stop, "-\nA\nA\nA\n-\n-\nN\n-\n-\nA\nA\n-\nA\nD5A\nDFF\nDFF\n-\n")
+    -- the last byte of all: slot 7, half 1, counter FFh
+    ∷ (replicate 14 0 ++ 1 ∷ 5 ∷ start ++ byte 0x6E ++ start ++ byte 0xAE ++ byte 0xFF ++ start ++ byte 0xAF ++ last, "-\nA\n-\nA\nA\n-\nA\nDFF\n")
     -- `R` and the number: kinds 0 and 10; slot 2, which is absent, and slot 0, which has no sensor; a byte of 256, and -641, 2001 and the two ends
     ∷ (withSensor ++ (0 ∷ 0 ∷ 0 ∷ 0 ∷ []) ++ (10 ∷ 0 ∷ 0 ∷ 0 ∷ []), "R2\nR2\n")
     ∷ (withSensor ++ (7 ∷ 2 ∷ 0 ∷ 1 ∷ []) ++ (9 ∷ 0 ∷ 0 ∷ 0 ∷ []) ++ (7 ∷ 1 ∷ 0 ∷ 1 ∷ []), "R3\nR3\n-\n")
