@@ -113,7 +113,6 @@ pub bench-named : (n : ℕ) (x : Bench) (cs : List Captured) (k : ℕ) (a : Answ
     → benchFrom x cs ≡ next (r .here .event) (after (eventsOf (r .before)) x)
 unfolding benchFrom
 bench-named n x cs k a s r =
-    let y : Bench = after (eventsOf (r .before)) x in
     ap (benchFrom x) (r .parts) ∙ bench-cut n x (r .before) (r .here ∷ r .behind) (accepted-from n x (r .before) (r .alike))
     ∙ ap (λ (z : Bench). benchFrom z (r .here ∷ r .behind)) (bench-after x (r .before) (r .alike)) ∙ rw (at-named n x cs k a s r)
 

@@ -48,7 +48,7 @@ closed-differs left Short k a s h = h
 closed-differs left (Refused r) k a s h = h
 
 module _ (ps : List Pair) (m : List ℕ) where
-  -- the refusal that is given, before any record, and where neither is the verdict on the records
+  -- a memory of another length, a bad setup, and otherwise the verdict on the records
   pub at-memory : (bs : List ℕ) → (length m ≡ memoryBytes → ⊥) → verdictOf ps m bs ≡ Refused MemoryLength
   unfolding verdictOf wrongLength
   at-memory bs h = rw (ne-eqb (length m) memoryBytes h)
