@@ -20,6 +20,6 @@ answer-spec =
     (λ c. search needs)
     (λ c κs. search needs)
     (λ c. search needs)
-    (λ c κs. let f = plan-fits _ _ _ _ _ _ _ (c .before .before .before .plan .ensures) in (omega arith, omega arith, omega arith))
+    (λ c κs. let f = plan-fits _ _ _ _ _ _ _ (c .before .before .before .plan .ensures .0) in (omega arith, omega arith, omega arith))
     (λ c. search needs)
-    (λ c. answer-plan _ _ _ _ _ _ _ _ _ _ (c .before .before .before .before .before .before .before .before .before .if1 .left) (c .before .before .before .before .before .before .before .before .if2 .left) (c .before .before .before .before .before .before .plan .ensures) (c .before .before .put-plan .ensures)))
+    (λ c. answer-plan _ _ _ _ _ _ _ _ _ _ (c .before .before .before .before .before .before .before .before .before .if1 .left) (c .before .before .before .before .before .before .before .before .if2 .left) (c .before .before .before .before .before .before .plan .ensures .0) (c .before .before .put-plan .ensures)))
