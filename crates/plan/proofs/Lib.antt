@@ -3,3 +3,4 @@ pub mod Laws
 pub mod Whole
 pub mod Printed
 pub mod Promise
+pub mod Examples
