@@ -199,11 +199,10 @@ fullForm =
     ++ (0x04 ∷ 0x00 ∷ 0x78 ∷ []) ++ ofEach (λ k. k ∷ replicate 11 0x00 ++ 0x01 ∷ 0x00 ∷ 0x01 ∷ [])
 
 pub record Full : Type 0 where
-  pub form : formOf fullBus fullMemory ≡ fullForm
   pub saved : saveOf fullBus fullMemory (replicate 4276 0xEE) ≡ (Form 4276, fullForm)
   pub short : saveOf fullBus fullMemory (replicate 4275 0xEE) ≡ (Refused TooShort, replicate 4275 0xEE)
   pub bus : busIn fullForm ≡ fullBus
 
 pub full : Full
 unfolding open-saved
-full = record { form = refl; saved = refl; short = refl; bus = refl }
+full = record { saved = refl; short = refl; bus = refl }
