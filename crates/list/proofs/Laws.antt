@@ -81,10 +81,3 @@ pub list-most : (x : Bench) (number rs : List ℕ) → numberIn number ≤ 65535
 unfolding listFor
 list-most x number rs h =
     cond-cases (λ (l : List ℕ). length l ≤ 262140) (isCut number rs) (λ _. omega arith) (λ _. lines-most x (eventsIn rs (length rs / 4)) (numberIn number) h)
-
-pub answer-onward : (x : Bench) (number rs out o : List ℕ) (r : Answered) → answerOf x number rs out ≡ (r, o) → numberIn number ≤ 65535 → r .end ≤ 262140
-unfolding answerOf answeredBy
-answer-onward x number rs out o r e h =
-    let k : answerOf x number rs out .0 .end ≤ 262140 =
-    cond-cases (λ (a : Answered × List ℕ). a .0 .end ≤ 262140) (tooMany rs) (λ _. omega arith) (λ _. list-most x number rs h) in
-    rw (sym (ap (λ (z : Answered × List ℕ). z .0 .end) e)) k
