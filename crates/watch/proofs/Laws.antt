@@ -6,11 +6,11 @@ use mathlib.Core.List.{List, [], _∷_, _++_}
 use Prim.Native.Nat.{ℕ, zero, suc, _+_, _≤_, _<_}
 use native.Mathlib.Nat.{zero-add, add-zero}
 use native.Mathlib.Omega.{arith}
-use borrow.Author.Tests.{lt-ltb, le-ltb, ltb-true, ltb-false}
-use lib.Dec.{ltb}
+use borrow.Author.Tests.{lt-ltb, le-ltb, ltb-true, ltb-false, lt-leb, le-leb}
+use lib.Dec.{ltb, leb}
 use lib.ListN.{length, take, length-append}
 use lib.Seq.{sets, length-sets, length-take-le}
-use Rattle.proof_lists.specs.Tests.{by-test}
+use Rattle.proof_lists.specs.Tests.{by-test, cond-cases}
 use Rattle.rules.specs.declared.Bus.{Bus}
 use Rattle.rules.specs.declared.Event.{Event}
 use Rattle.rules.specs.declared.Outcome.{Outcome}
@@ -22,12 +22,13 @@ use Rattle.script_text.specs.Records.{recordAt}
 use Rattle.script_text.specs.Letters.{lineOf}
 use Rattle.script_text.proofs.letters.Laws.{Put, put-on}
 use Rattle.script_turns.specs.Frame.{lastLine, finishOf}
+use Rattle.script_turns.proofs.frame.Laws.{last-length}
 use Rattle.watch_text.specs.Lines.{changeLines}
 use Rattle.watch.specs.declared.Going.{Going}
 use Rattle.watch.specs.declared.Stepped.{Stepped}
 use Rattle.watch.specs.Watch.{firstText, recordText}
-use Rattle.watch.specs.Steps.{firstOf, stepOf}
-use Rattle.watch.specs.Reading.{cut, readText, readNext, benchLeft, outLeft, Went, UpToLast, Exhausted, mostReads, Watched}
+use Rattle.watch.specs.Steps.{firstOf, cut, readText, readNext, stepOf}
+use Rattle.watch.specs.Reading.{benchLeft, outLeft, Went, UpToLast, Exhausted, mostReads, Watched}
 
 -- the slots behind the setup
 pub first-by : (b none : Bus) (out o : List ℕ) (end : ℕ) → none ≡ emptyBus → Put out 0 (changeLines (none .slots) (b .slots)) end o
@@ -39,6 +40,15 @@ first-by b none out o end e p =
     let q : sets out 0 (changeLines (emptyBus .slots) (b .slots)) ≡ o = sym (p .1 ∙ ap (sets out 0) t) in
     λ i. (k i, q i)
 
+-- fewer bytes than a record has
+pub cut-by : (b : Bus) (m bs out o : List ℕ) (end : ℕ) → length bs < 4 → finishOf (length bs) out ≡ (end, o)
+    → (stepOf (record { bus = b; memory = m }) bs out ≡ (record { bus = b; end = end }, m, o)) × (end ≤ 6)
+unfolding stepOf readText readNext finishOf
+cut-by b m bs out o end h e =
+    let c : cut bs ≡ true = lt-ltb (length bs) 4 h in
+    let k : length (lastLine (length bs)) ≡ end = ap (λ (z : ℕ × List ℕ). z .0) e in
+    (rw c (λ i. (record { bus = b; end = (e i) .0 }, m, (e i) .1)), omega (arith, last-length (length bs)))
+
 -- a record: its line, and those of the slots
 module _ (b : Bus) (m bs out : List ℕ) (e : Event) (y : Outcome) (n : List ℕ) (f : e ≡ recordAt bs 0) (g : eventOf b m e ≡ (y, n)) where
   abbrev begun : Bench
@@ -47,58 +57,43 @@ module _ (b : Bus) (m bs out : List ℕ) (e : Event) (y : Outcome) (n : List ℕ
   after : record { bus = y .bus; memory = n } ≡ next (recordAt bs 0) begun
   after = event-bench b m e y n g ∙ ap (λ (v : Event). next v begun) f
 
-  pub step-by : (o p : List ℕ) (line end : ℕ) → Put out 0 (lineOf (y .answer)) line o → Put o line (changeLines (b .slots) (y .bus .slots)) end p
-      → stepOf begun bs out ≡ (record { bus = y .bus; end = end }, n, p)
-  unfolding stepOf recordText
-  step-by o p line end k l =
+  pub step-by : (o p : List ℕ) (line end : ℕ) → 4 ≤ length bs → Put out 0 (lineOf (y .answer)) line o
+      → Put o line (changeLines (b .slots) (y .bus .slots)) end p → stepOf begun bs out ≡ (record { bus = y .bus; end = end }, n, p)
+  unfolding stepOf readText readNext recordText
+  step-by o p line end h k l =
+      let c : cut bs ≡ false = le-ltb (length bs) 4 h in
       let a : y .answer ≡ answered (recordAt bs 0) begun = event-answer b m e y n g ∙ ap (λ (v : Event). answered v begun) f in
       let t : lineOf (y .answer) ++ changeLines (b .slots) (y .bus .slots) ≡ recordText (recordAt bs 0) begun =
       ap₂ (λ (v : List ℕ) (w : Bench). v ++ changeLines (b .slots) (w .bus .slots)) (ap lineOf a) after in
       let q : Put out 0 (recordText (recordAt bs 0) begun) end p =
       rw t at (put-on out o p 0 line end (lineOf (y .answer)) (changeLines (b .slots) (y .bus .slots)) k l) in
-      let h : length (recordText (recordAt bs 0) begun) ≡ end = sym (q .0 ∙ zero-add _) in
-      λ i. (record { bus = (sym after i) .bus; end = h i }, (sym after i) .memory, sym (q .1) i)
+      let j : length (recordText (recordAt bs 0) begun) ≡ end = sym (q .0 ∙ zero-add _) in
+      rw c (λ i. (record { bus = (sym after i) .bus; end = j i }, (sym after i) .memory, sym (q .1) i))
 
--- one read: less than a record, or a whole one
-pub went-cut : (b : Bus) (m out xs o : List ℕ) (n end : ℕ) (told : Bool) → n < 4 → n ≤ length xs → finishOf n out ≡ (end, o)
-    → Went (record { bus = b; memory = m }) out (record { bus = b; told = told; on = false }) m o
-unfolding finishOf readText readNext
-went-cut b m out xs o n end told h l e =
-    let k : length (take n xs) ≡ n = length-take-le n xs l in
-    let c : cut (take n xs) ≡ true = lt-ltb (length (take n xs)) 4 (rw k h) in
+-- one read
+pub went-by : (b : Bus) (m out xs stored o : List ℕ) (n : ℕ) (s : Stepped) (told : Bool) → n ≤ length xs → length xs ≡ 4
+    → stepOf (record { bus = b; memory = m }) (take n xs) out ≡ (s, stored, o)
+    → Went (record { bus = b; memory = m }) out (record { bus = s .bus; told = told; on = told && leb 4 n }) stored o
+unfolding stepOf
+went-by b m out xs stored o n s told h l e =
+    let k : length (take n xs) ≡ n = length-take-le n xs h in
     record {
       came = take n xs;
       fits = omega arith;
-      bench = rw c;
-      put = rw (c, k) (sym (ap (λ (z : ℕ × List ℕ). z .1) e));
-      on = rw c (none told);
+      bench = sym (ap (λ (z : Stepped × List ℕ × List ℕ). record { bus = z .0 .bus; memory = z .1 }) e);
+      put = sym (ap (λ (z : Stepped × List ℕ × List ℕ). z .2) e);
+      on = ap (told &&_) (whole n ∙ sym (ap (λ i. not (ltb i 4)) k));
     }
   where
-    none : (b : Bool) → false ≡ b && false
-    none true = refl
-    none false = refl
-
-pub went-whole : (b : Bus) (m out xs stored o : List ℕ) (s : Stepped) (told : Bool) → length xs ≡ 4 → stepOf (record { bus = b; memory = m }) xs out ≡ (s, stored, o)
-    → Went (record { bus = b; memory = m }) out (record { bus = s .bus; told = told; on = told }) stored o
-unfolding stepOf readText readNext
-went-whole b m out xs stored o s told h e =
-    let c : cut xs ≡ false = le-ltb (length xs) 4 (omega arith) in
-    record {
-      came = xs;
-      fits = omega arith;
-      bench = rw c (sym (ap (λ (z : Stepped × List ℕ × List ℕ). record { bus = z .0 .bus; memory = z .1 }) e));
-      put = rw c (sym (ap (λ (z : Stepped × List ℕ × List ℕ). z .2) e));
-      on = rw c (all told);
-    }
-  where
-    all : (b : Bool) → b ≡ b && true
-    all true = refl
-    all false = refl
+    whole : (n : ℕ) → leb 4 n ≡ not (ltb n 4)
+    whole n = by-test (ltb n 4) (λ e. rw e (lt-leb 4 n (ltb-true n 4 e))) (λ e. rw e (le-leb 4 n (ltb-false n 4 e)))
 
 -- the bus stays in range
 pub step-in-range : (x : Bench) (bs out stored o : List ℕ) (s : Stepped) → inRange (x .bus) ≡ true → stepOf x bs out ≡ (s, stored, o) → inRange (s .bus) ≡ true
-unfolding stepOf
-step-in-range x bs out stored o s h e = sym (ap (λ (z : Stepped × List ℕ × List ℕ). inRange (z .0 .bus)) e) ∙ next-in-range (recordAt bs 0) x h
+unfolding stepOf readNext
+step-in-range x bs out stored o s h e =
+    sym (ap (λ (z : Stepped × List ℕ × List ℕ). inRange (z .0 .bus)) e)
+    ∙ cond-cases (λ (y : Bench). inRange (y .bus) ≡ true) (cut bs) (λ c. h) (λ c. next-in-range (recordAt bs 0) x h)
 
 -- reads that were all whole records
 unfoldable pub Each : List (List ℕ) → Type 0

@@ -3,28 +3,15 @@
 -- Assumes nothing.
 use Prim.Native.Nat.{ℕ, _≤_}
 use mathlib.Core.Path.{_≡_}
-use mathlib.Core.Bool.{Bool, true, false, cond, not, _&&_}
+use mathlib.Core.Bool.{Bool, true, not, _&&_}
 use mathlib.Core.List.{List, [], _∷_, _++_}
-use lib.Dec.{ltb}
 use lib.ListN.{length}
 use lib.Seq.{sets}
 use Rattle.rules.specs.declared.Bus.{Bus}
-use Rattle.rules.specs.Runs.{Bench, next}
-use Rattle.script_text.specs.Records.{recordAt}
-use Rattle.script_turns.specs.Frame.{lastLine}
+use Rattle.rules.specs.Runs.{Bench}
 use Rattle.watch.specs.declared.Going.{Going}
-use Rattle.watch.specs.Watch.{firstText, recordText}
-
--- a read is the bytes of one record, or fewer: then the input has ended
-abbrev pub cut : List ℕ → Bool
-cut c = ltb (length c) 4
-
--- what is put for it, and the bench after it
-unfoldable pub readText : Bench → List ℕ → List ℕ
-readText x c = cond (cut c) (lastLine (length c)) (recordText (recordAt c 0) x)
-
-unfoldable pub readNext : Bench → List ℕ → Bench
-readNext x c = cond (cut c) x (next (recordAt c 0) x)
+use Rattle.watch.specs.Watch.{firstText}
+use Rattle.watch.specs.Steps.{cut, readText, readNext}
 
 -- read after read: the bench, the output, and what is put at its front, one after another
 unfoldable pub benchLeft : Bench → List (List ℕ) → Bench

@@ -30,12 +30,17 @@ fn first(bus: Bus, out: &mut [u8]) -> usize
     watch_text::lines::put_changes(out, 0, was, is)
 }
 
-// A record is run, and its line and those of the slots that it changed are put at the front of the output.
+// A record is run, and its line and those of the slots that it changed are put at the front of the output; of fewer bytes, with which the input ends,
+// the last line is.
 fn step(bus: Bus, mem: &mut [u8], bytes: &[u8], out: &mut [u8]) -> Stepped
-    requires { ⌜ (inRange bus ≡ true) × (length (now mem) ≡ memoryBytes) × (4 ≤ length (now bytes)) × (23204 ≤ length (now out)) ⌝ }
+    requires { ⌜ (inRange bus ≡ true) × (length (now mem) ≡ memoryBytes) × (23204 ≤ length (now out)) ⌝ }
     ensures { λ r. ⌜ (stepOf (record { bus = bus; memory = now (mem .entry) }) (now (bytes .entry)) (now (out .entry))
         ≡ (r, now (mem .exit), now (out .exit))) × (r .end ≤ length (now (out .entry))) ⌝ }
 {
+    if bytes.len() < 4 {
+        let end = script_turns::frame::finish(bytes.len(), out);
+        return Stepped { bus, end };
+    }
     let e = script_text::records::record_at(bytes, 0);
     let x = bus_event::event_in_range(bus, mem, e);
     let answer = x.answer;
@@ -61,8 +66,7 @@ fn tell(out: &[u8], end: usize) -> bool
     io::write_all(STDOUT_FILENO, &out[..end])
 }
 
-// One record is read, and run and told; at the input's end, where fewer bytes come, the last line is. It goes on after a whole record, unless the
-// write failed.
+// The bytes of one record are read, or as many as come, and a step is taken with them and told. It goes on after a whole record, unless the write failed.
 fn read_on(bus: Bus, mem: &mut [u8], out: &mut [u8]) -> Going
     requires { ⌜ (inRange bus ≡ true) × (length (now mem) ≡ memoryBytes) × (length (now out) ≡ 65536) ⌝ }
     ensures { λ r. ⌜ (inRange (r .bus) ≡ true) × Went (record { bus = bus; memory = now (mem .entry) }) (now (out .entry))
@@ -70,19 +74,14 @@ fn read_on(bus: Bus, mem: &mut [u8], out: &mut [u8]) -> Going
 {
     let mut four = [0u8; 4];
     let n = io::read_full(STDIN_FILENO, &mut four);
-    if n < 4 {
-        let end = script_turns::frame::finish(n, out);
-        let told = tell(out, end);
-        return Going { bus, told, on: false };
-    }
-    let s = step(bus, mem, &four, out);
+    let s = step(bus, mem, &four[..n], out);
     let end = s.end;
     let told = tell(out, end);
     let next = s.bus;
     Going {
         bus: next,
         told,
-        on: told,
+        on: told & (4 <= n),
     }
 }
 
