@@ -66,7 +66,8 @@ fn tell(out: &[u8], end: usize) -> bool
     io::write_all(STDOUT_FILENO, &out[..end])
 }
 
-// The bytes of one record are read, or as many as come, and a step is taken with them and told. It goes on after a whole record, unless the write failed.
+// The bytes of one record are read, or as many as come, and a step is taken with them and told. It goes on after a whole record, unless the write
+// failed.
 fn read_on(bus: Bus, mem: &mut [u8], out: &mut [u8]) -> Going
     requires { ⌜ (inRange bus ≡ true) × (length (now mem) ≡ memoryBytes) × (length (now out) ≡ 65536) ⌝ }
     ensures { λ r. ⌜ (inRange (r .bus) ≡ true) × Went (record { bus = bus; memory = now (mem .entry) }) (now (out .entry))
