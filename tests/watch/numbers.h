@@ -1,7 +1,8 @@
 /*
  * The 57 numbers of a slot, by their names and in the order of its line, as
  * `watch` tells them; taken from the second opinion's own fields.  Included by
- * rewatch.c and watcher.c.
+ * rewatch.c and watcher.c.  The file planted.txt replaces single lines of it:
+ * keep the two in step.
  *
  * Of most of them the second opinion has a field.  It has none of these, and
  * they follow from what it has:
@@ -18,6 +19,10 @@
  *   word        the first byte of a sensor write, high, or both of a read, in
  *               their phases, else 0 (docs/DECISIONS.md, 8)
  */
+#ifndef NUMBERS_H
+#define NUMBERS_H
+#include "model.h"
+
 enum {
     AT_KIND, AT_LENGTH, AT_LEFT, AT_HALF, AT_COUNTER, AT_PLACE, AT_VOLTAGE, AT_PHASE,
     AT_PROTECTION,
@@ -112,3 +117,5 @@ static void numbers_of(const struct slot *s, long to[NUMBERS])
         to[AT_CONFIGURATION + i] = s->reg[registers[i]];
     to[AT_WORD] = word_of(s);
 }
+
+#endif

@@ -21,10 +21,9 @@
  * wrote to standard output and standard error.  Else one line sums up.
  */
 #define JUDGE "rewatch"
-#include "model.h"
+#include "numbers.h"
 #include "chance.h"
 #include "judge.h"
-#include "numbers.h"
 
 enum { TALK_UP_TO = 60 };         /* records of a talk */
 
