@@ -2,6 +2,7 @@
 // came of it. `stdin` says what a line may hold, and `stdout` has what document 01 asks for.
 ghost use Prim.Native.Nat.{_≤_};
 ghost use lib.ListN.{length};
+
 mod names; // the words of the tries
 mod parts; // parts of memory and shelf
 mod report; // what is told of the tries
@@ -87,7 +88,12 @@ fn given(bus: Bus, mem: &mut [u8], bytes: &[u8], text: &mut [u8; 262140]) -> Tol
 fn give(bus: Bus, mem: &mut [u8], length: usize, t: [u32; 38]) -> Bus {
     let mut text = [0u8; 262140];
     let bytes = words::bytes_of(t);
-    let told = given(bus, parts::front(mem, length), parts::first(&bytes, words::byte_count(t)), &mut text);
+    let told = given(
+        bus,
+        parts::front(mem, length),
+        parts::first(&bytes, words::byte_count(t)),
+        &mut text,
+    );
     report::lines(&text, told.end);
     told.bus
 }
@@ -240,7 +246,12 @@ fn run(b: Bench, mem: &mut [u8; 8192], shelf: &mut [u8; 8192], t: [u32; 38]) -> 
             ..b
         },
         names::SLOT => slot(b, t),
-        names::LIST | names::RESTORE | names::EVENT..=names::TEMPERATURE => move_on(b, mem, shelf, t),
+        names::LIST | names::RESTORE | names::EVENT..=names::TEMPERATURE => move_on(
+            b,
+            mem,
+            shelf,
+            t,
+        ),
         names::SAVE | names::PLAN => {
             shelve(b, mem, shelf, t);
             b
