@@ -86,34 +86,27 @@ pub fn slot(bus: Bus, n: u32) {
     }
 }
 
-// A line of the script for an answer, in words.
-fn line(l: [u8; 4]) {
-    match l[0] {
-        b'-' => word(names::TAKEN),
-        b'A' => word(names::ACK),
-        b'N' => word(names::NACK),
-        b'D' => {
-            sign(b' ');
-            sign(l[1]);
-            sign(l[2]);
-            sign(b'h');
-        }
-        _ => {
-            word(names::REFUSED);
-            sign(b' ');
-            sign(l[1]);
-            if l[2] != b'\n' {
-                sign(l[2]);
-            }
-        }
+// A refusal's number, as the script's line has it: one digit or two.
+fn refusal(a: Answer) {
+    let mut l = [0u8; 4];
+    script_text::letters::put_line(&mut l, 0, a);
+    word(names::REFUSED);
+    sign(b' ');
+    sign(l[1]);
+    if l[2] != b'\n' {
+        sign(l[2]);
     }
 }
 
 pub fn answer(a: Answer) {
-    let mut l = [0u8; 4];
-    script_text::letters::put_line(&mut l, 0, a);
     sign(b':');
-    line(l);
+    match a {
+        Answer::Nothing => word(names::TAKEN),
+        Answer::Ack => word(names::ACK),
+        Answer::Nack => word(names::NACK),
+        Answer::Data(b) => byte(b),
+        Answer::Refused(_) => refusal(a),
+    }
 }
 
 // Whether two slots hold the same, number by number.
@@ -189,25 +182,25 @@ pub fn part(bytes: &[u8]) {
 }
 
 // A byte behind a space.
-fn byte(mem: &[u8; 8192], at: u32) {
+fn byte(b: u8) {
     sign(b' ');
-    hex(state::wide(mem[(at % 8192) as usize]));
+    hex(state::wide(b));
 }
 
 // The byte at an address of a slot.
 pub fn at(mem: &[u8; 8192], n: u32, i: u32) {
     sign(b':');
-    byte(mem, 512 * (n % 16) + i % 512);
+    byte(mem[(512 * (n % 16) + i % 512) as usize]);
 }
 
 // The four bytes of record k.
 pub fn record(mem: &[u8; 8192], k: u32) {
-    let from = 4 * (k % 2048);
+    let from = (4 * (k % 2048)) as usize;
     sign(b':');
-    byte(mem, from);
-    byte(mem, from + 1);
-    byte(mem, from + 2);
-    byte(mem, from + 3);
+    byte(mem[from]);
+    byte(mem[from + 1]);
+    byte(mem[from + 2]);
+    byte(mem[from + 3]);
 }
 
 // What stands at the answer places of a list: the lines as the list program writes them, each behind a space instead of its end.
