@@ -1,6 +1,7 @@
 // Lists for tests: a setup on standard input, then lists, each two bytes its number of records, the high byte first, and the records. Each is given
 // as one list, with as many answer places, over the bench as the one before left it, and its lines are written: so a script cut into lists gives
 // the script's lines. A list that is cut is not given, and ends with `short`; one of more than 4,096 records ends with the list program's sentence.
+ghost use mathlib.Core.Path.{_≡_};
 ghost use Prim.Native.Nat.{_≤_};
 ghost use lib.ListN.{length};
 use libc::STDERR_FILENO;
@@ -82,17 +83,16 @@ fn give_list(bus: Bus, mem: &mut [u8], records: &[u8]) -> Bus
     told.bus
 }
 
-// A list's records are read and given, if they are whole.
-fn read_list(bus: Bus, mem: &mut [u8], size: usize) -> Going
-    requires { ⌜ size ≤ 16384 ⌝ }
+// A list's records are read into the room for them, and given, if they are whole.
+fn read_list(bus: Bus, mem: &mut [u8], room: &mut [u8], size: usize) -> Going
+    requires { ⌜ (size ≤ 16384) × (length (now room) ≡ 16384) ⌝ }
 {
-    let mut records = [0u8; MOST];
-    let came = io::read_full(STDIN_FILENO, &mut records[..size]);
+    let came = io::read_full(STDIN_FILENO, &mut room[..size]);
     if came < size {
         cut();
         return Going { bus, on: false };
     }
-    let next = give_list(bus, mem, &records[..size]);
+    let next = give_list(bus, mem, &room[..size]);
     Going {
         bus: next,
         on: true,
@@ -100,7 +100,9 @@ fn read_list(bus: Bus, mem: &mut [u8], size: usize) -> Going
 }
 
 // List after list, until the input ends or one is not given. A proved loop has to end, so it counts down from a number that no input uses up.
-fn read_all(bus: Bus, mem: &mut [u8]) {
+fn read_all(bus: Bus, mem: &mut [u8], room: &mut [u8])
+    requires { ⌜ length (now room) ≡ 16384 ⌝ }
+{
     let mut g = Going { bus, on: true };
     let mut turns = u64::MAX;
     while 0 < turns {
@@ -108,7 +110,7 @@ fn read_all(bus: Bus, mem: &mut [u8]) {
         if MOST < size {
             return;
         }
-        g = read_list(g.bus, mem, size);
+        g = read_list(g.bus, mem, room, size);
         if !g.on {
             return;
         }
@@ -118,10 +120,11 @@ fn read_all(bus: Bus, mem: &mut [u8]) {
 
 fn main() {
     let mut mem = [0u8; 4096];
+    let mut room = [0u8; MOST];
     let mut out = [0u8; 6];
     let begun = script_streams::opening::begin(STDOUT_FILENO, &mut mem, &mut out);
     if begun.on {
         let bus = begun.bus;
-        read_all(bus, &mut mem);
+        read_all(bus, &mut mem, &mut room);
     }
 }
