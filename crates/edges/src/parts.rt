@@ -1,5 +1,5 @@
 // Parts of a memory, of the shelf, or of a command's bytes, each cut to what there is.
-ghost use Prim.Native.Nat.{_≤_, _-_};
+ghost use Prim.Native.Nat.{_≤_};
 ghost use lib.ListN.{length};
 
 pub fn least(a: usize, b: usize) -> usize

@@ -203,7 +203,7 @@ pub fn record(mem: &[u8; 8192], k: u32) {
     byte(mem[from + 3]);
 }
 
-// What stands at the answer places of a list: the lines as the list program writes them, each behind a space instead of its end.
+// The lines of a list as the list program writes them, each behind a space instead of its end.
 fn lines_of(text: &[u8]) {
     let mut before = b'\n';
     let mut i = 0;
@@ -219,6 +219,7 @@ fn lines_of(text: &[u8]) {
     }
 }
 
+// What stands at the answer places of a list: the front of the text, up to its end.
 pub fn lines(text: &[u8; 262140], end: usize) {
     sign(b':');
     if end == 0 {
