@@ -8,16 +8,8 @@ use lib.ListN.{take, replicate}
 use Rattle.script_text.specs.Quoted.{quoted}
 use Rattle.script_turns.specs.Open.{open-script}
 use Rattle.save_rules.specs.Open.{open-saved}
-use Rattle.resume.specs.Asked.{formBytes, tooLong, wantedBytes, resumed, writtenFor}
-
--- "four bytes with the form's length, high byte first"; "A length above 65,535 is `R10` at once", and a length that is cut reads no form
-pub lengths : map formBytes ((0x12 ∷ 0x34 ∷ 0x56 ∷ 0x78 ∷ []) ∷ (0x00 ∷ 0x00 ∷ 0x01 ∷ 0x02 ∷ 0x03 ∷ []) ∷ []) ≡ 0x12345678 ∷ 0x0102 ∷ []
-unfolding formBytes
-lengths = refl
-
-pub wanted : map wantedBytes ((0 ∷ 0 ∷ 1 ∷ 2 ∷ []) ∷ (0 ∷ 0 ∷ 0xFF ∷ 0xFF ∷ []) ∷ (0 ∷ 1 ∷ 0 ∷ 0 ∷ []) ∷ (0 ∷ 0 ∷ 1 ∷ []) ∷ []) ≡ 0x0102 ∷ 65535 ∷ 0 ∷ 0 ∷ []
-unfolding formBytes tooLong wantedBytes
-wanted = refl
+use Rattle.save_opening.specs.Opening.{formBytes, tooLong}
+use Rattle.resume.specs.Asked.{resumed, writtenFor}
 
 -- the form of a bench with a memory of length 1 in slot 0, 544 bytes: its counter is 7, and its bytes are A5h but the one there
 abbrev length : List ℕ

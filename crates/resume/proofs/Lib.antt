@@ -1,4 +1,2 @@
 pub mod Examples
-pub mod Laws
-pub mod Onward
 pub mod Whole

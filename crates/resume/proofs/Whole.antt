@@ -24,9 +24,11 @@ use Rattle.script_streams.specs.Reading.{Served, servedPut}
 use Rattle.script_streams.proofs.reading.Whole.{served-puts}
 use Rattle.save_rules.specs.Reading.{accepted, restored, restoreOf}
 use Rattle.save_rules.proofs.Back.{restores-form}
-use Rattle.resume.specs.Asked.{badFormLine, formBytes, tooLong, wantedBytes, stoppedBy, begunBy, beginOf, resumed, writtenFor}
-use Rattle.resume.specs.Program.{Opened, resumeWrites}
-use Rattle.resume.proofs.Laws.{bad-form}
+use Rattle.save_opening.specs.Opened.{Opened}
+use Rattle.save_opening.specs.Opening.{badFormLine, formBytes, tooLong, wantedBytes, stoppedBy, begunBy, beginOf}
+use Rattle.save_opening.proofs.Laws.{bad-form}
+use Rattle.resume.specs.Asked.{resumed, writtenFor}
+use Rattle.resume.specs.Program.{resumeWrites}
 
 -- the length stands in the first four bytes
 bytes-first : (head more : List ℕ) → length head ≡ 4 → formBytes (head ++ more) ≡ formBytes head

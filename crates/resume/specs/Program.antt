@@ -1,22 +1,13 @@
 -- The program as a whole, over any reads in which its input comes: what it writes, of its steps put together as the program does it. The bytes that
 -- came as the form's length and as the form are given, and then the reads of the records.
 -- Assumes nothing.
-use Prim.Native.Nat.{ℕ, _≤_}
-use mathlib.Core.Path.{_≡_}
+use Prim.Native.Nat.{ℕ}
 use mathlib.Core.Bool.{cond}
 use mathlib.Core.List.{List, [], _++_}
-use lib.ListN.{length, take}
+use lib.ListN.{take}
 use Rattle.script_turns.specs.declared.frame.Begun.{Begun}
 use Rattle.script_turns.specs.Program.{Read, turnsWrite}
-use Rattle.resume.specs.Asked.{wantedBytes, beginOf}
-
--- four bytes at most, and no more than they say, and the beginning from them: then the memory and the output. The bytes that come no contract can
--- say; what is done with them this does.
-pub record Opened (out : List ℕ) (r : Begun) (memory written : List ℕ) : Type 0 where
-  pub head : List ℕ
-  pub form : List ℕ
-  pub fits : (length head ≤ 4) × (length form ≤ wantedBytes head)
-  pub begun : beginOf head form out ≡ (r, memory, written)
+use Rattle.save_opening.specs.Opening.{beginOf}
 
 -- what is written altogether, with buffers that hold anything
 unfoldable pub resumeWrites : List ℕ → List ℕ → List Read → List ℕ → List ℕ → List ℕ

@@ -20,7 +20,7 @@ use Rattle.script_turns.specs.Frame.{startingMemory}
 use Rattle.script_turns.proofs.frame.Laws.{empty-in-range}
 use Rattle.save_rules.specs.Reading.{accepted, restoreOf}
 use Rattle.save_rules.proofs.Once.{accepted-in-range}
-use Rattle.resume.specs.Asked.{formBytes, tooLong, stoppedBy, begunBy, beginOf}
+use Rattle.save_opening.specs.Opening.{formBytes, tooLong, stoppedBy, begunBy, beginOf}
 
 abbrev Good : ℕ → Begun × List ℕ × List ℕ → Type 0
 Good room z = (inRange (z .0 .bus) ≡ true) × (z .0 .end ≤ room)

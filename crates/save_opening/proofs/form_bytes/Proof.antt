@@ -1,9 +1,9 @@
 -- The number of the first four bytes.
 -- Assumes nothing.
 use borrow.Author.Needs.{needs}
-use Rattle.resume.specs.Asked.{formBytes}
-use Rattle.resume.proofs.form_bytes.Statement.{statement}
-use Rattle.resume.proofs.form_bytes.Tie as tie
+use Rattle.save_opening.specs.Opening.{formBytes}
+use Rattle.save_opening.proofs.form_bytes.Statement.{statement}
+use Rattle.save_opening.proofs.form_bytes.Tie as tie
 
 pub form-bytes-spec : {M : Type 1} → statement M
 unfolding formBytes

@@ -22,7 +22,7 @@ use Rattle.script_text.proofs.letters.Laws.{Put, at-front}
 use Rattle.script_turns.specs.declared.frame.Begun.{Begun}
 use Rattle.script_turns.specs.Frame.{startingMemory}
 use Rattle.save_rules.specs.Reading.{restoreOf}
-use Rattle.resume.specs.Asked.{badFormLine, formBytes, tooLong, wantedBytes, stoppedBy, begunBy, beginOf}
+use Rattle.save_opening.specs.Opening.{badFormLine, formBytes, tooLong, wantedBytes, stoppedBy, begunBy, beginOf}
 
 -- the line of a form that is refused
 pub bad-form : lineOf (Refused WrongForm) ≡ badFormLine

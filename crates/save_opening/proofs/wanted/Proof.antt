@@ -1,9 +1,9 @@
 -- A length that is cut, one that is too large, and any other.
 -- Assumes nothing.
 use borrow.Author.Needs.{needs}
-use Rattle.resume.proofs.Laws.{wanted-cut, wanted-none, wanted-all}
-use Rattle.resume.proofs.wanted.Statement.{statement}
-use Rattle.resume.proofs.wanted.Tie as tie
+use Rattle.save_opening.proofs.Laws.{wanted-cut, wanted-none, wanted-all}
+use Rattle.save_opening.proofs.wanted.Statement.{statement}
+use Rattle.save_opening.proofs.wanted.Tie as tie
 
 pub wanted-spec : {M : Type 1} → statement M
 wanted-spec =

@@ -5,9 +5,9 @@ use Prim.Native.Nat.{_≤_}
 use native.Mathlib.Omega.{arith}
 use borrow.Author.Needs.{needs}
 use lib.ListN.{length-append, length-take}
-use Rattle.resume.proofs.Onward.{begin-onward}
-use Rattle.resume.proofs.open.Statement.{statement}
-use Rattle.resume.proofs.open.Tie as tie
+use Rattle.save_opening.proofs.Onward.{begin-onward}
+use Rattle.save_opening.proofs.open.Statement.{statement}
+use Rattle.save_opening.proofs.open.Tie as tie
 
 pub open-spec : {M : Type 1} → statement M
 open-spec =
