@@ -8,7 +8,7 @@ use lib.ListN.{take, replicate}
 use Rattle.script_text.specs.Quoted.{quoted}
 use Rattle.script_turns.specs.Open.{open-script}
 use Rattle.save_rules.specs.Open.{open-saved}
-use Rattle.save_opening.specs.Opening.{formBytes, tooLong}
+use Rattle.save_opening.specs.Opening.{formBytes, tooLong, openedBy}
 use Rattle.resume.specs.Asked.{resumed, writtenFor}
 
 -- the form of a bench with a memory of length 1 in slot 0, 544 bytes: its counter is 7, and its bytes are A5h but the one there
@@ -43,5 +43,5 @@ table =
     ∷ []
 
 pub resumptions : map (λ (c : List ℕ × String). writtenFor (c .0)) table ≡ map (λ (c : List ℕ × String). quoted (c .1)) table
-unfolding open-script open-saved formBytes tooLong resumed writtenFor
+unfolding open-script open-saved formBytes tooLong openedBy resumed writtenFor
 resumptions = refl

@@ -3,14 +3,11 @@
 use Prim.Native.Nat.{ℕ}
 use mathlib.Core.Bool.{cond}
 use mathlib.Core.List.{List, _++_}
-use lib.Dec.{ltb}
-use lib.ListN.{length, take, drop}
 use Rattle.rules.specs.Runs.{Bench}
-use Rattle.script_text.specs.Letters.{shortLine}
 use Rattle.script_turns.specs.Frame.{startingMemory}
 use Rattle.script_turns.specs.Script.{linesTo, recordsIn, ending}
 use Rattle.save_rules.specs.Reading.{accepted, restored}
-use Rattle.save_opening.specs.Opening.{badFormLine, formBytes, tooLong}
+use Rattle.save_opening.specs.Opening.{badFormLine, openedBy}
 
 -- "memory is FFh before the restore; standard output is a line for each record as the script has it, `R10` alone for a form that is refused, whatever
 -- follows, `short` as in the script": what is written for a form and the bytes behind it
@@ -19,10 +16,6 @@ resumed form more =
     let x : Bench = restored form startingMemory in
     cond (accepted form startingMemory) (linesTo x more (recordsIn more) ++ ending more) badFormLine
 
--- "A length above 65,535 is `R10` at once; a form that is cut is `short`", and so is a length that is: all that the program writes, for all that it
--- reads
+-- all that the program writes, for all that it reads
 unfoldable pub writtenFor : List ℕ → List ℕ
-writtenFor bs =
-    cond (ltb (length bs) 4) shortLine
-    (cond (tooLong bs) badFormLine
-    (cond (ltb (length (drop 4 bs)) (formBytes bs)) shortLine (resumed (take (formBytes bs) (drop 4 bs)) (drop (formBytes bs) (drop 4 bs)))))
+writtenFor = openedBy resumed

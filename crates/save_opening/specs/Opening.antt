@@ -4,7 +4,7 @@ use Prim.Native.Nat.{ℕ, _+_, _*_}
 use mathlib.Core.Bool.{Bool, false, cond}
 use mathlib.Core.List.{List, [], _∷_}
 use lib.Dec.{eqb, ltb}
-use lib.ListN.{length, getD}
+use lib.ListN.{length, getD, take, drop}
 use lib.Seq.{sets}
 use Rattle.rules.specs.declared.Outcome.{Outcome}
 use Rattle.rules.specs.Refusals.{emptyBus}
@@ -44,3 +44,11 @@ beginOf head form out =
     cond (ltb (length head) 4) (stoppedBy shortLine out)
     (cond (tooLong head) (stoppedBy badFormLine out)
     (cond (ltb (length form) (formBytes head)) (stoppedBy shortLine out) (begunBy (restoreOf emptyBus startingMemory form) out)))
+
+-- "A length above 65,535 is `R10` at once; a form that is cut is `short`", and so is a length that is: what a program that begins so writes for all that
+-- it reads, where `k` has what it writes for a form that came whole and for what stands behind it
+unfoldable pub openedBy : (List ℕ → List ℕ → List ℕ) → List ℕ → List ℕ
+openedBy k bs =
+    cond (ltb (length bs) 4) shortLine
+    (cond (tooLong bs) badFormLine
+    (cond (ltb (length (drop 4 bs)) (formBytes bs)) shortLine (k (take (formBytes bs) (drop 4 bs)) (drop (formBytes bs) (drop 4 bs)))))
