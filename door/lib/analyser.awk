@@ -1,5 +1,5 @@
 # The verdict on a logic analyser's export put in words, for ./plungerhen capture --sigrok and --saleae (analyser).
-# Reads the rows of ticks.awk; words.awk and told.awk are read before this.
+# Reads the rows of ticks.awk; bench.awk, words.awk and told.awk are read before this.
 #
 #   mode  bytes  the records as a capture has them, in lines of octal escapes of printf
 #         asked  the text for the program `edges` that leads to record number `at` and shows the slots that it concerns
@@ -53,12 +53,12 @@ function asked_event() {
 }
 function setup_words(   s, text) {
   text = "setup"
-  for (s = 0; s < 8; s++) text = text " " kind_of[s] + 0 " " ticks_of[s] + 0
+  for (s = 0; s < SLOTS; s++) text = text " " kind_of[s] + 0 " " ticks_of[s] + 0
   return text
 }
 function end_asked(   s) {
   printf "%sthen", asks ? "\n" : ""
-  for (s = 0; s < 8; s++) if (concerns(s)) printf "; show %d", s
+  for (s = 0; s < SLOTS; s++) if (concerns(s)) printf "; show %d", s
   printf "\n"
 }
 
@@ -103,7 +103,7 @@ function clock_words(s,   c, text) {
 }
 function so_many(w) { return count["all"] == 1 ? "" : ", " plural(count[w], "cycle") }
 function measured(upto,   s, text) {
-  for (s = 0; s < 8; s++) {
+  for (s = 0; s < SLOTS; s++) {
     measure(s, upto)
     text = seen_words("seen") seen_words("first") clock_words(s)
     if (count["with"]) text = text "; not asked before another slot was ready" so_many("with")
@@ -308,7 +308,7 @@ function led_there(   s, was, any_slot, limit) {
   limit = f[10] ? first_of[f[10]] : at
   was = control
   print "What led there:"
-  for (s = 0; s < 8; s++) {
+  for (s = 0; s < SLOTS; s++) {
     control = was
     if (!concerns(s)) continue
     any_slot = 1
@@ -343,7 +343,7 @@ function end_doubts(   i) {
   for (i = keys; i; i--) if (at == "" || (key_record[i] <= at && (concerns(key_slot[i]) || family(control) == 0))) print key[i]
 }
 function asked_stop(   s, shows) {
-  for (s = 0; s < 8; s++) if (s in kind_of) shows = shows "; show " s
+  for (s = 0; s < SLOTS; s++) if (s in kind_of) shows = shows "; show " s
   if ($6 == 4) print "then" shows "; event 4 0 0" shows
   else print "then; event " $6 " " $7 " " $8
 }

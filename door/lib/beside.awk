@@ -29,7 +29,7 @@ function one(i,   kind, slot, v) {
   kind = from_hex(substr(code[i], 1, 2)); slot = from_hex(substr(code[i], 3, 2)); v = from_hex(substr(code[i], 5))
   if (v >= 32768) v -= 65536
   if (kind == 7 || kind == 9) {
-    if (!(slot in kind_of)) bad("slot " slot " is not told: say --slot " (slot < 8 ? slot : "N") " memory or sensor, and its write cycle")
+    if (!(slot in kind_of)) bad("slot " slot " is not told: say --slot " (slot < SLOTS ? slot : "N") " memory or sensor, and its write cycle")
     if (kind == 9 && kind_of[slot] != 2) bad("slot " slot " is told as a memory: it has no sensor that feels a temperature")
   }
   if (kind == 9 && (v < -640 || v > 2000)) bad("the temperature " v " is not from -640 to 2000 sixteenths of a degree")

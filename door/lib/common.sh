@@ -17,6 +17,20 @@ plural() { if [ "$1" -eq 1 ]; then printf '1 %s' "$2"; else printf '%s %ss' "$1"
 long=
 noted() { [ ! -t 2 ] || [ -z "$long" ] || printf '\r\033[K%s' "${1//[[:cntrl:]]/?}" >&2; }
 
+# awk_by NAMES OPTION...: awk with these programs of this folder, behind bench.awk
+awk_by() {
+    local name by=(-f "$lib/bench.awk")
+    for name in $1; do by+=(-f "$lib/$name.awk"); done
+    awk "${by[@]}" "${@:2}"
+}
+# bench EXPRESSION: what bench.awk says, as in: bench SLOTS
+bench() { awk "$(<"$lib/bench.awk")"$'\n'"BEGIN { print $1 }"; }
+# is_slot WORD: whether it is the number of one of `slots` slots
+is_slot() { [[ $1 =~ ^(0|[1-9][0-9]{0,3})$ ]] && [ "$1" -lt "$slots" ]; }
+# octals COUNT: so many bytes of standard input, as octal escapes
+# shellcheck disable=SC1003    # a backslash
+octals() { od -An -v -to1 -N"$1" | tr -d '\n' | tr ' ' '\\'; }
+
 # program NAME LINE: runs the proved program NAME (./run NAME), or the command line, if one is given
 program() { if [ -n "$2" ]; then eval "$2"; else "$root/run" "$1"; fi; }
 
@@ -92,7 +106,7 @@ put_in_place() {
 
 # ---- a case, as a plan (reading.awk)
 # plan_of FILE STRICT BENCH: that plan; reading.awk says what the two others are
-plan_of() { awk -v strict="$2" -v bench="$3" -f "$lib/words.awk" -f "$lib/reading.awk" <"$1"; }
+plan_of() { awk_by 'words reading' -v strict="$2" -v bench="$3" <"$1"; }
 # read_case FILE: the plan in `plan`; `events` is the number of events, and `input` the setup and the records, as octal
 # escapes of printf
 read_case() {
@@ -108,4 +122,4 @@ read_case() {
     esac
 }
 # telling_case MODE: what that plan tells (save.awk)
-telling_case() { awk -F '\t' -f "$lib/octal.awk" -f "$lib/save.awk" -v mode="$1" <<<"$plan"; }
+telling_case() { awk_by 'octal save' -F '\t' -v mode="$1" <<<"$plan"; }

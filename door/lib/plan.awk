@@ -4,9 +4,10 @@
 #   mode      show     the plan in the words of the case files, a line for each exchange
 #             case     a case file that plays all of it, from setup to a look at every byte
 #             records  the plan's records as they are, in one line of hex digits
+#             first    the records that bring a fresh bench to what is known of the module, in hex digits
 #             refused  which pages that differ lie in which protected block
 #   old, new  the two contents in hex digits      slot, ticks, half, blocks (a list)  what is known of the module
-# The environment variable NAMES has the names of the two files, for the case's heading.
+# The environment variable NAMES has the names of the two files, for the case's heading. bench.awk is read before this.
 #
 # The records are not taken on trust: what is not five ticks, half commands and whole pages of `new` that differ from
 # `old`, each such page once, ends with status 1 and a line that says why.
@@ -51,7 +52,7 @@ function heading(text) { line("", "", text) }
 function write_line(page, contents, remark) {
   line(sprintf("write %d %02Xh: ", slot, page % 16 * 16) bytes(contents, page) "; " tick_words(ticks), times("A", 16) " " times("-", ticks), remark)
 }
-function half_line(h) { line("start; byte 6" (h ? "E" : "C") "h; stop", "- A -", "half " h " selected") }
+function half_line(h) { line("start; byte " COMMAND["half", h] "h; stop", "- A -", "half " h " selected") }
 function tick_words(n) { return n == 1 ? "tick" : "tick " n }
 
 # Lines between two headings stand under each other.
@@ -94,12 +95,12 @@ function read_plan(   i) {
   standing = half; passed = 5; last_page = -1
   while (at < ngot) {
     next_is("01000000", "a start")
-    if (got[++at] == "0200006C" || got[at] == "0200006E") {
-      standing = got[at] == "0200006E"
+    if (got[++at] == "020000" COMMAND["half", 0] || got[at] == "020000" COMMAND["half", 1]) {
+      standing = got[at] == "020000" COMMAND["half", 1]
       next_is("04000000", "a stop")
       half_line(standing)
     }
-    else if (got[at] == hex_record(2, 160 + 2 * slot)) read_page()
+    else if (got[at] == hex_record(2, memory_byte(slot, 0))) read_page()
     else fail("record " at " is " got[at] ", where a control byte should come")
   }
   for (i = 0; i < 32; i++) if (differs(i)) wanted++
@@ -114,7 +115,15 @@ function known() {
     (nblocks == 0 ? "no block protected" : nblocks == 1 ? "block " block[1] " protected" : "blocks " listed(block, nblocks) " protected")
 }
 
-# ---- the case around the plan
+# ---- what comes before the plan: the program is told by these records, a case plays its own
+function first_records(   i, k, text) {
+  for (i = 1; i <= nblocks; i++) {    # voltage on; start, the block's command, two bytes, stop; the cycle; voltage off
+    text = text sprintf("07%02X0001", slot) "01000000020000" COMMAND["protect", block[i]] "020000000200000004000000"
+    for (k = 1; k <= ticks; k++) text = text "06000000"
+    text = text sprintf("07%02X0000", slot)
+  }
+  return text (half ? "01000000020000" COMMAND["half", half] "04000000" : "")
+}
 function before_plan(   page, now, i) {
   heading("# " ENVIRON["NAMES"] ", written by ./plungerhen plan")
   heading(known()); heading("slot " slot " memory " ticks)
@@ -129,7 +138,7 @@ function before_plan(   page, now, i) {
     line("voltage " slot " on", "-", "")
   }
   for (i = 1; i <= nblocks; i++)
-    line("start; byte " substr("62h68h6Ah60h", 3 * block[i] + 1, 3) " 00h 00h; stop; " tick_words(ticks),
+    line("start; byte " COMMAND["protect", block[i]] "h 00h 00h; stop; " tick_words(ticks),
          "- A*3 - " times("-", ticks), "block " block[i])
   if (nblocks) line("voltage " slot " off", "-", "")
   if (now + 0 != half) { heading(""); heading("# The half."); half_line(half) }
@@ -160,6 +169,7 @@ BEGIN { old = toupper(old); new = toupper(new); nblocks = split(blocks, block, "
 { got[++ngot] = $0 }
 END {
   if (mode == "refused") { tell_refused(); exit failed }
+  if (mode == "first") { print first_records(); exit }
   if (mode == "case") before_plan()
   else heading(known())
   read_plan()

@@ -10,7 +10,7 @@
 # or, alone, B: line number, what is wrong there.
 #
 #   strict  1: every line wants its answers
-#   bench   empty, or the sixteen numbers of a saved bench's setup, from which the case is played: the case's own setup
+#   bench   empty, or the numbers of a saved bench's setup, from which the case is played: the case's own setup
 #           must be the same or not there, and row I has the records alone
 
 function row(text) { rows[++nrows] = text }
@@ -18,10 +18,10 @@ function row(text) { rows[++nrows] = text }
 function setupline(left,   i) {
   if (nevents) bad("setup comes before the first event")
   setupwords(left)
-  for (i = 0; i < 8; i++) if ((i in kind) && !(i in named_at)) named_at[i] = NR
+  for (i = 0; i < SLOTS; i++) if ((i in kind) && !(i in named_at)) named_at[i] = NR
   last_setup = NR
   if (bench != "" && (cut || arrow)) bad("from a saved bench, the setup is whole and not refused")
-  if (cut && !arrow) bad("a setup of fewer than 16 numbers is cut short: write -> short")
+  if (cut && !arrow) bad("a setup of fewer than " 2 * SLOTS " numbers is cut short: write -> short")
   row("C\t0\t" $0)
   if (arrow) {
     if (setupanswer != "") bad("the setup has its answer already")
@@ -32,10 +32,10 @@ function setupline(left,   i) {
 }
 
 # The setup that the case tells against that of the bench it is played from.
-function slot_words(k, ticks) { return k ? (k == 1 ? "memory" : k == 2 ? "sensor" : "of kind " k ",") " " ticks : "absent" }
+function slot_words(k, ticks) { return k ? (k in KIND ? KIND[k] : "of kind " k ",") " " ticks : "absent" }
 function same_bench(   i, saved, here, there) {
   split(bench, saved, " ")
-  for (i = 0; i < 8; i++) {
+  for (i = 0; i < SLOTS; i++) {
     here = slot_words(kind[i], size[i]); there = slot_words(saved[2 * i + 1] + 0, saved[2 * i + 2])
     if (here == there) continue
     NR = (i in named_at) ? named_at[i] : last_setup

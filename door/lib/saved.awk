@@ -2,7 +2,7 @@
 # its bytes on standard input, as od -tu1 gives them.
 #
 #   mode  departs  the first place where it departs from the form, and why, in words; nothing if it does not
-#         setup    the sixteen numbers of its setup
+#         setup    the numbers of its setup
 #         sum      how long it is and which slots there are, in words
 #         show     all of it in words
 #   size  how many bytes it has; what stands behind byte 65,535 is not read, since a form is shorter
@@ -46,8 +46,8 @@ function head(tag, count, why,   v, most) {
 }
 
 function read_setup(   i) {
-  head(1, 16, "two for each of 8 slots")
-  for (i = 0; i < 8; i++) {
+  head(1, 2 * SLOTS, "two for each of " SLOTS " slots")
+  for (i = 0; i < SLOTS; i++) {
     kind[i] = next_byte("slot " i "'s kind")
     must(kind[i] <= 2, "slot " i " is of kind " kind[i] ", which is not 0, 1 or 2 (absent, memory, memory with sensor)")
     ticks[i] = next_byte("slot " i "'s write-cycle length")
@@ -61,7 +61,7 @@ function each(n, count, what) { return n " for each of " plural(count + 0, what)
 
 function read_memory(   i, j) {
   head(2, 512 * present, each(512, present, "present slot"))
-  for (i = 0; i < 8; i++) {
+  for (i = 0; i < SLOTS; i++) {
     if (!kind[i]) continue
     memory[i] = at
     for (j = 0; j < 512; j++) next_byte("byte " j " of slot " i "'s memory")
@@ -70,7 +70,7 @@ function read_memory(   i, j) {
 
 function read_states(   i) {
   head(3, 4 * present, each(4, present, "present slot"))
-  for (i = 0; i < 8; i++) {
+  for (i = 0; i < SLOTS; i++) {
     if (!kind[i]) continue
     protection[i] = next_byte("slot " i "'s protection")
     must(protection[i] <= 15, "slot " i "'s protection is " hex(protection[i], 2) ", and there are four blocks, 00h to 0Fh")
@@ -92,7 +92,7 @@ function read_register(i, r,   what, high, low, mask) {
 }
 function read_sensors(   i, r) {
   head(4, 15 * sensors, each(15, sensors, "sensor"))
-  for (i = 0; i < 8; i++) {
+  for (i = 0; i < SLOTS; i++) {
     if (kind[i] != 2) continue
     pointer[i] = next_byte("slot " i "'s pointer")
     must(pointer[i] <= 9, "slot " i "'s pointer is " hex(pointer[i], 2) ", not 00h to 09h")
@@ -107,9 +107,8 @@ function read_form() {
 }
 
 # ---- in words
-function kind_words(k) { return k == 2 ? "memory with sensor" : k ? "memory" : "absent" }
 function sum(   i, n, list) {
-  for (i = 0; i < 8; i++) if (kind[i]) list[++n] = i " (" kind_words(kind[i]) ")"
+  for (i = 0; i < SLOTS; i++) if (kind[i]) list[++n] = i " (" kind_words(kind[i]) ")"
   return plural(size, "byte") ", " (n ? (n == 1 ? "slot " : "slots ") listed(list, n) : "every slot absent")
 }
 
@@ -175,9 +174,9 @@ function show_slot(i) {
   show_memory(i)
 }
 function show_slots(   i, last, which) {
-  for (i = 0; i < 8; i++) {
+  for (i = 0; i < SLOTS; i++) {
     if (kind[i]) { show_slot(i); continue }
-    for (last = i; last < 7 && !kind[last + 1]; last++) ;
+    for (last = i; last < SLOTS - 1 && !kind[last + 1]; last++) ;
     which = last > i ? "slots " i (last > i + 1 ? " to " : " and ") last : "slot " i
     print which ": absent"
     i = last
@@ -196,7 +195,7 @@ END {
   read_form()
   if (mode == "departs") { if (departure != "") print departure; exit }
   if (departure != "") { print departure; exit 1 }
-  if (mode == "setup") for (i = 0; i < 8; i++) printf "%d %d%s", kind[i], ticks[i], i < 7 ? " " : "\n"
+  if (mode == "setup") for (i = 0; i < SLOTS; i++) printf "%d %d%s", kind[i], ticks[i], i < SLOTS - 1 ? " " : "\n"
   if (mode == "sum") print sum()
   if (mode == "show") show_slots()
 }

@@ -25,7 +25,7 @@ given() { if [ "$1" -eq 1 ]; then printf '1 file is'; else printf '%s files are'
 # it refuses, the place is looked for here (saved.awk), and where the two do not agree one of them is wrong. Then
 # $work/form is the form with its length before it, as the program reads it.
 # telling MODE FILE: what saved.awk says of it
-telling() { od -An -v -tu1 -N65536 <"$2" | awk -f "$lib/saved.awk" -v mode="$1" -v size="$(wc -c <"$2")"; }
+telling() { od -An -v -tu1 -N65536 <"$2" | awk_by saved -v mode="$1" -v size="$(wc -c <"$2")"; }
 
 saved() {
     local size said status departs

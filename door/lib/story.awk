@@ -12,8 +12,8 @@
 #      at first, then where it changes
 #   Z  time: the end
 #
-# Lines that are not those of this case end with status 1 and a line that says so. octal.awk and watch.awk are read
-# before this.
+# Lines that are not those of this case end with status 1 and a line that says so. bench.awk, octal.awk and
+# watch.awk are read before this.
 
 function fail(sentence) { print sentence; exit 1 }
 
@@ -37,18 +37,18 @@ function states(at,   slot, now) {
 }
 
 function setup_rows(   i) {
-  for (i = 0; i < 8; i++) if (octal_at(2 * i)) print "P\t" i "\t" octal_at(2 * i) "\t" octal_at(2 * i + 1)
+  for (i = 0; i < SLOTS; i++) if (octal_at(2 * i)) print "P\t" i "\t" octal_at(2 * i) "\t" octal_at(2 * i + 1)
   states(0)
-  for (i = 0; i < 8; i++) if (octal_at(2 * i) && !(i in stood)) fail("the program watch does not tell where slot " i " stands")
+  for (i = 0; i < SLOTS; i++) if (octal_at(2 * i) && !(i in stood)) fail("the program watch does not tell where slot " i " stands")
 }
-function event_row(   kind, value, answer, to) {
-  n++
-  kind = octal_at(12 + 4 * n); value = 256 * octal_at(14 + 4 * n) + octal_at(15 + 4 * n)
+function event_row(   at, kind, value, answer, to) {
+  at = 2 * SLOTS + 4 * n++
+  kind = octal_at(at); value = 256 * octal_at(at + 2) + octal_at(at + 3)
   if (value >= 32768) value -= 65536
   answer = got[next_line++]
   if (answer == "") fail("the program watch has no answer to event " n)
   to = now + length_of(kind, answer)
-  print "E\t" n "\t" $2 "\t" now "\t" to "\t" kind "\t" octal_at(13 + 4 * n) "\t" value "\t" $4 "\t" answer "\t" $5 "\t" $6
+  print "E\t" n "\t" $2 "\t" now "\t" to "\t" kind "\t" octal_at(at + 1) "\t" value "\t" $4 "\t" answer "\t" $5 "\t" $6
   states(shows(kind, now, to))
   now = to
 }

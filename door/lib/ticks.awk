@@ -50,7 +50,7 @@ function beside_until(when) {
 # ---- gates
 function new_gate(when,   s) {
   gate_at[++gates] = when; gate_row[n] = gates; row_of[gates] = n
-  for (s = 0; s < 8; s++) if ((s in open) && by_clock(open[s], gates)) ends(s, gates, "clock")
+  for (s = 0; s < SLOTS; s++) if ((s in open) && by_clock(open[s], gates)) ends(s, gates, "clock")
 }
 function on_start(when) {
   if (!inside) exchange++
@@ -62,7 +62,7 @@ function on_start(when) {
 function on_beside(when, kind, slot, val,   s) {
   new_gate(when)
   if (kind == 7) { voltage[slot] = val; if (!val) delete armed[slot] }
-  for (s = 0; s < 8; s++) if (kind == 8 && (s in open)) { ends(s, gates, "power"); if (val) changes(s, order[latest[s]]) }
+  for (s = 0; s < SLOTS; s++) if (kind == 8 && (s in open)) { ends(s, gates, "power"); if (val) changes(s, order[latest[s]]) }
   if (kind == 5 || kind == 8) { control = -2; inside = 0 }
 }
 
@@ -81,12 +81,12 @@ function asked(val, ack,   s, upper) {
     else if (upper == 10 || kind_of[s] == 2) declines(s)
   }
   else if (upper == 6 && ack) command(val)
-  else if (val == 108 || val == 110) for (s = 0; s < 8; s++) if (s in kind_of) declines(s)    # who is in no cycle acknowledges these
+  else if (val == 108 || val == 110) for (s = 0; s < SLOTS; s++) if (s in kind_of) declines(s)    # who is in no cycle acknowledges these
 }
 function command(val,   s) {
   s = readiest(val)
   if (s >= 0) answers(s, val)
-  for (s = 0; s < 8; s++) {
+  for (s = 0; s < SLOTS; s++) {
     if (!(s in kind_of)) continue
     if ((s in open) && ((n "," s) in forced)) { ended_by[open[s]] = val; ends(s, start_gate, "heard") }
     hears(s, val)
@@ -102,7 +102,7 @@ function may_ack(s, val) {
 # the one whose cycle has had the most of its time.
 function readiest(val,   s, part, most, best) {
   best = -1
-  for (s = 0; s < 8; s++) {
+  for (s = 0; s < SLOTS; s++) {
     if (!(s in kind_of)) continue
     if (alone) return s
     if (!may_ack(s, val)) continue
@@ -144,7 +144,7 @@ function on_stop(when,   s) {
   if (control >= 0 && acked && !spoiled) {
     s = int(control / 2) % 8
     if (int(control / 16) == 10 && control % 2 == 0 && behind >= 2 && (s in kind_of)) begins(s, when)
-    if (is_change(control) && behind == 2) for (s = 0; s < 8; s++) if (s in armed) begins(s, when)
+    if (is_change(control) && behind == 2) for (s = 0; s < SLOTS; s++) if (s in armed) begins(s, when)
   }
   control = -2; inside = 0
 }
@@ -167,7 +167,7 @@ function ends(s, g, by,   c, d) {
   delete open[s]
   if (by == "power") return
   changes(s, order[c])
-  for (d = 0; d < 8; d++) {
+  for (d = 0; d < SLOTS; d++) {
     if (!(d in open) || from_gate[open[d]] > from_gate[c] || ticks_of[d] > ticks_of[s]) continue
     with[open[d]] = c
     ends(d, g, by_clock(open[d], g) ? "clock" : "with")

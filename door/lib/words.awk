@@ -1,5 +1,5 @@
 # The words of the case files (examples/cases/README.md): setup lines, events and answers, read into the script's bytes,
-# and told from them. Shared by the commands of ./plungerhen that read a case (reading.awk), a capture or an export, and
+# and told from them. bench.awk is read before this. Shared by the commands of ./plungerhen that read a case (reading.awk), a capture or an export, and
 # by the examples of tests/plan, tests/save and tests/list, which put their own part behind this one; it does nothing by
 # itself.
 #
@@ -60,6 +60,7 @@ function any(s, least, most, what) {
     bad("\"" s "\" is no " what " (a number from " least " to " most "; hex numbers end in h)")
   return value
 }
+function slot_number(s) { return decimal(s, 0, SLOTS - 1, "slot number") }
 function hex(s, most, what) {
   if (s !~ /h$/ || !number(s) || value > most)
     bad("\"" s "\" is no " what " (hex with an h at the end, 00h to " toupper(sprintf("%02x", most)) "h)")
@@ -154,37 +155,37 @@ function event(part,   w, n, i, k, s, v, bytes, digits, words) {
   else if (w[1] == "write") {
     wants(n, 4, 1000, "write SLOT COUNTER: BYTE..., as in: write 0 1Eh: 01h 02h")
     if (w[3] !~ /:$/) bad("the form is: write SLOT COUNTER: BYTE..., as in: write 0 1Eh: 01h 02h")
-    s = decimal(w[2], 0, 7, "slot number"); sub(/:$/, "", w[3]); v = hex(w[3], 255, "counter")
+    s = slot_number(w[2]); sub(/:$/, "", w[3]); v = hex(w[3], 255, "counter")
     n = spread(w, 4, n)
     add(1, 0, 0, "-")
-    add(2, 0, 160 + 2 * s, "A"); add(2, 0, v, "A")
+    add(2, 0, memory_byte(s, 0), "A"); add(2, 0, v, "A")
     for (i = 4; i <= n; i++) { v = hex(w[i], 255, "byte"); add(2, 0, v, "") }
     add(4, 0, 0, "-")
   }
   else if (w[1] == "look") {
     wants(n, 4, 4, "look SLOT COUNTER COUNT, as in: look 0 1Eh 2")
-    s = decimal(w[2], 0, 7, "slot number"); v = hex(w[3], 255, "counter"); k = decimal(w[4], 1, 10000, "count")
+    s = slot_number(w[2]); v = hex(w[3], 255, "counter"); k = decimal(w[4], 1, 10000, "count")
     add(1, 0, 0, "-")
-    add(2, 0, 160 + 2 * s, "A"); add(2, 0, v, "A")
+    add(2, 0, memory_byte(s, 0), "A"); add(2, 0, v, "A")
     add(1, 0, 0, "-")
-    add(2, 0, 161 + 2 * s, "A"); reads(k, "")
+    add(2, 0, memory_byte(s, 1), "A"); reads(k, "")
     add(4, 0, 0, "-")
   }
   else if (w[1] == "set") {
     wants(n, 4, 4, "set SLOT REGISTER WORD, as in: set 3 02h 0500h")
-    s = decimal(w[2], 0, 7, "slot number"); k = hex(w[3], 255, "register"); v = hex(w[4], 65535, "word")
+    s = slot_number(w[2]); k = hex(w[3], 255, "register"); v = hex(w[4], 65535, "word")
     add(1, 0, 0, "-")
-    add(2, 0, 48 + 2 * s, "A"); add(2, 0, k, "A")
+    add(2, 0, sensor_byte(s, 0), "A"); add(2, 0, k, "A")
     add(2, 0, int(v / 256), ""); add(2, 0, v % 256, "")
     add(4, 0, 0, "-")
   }
   else if (w[1] == "get") {
     wants(n, 3, 3, "get SLOT REGISTER, as in: get 3 05h")
-    s = decimal(w[2], 0, 7, "slot number"); k = hex(w[3], 255, "register")
+    s = slot_number(w[2]); k = hex(w[3], 255, "register")
     add(1, 0, 0, "-")
-    add(2, 0, 48 + 2 * s, "A"); add(2, 0, k, "A")
+    add(2, 0, sensor_byte(s, 0), "A"); add(2, 0, k, "A")
     add(1, 0, 0, "-")
-    add(2, 0, 49 + 2 * s, "A"); reads(2, "")
+    add(2, 0, sensor_byte(s, 1), "A"); reads(2, "")
     add(4, 0, 0, "-")
   }
   else if (w[1] == "slot" || w[1] == "setup") bad("a setup line stands alone, without ;")
@@ -197,28 +198,26 @@ function setupwords(left,   w, n, i) {
   if (w[1] == "slot") {
     if (form == "setup") bad("either slot lines or one setup line, not both")
     wants(n, 3, 4, "slot NUMBER absent|memory|sensor LENGTH")
-    i = decimal(w[2], 0, 7, "slot number")
+    i = slot_number(w[2])
     if (i in kind) bad("slot " i " is named twice")
-    if (w[3] == "absent") kind[i] = 0
-    else if (w[3] == "memory") kind[i] = 1
-    else if (w[3] == "sensor") kind[i] = 2
-    else bad("a slot is absent, memory or sensor, not \"" w[3] "\"")
+    kind[i] = kind_named(w[3])
+    if (kind[i] < 0) bad("a slot is absent, memory or sensor, not \"" w[3] "\"")
     if (n == 3 && kind[i]) bad("the write-cycle length is missing: slot NUMBER " w[3] " LENGTH")
     size[i] = n == 4 ? decimal(w[4], 0, 255, "length that a setup can hold") : 0
   } else {
     if (form != "") bad(form == "slot" ? "either slot lines or one setup line, not both" : "a second setup line")
-    if (n > 17) bad("a setup has 16 numbers at most, here are " n - 1)
+    if (n > 2 * SLOTS + 1) bad("a setup has " 2 * SLOTS " numbers at most, here are " n - 1)
     for (i = 2; i <= n; i++) {
       setup = setup octal(any(w[i], 0, 255, "setup number"))
       if (i % 2) size[(i - 3) / 2] = value
       else kind[(i - 2) / 2] = value
     }
-    if (n < 17) cut = 1
+    if (n < 2 * SLOTS + 1) cut = 1
   }
   form = w[1]
 }
 function setupbytes(   i) {
-  if (form != "setup") for (i = 0; i < 8; i++) setup = setup octal(kind[i] + 0) octal(size[i] + 0)
+  if (form != "setup") for (i = 0; i < SLOTS; i++) setup = setup octal(kind[i] + 0) octal(size[i] + 0)
   return setup
 }
 

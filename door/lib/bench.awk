@@ -1,0 +1,46 @@
+# The bench as people speak of it, said once for every command of ./plungerhen: how many slots there are, what their
+# kinds are called, and control bytes. It is for words alone, what a number is called and which number a word stands
+# for: what a byte does and who acknowledges it, what is refused and what not, the programs say. Read before those that
+# use it; it does nothing by itself.
+
+BEGIN {
+  SLOTS = 8
+  split("memory,sensor", KIND, ",")                    # by their number, as cases have them; 0 is absent
+  split("memory,memory with sensor", KIND_TOLD, ",")
+  name_bytes("protect", "62 68 6A 60", "protect|block %d")
+  name_bytes("is protected", "63 69 6B 61", "is block %d|protected?")
+  name_bytes("clear", "66", "clear|protection")
+  name_bytes("half", "6C 6E", "select|half %d")
+  name_bytes("which half", "6D", "which|half?")
+}
+function name_bytes(word, bytes, told,   w, n, i) {
+  n = split(bytes, w, " ")
+  for (i = 0; i < n; i++) { COMMAND[word, i] = w[i + 1]; TOLD[w[i + 1]] = sprintf(told, i) }
+}
+
+# ---- control bytes. COMMAND[word, n] has those of commands, in hex digits.
+function memory_byte(slot, reading) { return 160 + 2 * slot + reading }
+function sensor_byte(slot, reading) { return 48 + 2 * slot + reading }
+function is_memory(byte) { return int(byte / 16) == 10 }
+function is_sensor(byte) { return int(byte / 16) == 3 }
+function is_command(byte) { return int(byte / 16) == 6 }
+function named_slot(byte) { return is_memory(byte) || is_sensor(byte) ? int(byte % 16 / 2) : -1 }
+# What it is called, in two short lines; nothing where it has no name
+function called(byte) {
+  if (named_slot(byte) < 0) return TOLD[sprintf("%02X", byte)]
+  return (byte % 2 ? "read" : "write") " slot " named_slot(byte) "|" (is_memory(byte) ? "memory" : "sensor")
+}
+
+# ---- kinds
+function kind_words(kind) { return kind ? KIND_TOLD[kind] : "absent" }
+function kind_named(word,   k) {
+  for (k = 1; k in KIND; k++) if (KIND[k] == word) return k
+  return word == "absent" ? 0 : -1
+}
+# Why the numbers of a slot are no setup, where a program has refused them; nothing where they are one
+function bad_pair(slot, kind, ticks,   k, numbers, words) {
+  for (k = 1; k in KIND; k++) { numbers = numbers (k + 1 in KIND ? ", " : " or ") k; words = words ", " KIND_TOLD[k] }
+  if (kind >= k) return "slot " slot " is of kind " kind ", not 0" numbers " (absent" words ")"
+  if (kind && (ticks < 1 || ticks > 5)) return "slot " slot " has a write cycle of " ticks " tick" (ticks == 1 ? "" : "s") ", not of 1 to 5"
+  return ""
+}
