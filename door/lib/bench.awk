@@ -32,6 +32,7 @@ function called(byte) {
 }
 
 # ---- kinds
+function has_sensor(kind) { return kind == 2 }
 function kind_words(kind) { return kind ? KIND_TOLD[kind] : "absent" }
 function kind_named(word,   k) {
   for (k = 1; k in KIND; k++) if (KIND[k] == word) return k

@@ -30,7 +30,7 @@ function one(i,   kind, slot, v) {
   if (v >= 32768) v -= 65536
   if (kind == 7 || kind == 9) {
     if (!(slot in kind_of)) bad("slot " slot " is not told: say --slot " (slot < SLOTS ? slot : "N") " memory or sensor, and its write cycle")
-    if (kind == 9 && kind_of[slot] != 2) bad("slot " slot " is told as a memory: it has no sensor that feels a temperature")
+    if (kind == 9 && !has_sensor(kind_of[slot])) bad("slot " slot " is told as a memory: it has no sensor that feels a temperature")
   }
   if (kind == 9 && (v < -640 || v > 2000)) bad("the temperature " v " is not from -640 to 2000 sixteenths of a degree")
   if (kind == 8 && (v < 0 || v > 16))

@@ -121,5 +121,16 @@ read_case() {
     *) die "'$1' could not be read (awk failed)" ;;
     esac
 }
-# telling_case MODE: what that plan tells (save.awk)
-telling_case() { awk_by 'octal save' -F '\t' -v mode="$1" <<<"$plan"; }
+# watch_case: what the program `watch` (./run watch), or the command line that the environment variable WATCH names, says
+# of that case, behind its plan and a line GOT: in $work/watched; `watched` is its first line
+# shellcheck disable=SC2034,SC2059    # for who asked; the bytes are escapes
+watch_case() {
+    workplace
+    { printf '%s\nGOT\n' "$plan"; printf "$input" 2>/dev/null | program watch "${WATCH:-}"; } >"$work/watched"
+    watched=$(sed '1,/^GOT$/d' "$work/watched" | head -n 1)
+}
+# telling_case MODE: what that plan tells, with what was watched where there is such (save.awk)
+telling_case() {
+    if [ -n "$work" ] && [ -e "$work/watched" ]; then cat "$work/watched"; else printf '%s\n' "$plan"; fi |
+        awk_by 'octal watch save' -F '\t' -v mode="$1"
+}

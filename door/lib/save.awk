@@ -1,37 +1,39 @@
 # What the plan of a case (reading.awk) lets one know of a bench that is not saved, for ./plungerhen save.
 #
-#   mode  busy   why the bench is not quiet (refusal 8): the exchange that is open, or the write cycle that may run
+#   mode  busy   why the bench is not quiet (refusal 8): the exchange that is open, or the write cycle that runs, by the
+#                lines of the program `watch`, which stand behind the plan and a line GOT
 #         setup  why the setup is refused (5)
 #         short  where the case is cut short
 #         pairs  the numbers of the setup, an absent slot's length as 0
 #
-# What the case can't have been refused for ends with status 1 and a line that says so. bench.awk and octal.awk are read
-# before this.
+# What the case can't have been refused for ends with status 1 and a line that says so. bench.awk, octal.awk and
+# watch.awk are read before this.
 
 function fail(sentence) { print sentence; exit 1 }
-function plural(n, word) { return n " " word (n == 1 ? "" : "s") }
 
-# Each event in its turn: an exchange begins with a start and ends with a stop, a timeout or power; a write cycle begins
-# with a stop, and takes ticks.
-function power_in_range(i) { return octal_at(i + 2) == 0 && octal_at(i + 3) <= 16 }
-function event_at(i, line,   kind) {
-  kind = octal_at(i)
-  if (kind == 1 && !open) open = line
-  if (kind == 4) { open = 0; stopped = line; ticked = 0 }
-  if (kind == 5) open = 0
-  if (kind == 6) ticked++
-  if (kind == 8 && power_in_range(i)) open = stopped = 0
+# ---- busy: a slot's line behind event n. `inside` counts the slots that are in an exchange, which began in line `open`.
+function stands(line,   slot, phase) {
+  slot = line + 0; phase = number_of(line, "phase") != 0
+  if (phase && !inside) open = line_of[n]
+  inside += phase - in_phase[slot]
+  in_phase[slot] = phase
+  left[slot] = number_of(line, "left")
+  if (number_of(line, "length") > longest) longest = number_of(line, "length")
 }
-
-function busy(   i, longest) {
-  for (i = 0; i < SLOTS; i++) if (kinds[i] && sizes[i] > longest) longest = sizes[i]
-  if (!longest) fail("every slot is absent")
-  if (open) return "the bench is not quiet: the exchange that begins in line " open " is not ended (a stop ends it)"
-  if (!stopped || ticked >= longest) fail("no write cycle can run at the case's end")
+function busy(   slot, i, kind, stopped, ticked) {
+  if (inside) return "the bench is not quiet: the exchange that begins in line " open " is not ended (a stop ends it)"
+  for (slot in left) if (left[slot]) break
+  if (!left[slot]) fail("in the program watch no slot is in an exchange or in a write cycle")
+  for (i = 1; i <= events; i++) {
+    kind = octal_at(2 * SLOTS + 4 * (i - 1))
+    if (kind == 4) { stopped = line_of[i]; ticked = 0 }
+    if (kind == 6) ticked++
+  }
   return "the bench is not quiet: a write cycle runs. Behind the last stop, in line " stopped ", " \
     (ticked == 1 ? "comes 1 tick" : ticked ? "come " ticked " ticks" : "comes no tick") \
     ", and the slots here take up to " longest " (tick " longest " lets it end)"
 }
+
 function bad_setup(   i) {
   for (i = 0; i < SLOTS; i++) if (bad_pair(i, kinds[i], sizes[i]) != "") return bad_pair(i, kinds[i], sizes[i])
   fail("the setup is good")
@@ -42,8 +44,11 @@ function cut_at() {
   return "in its last record"
 }
 
+watched && is_slot($0) { stands($0) }
+watched && !is_slot($0) { n++ }
+$0 == "GOT" { watched = 1 }
 $1 == "I" { bytes = $4; for (i = 0; i < SLOTS; i++) { kinds[i] = octal_at(2 * i); sizes[i] = octal_at(2 * i + 1) } }
-$1 == "E" { event_at(2 * SLOTS + 4 * events++, $2) }
+$1 == "E" { line_of[++events] = $2 }
 END {
   if (mode == "busy") print busy()
   if (mode == "setup") print bad_setup()
