@@ -4,7 +4,8 @@
 # were it ready, would acknowledge it, and of a stop whether it begins a write cycle.
 #
 # What the slot does not hear since its cycle runs, ticks.awk finds out: its rows M say what is left out of this run.
-# Reads these, and the rows V of events.awk; bench.awk, octal.awk, watch.awk and told.awk are read before this.
+# Reads these, and the events (the rows W of exports.awk and beside.awk, in order); bench.awk and watch.awk are read
+# before this.
 #
 #   slot  its number
 #   mode  bytes  the setup and the records of the run, in lines of octal escapes of printf
@@ -29,10 +30,10 @@ function no_run() { failed = 1; exit 1 }
 function feed(kind, of, val) {
   if (mode == "facts") { if (ahead == "") no_run(); read_on(); return }
   printf "%s", record_octals(kind, of, val)
-  if (++written % 64 == 0) printf "\n"
+  if (++records % 64 == 0) printf "\n"
 }
 function begin(   i) {
-  if (mode == "bytes") for (i = 0; i < SLOTS; i++) printf "%s", octal_of(i == slot ? kind_of[i] : 0) octal_of(i == slot ? ticks_of[i] : 0)
+  if (mode == "bytes") for (i = 0; i < SLOTS; i++) printf "%s", octal(i == slot ? kind_of[i] : 0) octal(i == slot ? ticks_of[i] : 0)
   else read_on()
   if (mode == "facts" && index(stands, slot " kind=") != 1) no_run()
 }
@@ -84,7 +85,7 @@ function asked_row(out) { fact("Q\t" asked "\t" slot "\t" otherwise "\t" (out < 
 BEGIN { FS = "\t"; told_slots(); begin(); try_all() }
 $1 == "M" && $2 == slot && $4 == "cut" { cut[$3] = 1; next }
 $1 == "M" && $2 == slot { level[$3] = $4; stood[$3] = $5 }
-$1 == "V" { take($2, $7, $8, $9) }
+$1 == "W" { take(++events, $6, $7, $8) }
 END {
   if (asked) asked_row(0)
   if (mode == "bytes") printf "\n"

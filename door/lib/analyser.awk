@@ -1,5 +1,5 @@
 # The verdict on a logic analyser's export put in words, for ./plungerhen capture --sigrok and --saleae (analyser).
-# Reads the rows of ticks.awk; bench.awk, words.awk, octal.awk, watch.awk and told.awk are read before this.
+# Reads the rows of ticks.awk; bench.awk, words.awk and watch.awk are read before this.
 #
 #   mode  bytes  the records as a capture has them, in lines of octal escapes of printf
 #         script the same without answers, as a script has them
@@ -14,20 +14,13 @@
 #
 # `lines` is the file with what the program `watch` wrote of the records, for agrees and tell.
 
-function plural(n, word) { return n " " word (n == 1 ? "" : "s") }
-function listed(list, n,   i, text) {
-  for (i = 1; i <= n; i++) text = text (i == 1 ? "" : i < n ? ", " : " and ") list[i]
-  return text
-}
 function ms(time) { return sprintf("%.3f", time / 1e6) }
 function since(time, stop) { return sprintf("%.1f", (time - stop) / 1e6) }
 
 # ---- bytes
 function record_bytes(kind, slot, val, answer) {
-  printf "%s", record_octals(kind, slot, val)
-  if (mode == "bytes" && answer ~ /^D/) printf "%s", octal_of(3) octal_of(from_hex(substr(answer, 2)))
-  else if (mode == "bytes") printf "%s", octal_of(index("-AN", answer) - 1) octal_of(0)
-  if (++written % 64 == 0) printf "\n"
+  printf "%s", record_octals(kind, slot, val) (mode == "bytes" ? answer_octals(answer) : "")
+  if (++records % 64 == 0) printf "\n"
 }
 
 # ---- what `watch` wrote: stands[] is each slot's last line
@@ -36,9 +29,7 @@ function read_on(record,   got, s, was) {
   while ((got = getline ahead <lines) > 0 && is_slot(ahead)) {
     s = ahead + 0; was = stands[s]
     if (number_of(ahead, "left") && !number_of(was, "left")) { begun[s, record] = 1; begins++ }
-    if (number_of(ahead, "phase") == 6 && number_of(was, "phase") != 6) {
-      halves[s] = halves[s] " " record; half_of[s, record] = number_of(ahead, "half")
-    }
+    if (number_of(ahead, "phase") == 6 && number_of(was, "phase") != 6) half_by[s] = record " " number_of(ahead, "half")
     stands[s] = ahead
   }
 }
@@ -59,7 +50,6 @@ function concerns(s) { return (s in kind_of) && (is_command(control) || named_sl
 
 # ---- the write cycles: how long they took, up to a record
 function cycle_row() {
-  began[$2 + 0, $3 + 0] = 1
   slot[++cycles] = $2 + 0; stop[cycles] = $3 + 0; stop_at[cycles] = $4; how[cycles] = $5
   end[cycles] = $6; end_at[cycles] = $7; busy[cycles] = $8; by[cycles] = $9
 }
@@ -133,7 +123,6 @@ function end_agrees() {
 }
 
 # ---- tell: the event, and the exchange up to it
-function fail(sentence) { print sentence; exit 1 }
 function get(i) { split(raw[i], f, "\t") }
 function words_of(i) { get(i); return record_words(f[6], f[7], f[8]) }
 function heading(   text) {
@@ -182,14 +171,11 @@ function phases() {
     "gives the high byte of a register,gives the low byte of a register", doing, ",")
   sub(/;/, ",", doing[12])
 }
-function protected_words(   i, n, list) {
+function memory_words(   address, i, n, list) {
   for (i = 0; i < 4; i++) if (now("protection" i)) list[++n] = i
-  return n ? (n == 1 ? "block " : "blocks ") listed(list, n) " protected" : "no block protected"
-}
-function memory_words(   address) {
   address = 256 * now("half") + now("counter")
   return "half " now("half") ", counter " show(now("counter")) " (address " sprintf("%03X", address) "h, block " int(address / 128) "), " \
-    protected_words() ", high voltage " (now("voltage") ? "on" : "off")
+    protected_words(list, n) ", high voltage " (now("voltage") ? "on" : "off")
 }
 function sensor_words(   names, name, text) {
   split("configuration,high,low,critical,temperature,-,-,resolution,timeout", names, ",")
@@ -206,45 +192,42 @@ function state_line(s,   text) {
   print text (now("left") ? "a write cycle with " now("left") " of " plural(ticks_of[s], "tick") " left" : "no write cycle")
 }
 
-# ---- tell: what was written to a slot before this exchange
-# The last stretch of events, from a start on, that wrote to slot s: wrote_from to wrote_to. Such a stretch names the slot,
-# or its stop began a write cycle there.
-function look_back(s, limit,   i, behind, from, acked, last) {
-  wrote_from = -1; control = -2
-  for (i = 0; i < limit; i++) {
-    get(i)
-    if (f[6] == 1) from = i
-    if (f[6] == 2 && control == -1) { acked = f[9] == "A"; behind = 0 }
-    else if (f[6] == 2 && control >= 0) behind++
-    follow(f[6], f[8])
-    if (f[6] == 2) last = i
-    if ((f[6] == 2 && acked && writes_to(s, behind)) || ((s, i) in began)) { wrote_from = from; wrote_to = last }
-  }
+# ---- tell: what was written to a slot before this exchange. The last stretch of events, from a start on, that wrote to
+# it names the slot, or its stop began a write cycle there: wrote[] has its first record and its last byte.
+function written(record, kind, val, answer,   s) {
+  if (kind == 1) from = record
+  if (kind == 2 && control == -1) { acked = answer == "A"; behind = 0 }
+  else if (kind == 2) behind++
+  follow(kind, val)
+  if (kind == 2) last = record
+  for (s in kind_of)
+    if ((kind == 2 && acked && behind >= 2 && control % 2 == 0 && named_slot(control) == s) || ((s, record) in begun))
+      wrote[s] = from " " last
 }
-function writes_to(s, behind) { return named_slot(control) == s && control % 2 == 0 && behind >= 2 }
-function bytes_written(   i, text, n) {
-  for (i = wrote_from; i <= wrote_to; i++) {
+# What was so before an exchange, or before an event outside of any
+function keep_before(   s) { for (s in kind_of) { wrote_before[s] = wrote[s]; half_before[s] = half_by[s] } }
+function bytes_written(from, to,   i, text, n) {
+  for (i = from; i <= to; i++) {
     get(i)
     if (f[6] == 2 && ++n <= 20) text = text " " show(f[8]) (f[9] == "N" ? " (NACK)" : "")
   }
   return text (n > 20 ? " .., " n " bytes" : "")
 }
-function write_line(s, memory,   text) {
-  if (wrote_from < 0) {
+function write_line(s, memory,   text, w) {
+  if (!split(wrote_before[s], w, " ")) {
     text = "; its memory begins with " \
       ((" " given " ") ~ (" " s " ") ? "the bytes that --memory told" : "FFh in every byte, since --memory told no other")
     print "  nothing was written to slot " s " before this exchange" (memory ? text : "")
     return
   }
-  text = bytes_written()
-  get(wrote_from)
+  text = bytes_written(w[1], w[2])
+  get(w[1])
   print "  last written to slot " s " in exchange " f[10] ", from " ms(f[3]) " ms:" text
 }
-function half_line(s, limit,   w, n) {
-  for (n = split(halves[s], w, " "); n && w[n] >= limit; n--) ;
-  if (!n) return
-  get(w[n])
-  print "  half " half_of[s, w[n]] " was selected by " show(f[8]) " in exchange " f[10] ", at " ms(f[3]) " ms"
+function half_line(s,   w) {
+  if (!split(half_before[s], w, " ")) return
+  get(w[1])
+  print "  half " w[2] " was selected by " show(f[8]) " in exchange " f[10] ", at " ms(f[3]) " ms"
 }
 function cycle_line(s,   c, latest, text, w) {
   for (c = 1; c <= cycles; c++) if (slot[c] == s && stop[c] < at) latest = c
@@ -278,23 +261,18 @@ function doubt_line(s) {
 }
 function doubt_row() { if ($3 <= at) { doubt_at[$2 + 0] = $4; doubt_byte[$2 + 0] = $5; doubt_stop[$2 + 0] = $6 } }
 
-function led_there(   s, was, any_slot, limit) {
-  get(at)
-  limit = f[10] ? first_of[f[10]] : at
-  was = control
+function led_there(   s, any_slot) {
   print "What led there:"
   for (s = 0; s < SLOTS; s++) {
-    control = was
     if (!concerns(s)) continue
     any_slot = 1
     state_line(s)
-    look_back(s, limit)
-    write_line(s, is_memory(was))
-    if (is_memory(was)) half_line(s, limit)
+    write_line(s, is_memory(control))
+    if (is_memory(control)) half_line(s)
     cycle_line(s)
     doubt_line(s)
   }
-  if (!any_slot) nobody(was)
+  if (!any_slot) nobody(control)
 }
 function nobody(byte) {
   if (named_slot(byte) >= 0) print "  slot " named_slot(byte) " is not told (--slot): in the model nobody answers to " show(byte)
@@ -338,8 +316,8 @@ $1 == "U" && mode == "doubts" { key[++keys] = $7; key_slot[keys] = $2 + 0; key_r
 $1 == "E" && (mode == "agrees" || (mode == "tell" && $2 < at)) { read_on($2 + 0) }
 $1 == "E" && mode == "tell" && $2 <= at {
   raw[$2 + 0] = $0
-  if ($10 && !($10 in first_of)) first_of[$10] = $2
-  follow($6, $8)
+  if (!$10 || !($10 in first_of)) { keep_before(); first_of[$10] = $2 }
+  written($2 + 0, $6, $8, $9)
 }
 $1 == "K" { cycle_row() }
 $1 == "U" && mode == "tell" { doubt_row() }

@@ -1,7 +1,7 @@
 # The bench as people speak of it, said once for every command of ./plungerhen: how many slots there are, what their
 # kinds are called, and control bytes. It is for words alone, what a number is called and which number a word stands
-# for: what a byte does and who acknowledges it, what is refused and what not, the programs say. Read before those that
-# use it; it does nothing by itself.
+# for: what a byte does and who acknowledges it, what is refused and what not, the programs say. Also what all awk
+# programs here share. Read before them; it does nothing by itself.
 
 BEGIN {
   SLOTS = 8
@@ -31,6 +31,25 @@ function called(byte) {
   return (byte % 2 ? "read" : "write") " slot " named_slot(byte) "|" (is_memory(byte) ? "memory" : "sensor")
 }
 
+# ---- words and escapes
+function fail(sentence) { print sentence; exit 1 }
+function plural(n, word) { return n " " word (n == 1 ? "" : "s") }
+function listed(list, n,   i, text) {
+  for (i = 1; i <= n; i++) text = text (i == 1 ? "" : i < n ? ", " : " and ") list[i]
+  return text
+}
+function blocks_named(list, n) { return (n == 1 ? "block " : "blocks ") listed(list, n) }
+function protected_words(list, n) { return n ? blocks_named(list, n) " protected" : "no block protected" }
+# Octal escapes of printf: of a byte, of a record
+function octal(byte) {
+  if (!(byte in OCTAL)) OCTAL[byte] = sprintf("\\%03o", byte)
+  return OCTAL[byte]
+}
+function record_octals(kind, slot, val) {
+  if (val < 0) val += 65536
+  return octal(kind) octal(slot) octal(int(val / 256)) octal(val % 256)
+}
+
 # ---- kinds
 function has_sensor(kind) { return kind == 2 }
 function kind_words(kind) { return kind ? KIND_TOLD[kind] : "absent" }
@@ -42,6 +61,14 @@ function kind_named(word,   k) {
 function bad_pair(slot, kind, ticks,   k, numbers, words) {
   for (k = 1; k in KIND; k++) { numbers = numbers (k + 1 in KIND ? ", " : " or ") k; words = words ", " KIND_TOLD[k] }
   if (kind >= k) return "slot " slot " is of kind " kind ", not 0" numbers " (absent" words ")"
-  if (kind && (ticks < 1 || ticks > 5)) return "slot " slot " has a write cycle of " ticks " tick" (ticks == 1 ? "" : "s") ", not of 1 to 5"
+  if (kind && (ticks < 1 || ticks > 5)) return "slot " slot " has a write cycle of " plural(ticks, "tick") ", not of 1 to 5"
   return ""
+}
+# The slots that ./plungerhen capture --sigrok and --saleae are told of, from `slots`, as in `2:1:5 3:2:5`: kind_of[], and
+# ticks_of[], the write cycle in ticks
+function told_slots(   w, i, part) {
+  for (i = split(slots, w, " "); i; i--) {
+    split(w[i], part, ":")
+    kind_of[part[1] + 0] = part[2] + 0; ticks_of[part[1] + 0] = part[3] + 0
+  }
 }

@@ -1,9 +1,9 @@
 # What happened beside the wires, told in the words of the cases with a time in front, read for ./plungerhen capture
-# --beside (analyser). words.awk and told.awk are read before this.
+# --beside (analyser). bench.awk and words.awk are read before this.
 #
 # From lines such as `at 12.5 ms voltage 0 on` to rows, fields parted by tabs, the time in nanoseconds:
 #
-#   X  time, line number, kind, slot, value
+#   W  time, the same once more, line number, b, kind, slot, value, -
 #   Z  the end
 #
 # or, last, B: line number, what is wrong there.
@@ -35,7 +35,7 @@ function one(i,   kind, slot, v) {
   if (kind == 9 && (v < -640 || v > 2000)) bad("the temperature " v " is not from -640 to 2000 sixteenths of a degree")
   if (kind == 8 && (v < 0 || v > 16))
     bad("the number behind power is " v ", and must be from 0 to 16, the bytes stored of a write cycle that it cuts")
-  print "X\t" sprintf("%.0f", when) "\t" NR "\t" kind "\t" slot "\t" v
+  printf "W\t%.0f\t%.0f\t%d\tb\t%d\t%d\t%d\t-\n", when, when, NR, kind, slot, v
 }
 function beside_line(   w, n, i, part, rest) {
   if (arrow) bad("what happens beside the wires has no answer")

@@ -18,11 +18,6 @@
 
 # ---- read
 function row(text) { rows[++nrows] = text }
-function answer_bytes(a) {
-  if (a ~ /^D/) return octal(3) octal(from_hex(substr(a, 2)))
-  if (a ~ /^R/) return octal(4) octal(substr(a, 2))
-  return octal(index("-AN", a) - 1) octal(0)
-}
 
 function setup_line() {
   if (nevents) bad("setup comes before the first event")
@@ -61,7 +56,7 @@ function event_line(   i) {
   match_list()
   for (i = 1; i <= nline; i++) {
     row("E\t" nevents++ "\t" NR "\t" left "\t" from_hex(substr(code[i], 1, 2)) "\t" told[i] "\t" due[i])
-    records[NR] = records[NR] substr(input, 16 * i - 15, 16) answer_bytes(due[i])
+    records[NR] = records[NR] substr(input, 16 * i - 15, 16) answer_octals(due[i])
   }
 }
 
@@ -87,8 +82,6 @@ function end_bytes(   i) {
 }
 
 # ---- tell
-function fail(sentence) { print sentence; exit 1 }
-
 # The first event to show: eight before the record, or the start of the exchange that this one stands in, but not more
 # than forty before.
 function shown_from(   i, from, inside) {

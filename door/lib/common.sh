@@ -61,9 +61,19 @@ readable() { is_readable "$1" || unreadable "$1"; }
 readable_case() { is_case "$1" || unreadable "$1"; }
 unreadable() {
     case $why in
-    'it is '*) die "'$1' ${why#it }" ;;
+    'it '*) die "'$1' ${why#it }" ;;
     *) die "there is no file '$1'" ;;
     esac
+}
+# image FILE: the bytes of a slot's memory, as octal escapes, in `bytes`; if it has none such, `why` says so
+image() {
+    is_readable "$1" || return
+    bytes=$(octals 513 <"$1")
+    case ${#bytes} in
+    0) why="it is empty; a slot's memory is 1 to 512 bytes" ;;
+    2052) why="it has more than 512 bytes; a slot's memory is 1 to 512 bytes" ;;
+    esac
+    [ -z "$why" ]
 }
 
 # A folder for what is made on the way, `work`, and the files that are made aside: both go at the end.

@@ -12,14 +12,11 @@
 # The records are not taken on trust: what is not five ticks, half commands and whole pages of `new` that differ from
 # `old`, each such page once, ends with status 1 and a line that says why.
 
-function fail(sentence) { print sentence; failed = 1; exit 1 }
-
 function digit(c) { return index("0123456789ABCDEF", c) - 1 }
 function number(hex) { return 16 * digit(substr(hex, 1, 1)) + digit(substr(hex, 2, 1)) }
 function byte_of(contents, address) { return substr(contents, 2 * address + 1, 2) }
 function page_of(contents, page) { return substr(contents, 32 * page + 1, 32) }
 function differs(page) { return page_of(old, page) != page_of(new, page) }
-function plural(n, word) { return n " " word (n == 1 ? "" : "s") }
 function times(word, n) { return n == 1 ? word : word "*" n }
 
 # The bytes of a page as the case files write them, four or more that are alike as FFh*4.
@@ -38,12 +35,6 @@ function changes(page,   i, n, at) {
   for (i = 16 * page; i < 16 * page + 16; i++) if (byte_of(old, i) != byte_of(new, i)) at[++n] = i
   if (n > 3) return n " bytes: " change(at[1]) " .. " change(at[n])
   return plural(n, "byte") ": " change(at[1]) (n > 1 ? ", " change(at[2]) : "") (n > 2 ? ", " change(at[3]) : "")
-}
-
-# A list in words: 0, 1 and 3.
-function listed(list, n,   i, text) {
-  for (i = 1; i <= n; i++) text = text (i == 1 ? "" : i < n ? ", " : " and ") list[i]
-  return text
 }
 
 # ---- lines to print: events in the words of the case files, their answers, and a remark
@@ -111,8 +102,7 @@ function summary() {
   return "# " (pages ? "" : "nothing is to be written: ") plural(pages + 0, "page") ", " plural(ngot, "record") ", " plural(passed, "millisecond")
 }
 function known() {
-  return "# slot " slot ", write cycle " plural(ticks, "millisecond") ", half " half " selected, " \
-    (nblocks == 0 ? "no block protected" : nblocks == 1 ? "block " block[1] " protected" : "blocks " listed(block, nblocks) " protected")
+  return "# slot " slot ", write cycle " plural(ticks, "millisecond") ", half " half " selected, " protected_words(block, nblocks)
 }
 
 # ---- what comes before the plan: the program is told by these records, a case plays its own
@@ -168,12 +158,11 @@ function tell_refused(   i, page, list, n, told) {
 BEGIN { old = toupper(old); new = toupper(new); nblocks = split(blocks, block, " "); ngot = -1 }
 { got[++ngot] = $0 }
 END {
-  if (mode == "refused") { tell_refused(); exit failed }
+  if (mode == "refused") { tell_refused(); exit }
   if (mode == "first") { print first_records(); exit }
   if (mode == "case") before_plan()
   else heading(known())
   read_plan()
-  if (failed) exit 1
   if (mode == "case") after_plan()
   else heading(summary())
   if (mode == "records") for (i = 1; i <= ngot; i++) printf "%s", got[i]

@@ -9,8 +9,6 @@
 # What the case can't have been refused for ends with status 1 and a line that says so. bench.awk, octal.awk and
 # watch.awk are read before this.
 
-function fail(sentence) { print sentence; exit 1 }
-
 # ---- busy: a slot's line behind event n. `inside` counts the slots that are in an exchange, which began in line `open`.
 function stands(line,   slot, phase) {
   slot = line + 0; phase = number_of(line, "phase") != 0

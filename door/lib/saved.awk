@@ -12,11 +12,6 @@
 
 function hex(v, digits) { return sprintf("%0" digits "Xh", v) }
 function place(at) { return hex(at, 4) " (" at ")" }
-function plural(n, word) { return n " " word (n == 1 ? "" : "s") }
-function listed(list, n,   i, text) {
-  for (i = 1; i <= n; i++) text = text (i == 1 ? "" : i < n ? ", " : " and ") list[i]
-  return text
-}
 # the bits of v that are not in mask
 function outside(v, mask,   bit, rest) {
   for (bit = 1; bit <= v; bit *= 2) if (int(v / bit) % 2 && !(int(mask / bit) % 2)) rest += bit
@@ -115,7 +110,7 @@ function sum(   i, n, list) {
 
 function protection_words(v,   i, n, list) {
   for (i = 0; i < 4; i++) if (int(v / 2 ^ i) % 2) list[++n] = i
-  return n ? (n == 1 ? "block " : "blocks ") listed(list, n) " protected" : "no block protected"
+  return protected_words(list, n)
 }
 
 # Sixteenths of a degree: bits 12 to 0, two's complement.

@@ -15,8 +15,6 @@
 # Lines that are not those of this case end with status 1 and a line that says so. bench.awk, octal.awk and
 # watch.awk are read before this.
 
-function fail(sentence) { print sentence; exit 1 }
-
 # How long an event takes: nine clocks for a byte, a millisecond for a tick; a condition, and what is not on the wires,
 # as two clocks. What is refused takes no time.
 function length_of(kind, answer) {

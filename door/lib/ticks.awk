@@ -1,8 +1,9 @@
 # Places the ticks, which are not on the wires, among the events of a logic analyser's export, for ./plungerhen capture
 # --sigrok and --saleae (analyser).
 #
-# Reads what each told slot would do were it alone and ready (alone.awk), then the events (events.awk); bench.awk and
-# told.awk are read before this. Writes rows, fields parted by tabs, times in nanoseconds; `-` where there is no number:
+# Reads what each told slot would do were it alone and ready (alone.awk), then the events (the rows W of exports.awk and
+# beside.awk, in order); bench.awk is read before this. Writes rows, fields parted by tabs, times in nanoseconds; `-`
+# where there is no number:
 #
 #   E  record's number from 0, time, line number, w (on the wires), b (beside) or t (a tick), kind, slot, value, answer,
 #      exchange (0 outside of any)
@@ -301,6 +302,6 @@ $1 == "C" { could[$2, $3] = 1 }
 $1 == "A" { takes[$2, $3] = 1 }
 $1 == "N" { refuses[$2, $3] = 1 }
 $1 == "B" { may_begin[$2, $3] = 1 }
-$1 == "V" { n = $2 + 0; take($3 + 0, $4, $5, $6, $7, $8, $9, $10) }
+$1 == "W" { n++; take($2 + 0, $3, $4, $5, $6, $7, $8, $9) }
 $1 == "O" { omitted[++omissions] = $0 }
 END { end_of_rows() }

@@ -23,7 +23,6 @@
 
 function bad(sentence) { if (!wrong) printf "B\t%d\t%s\n", NR, sentence; wrong = 1; exit }
 function trim(s) { sub(/^ +/, "", s); sub(/ +$/, "", s); return s }
-function octal(b) { return sprintf("\\%03o", b) }
 
 # A line: events, or what else stands on the left, then an arrow and what is answered, then a comment.
 function parted(   text, at) {
@@ -84,16 +83,16 @@ function spread(w, at, n,   i, j, m, star, times, plain) {
 function add(kind, slot, val, sure) {
   if (cut) bad("a record was cut short before this event; nothing can follow it")
   told[++nline] = record_words(kind, slot, val); counted[nline] = sure
-  if (val < 0) val += 65536
-  input = input octal(kind) octal(slot) octal(int(val / 256)) octal(val % 256)
-  code[nline] = sprintf("%02X%02X%04X", kind, slot, val)
+  input = input record_octals(kind, slot, val)
+  code[nline] = sprintf("%02X%02X%04X", kind, slot, val < 0 ? val + 65536 : val)
 }
 function wants(n, least, most, form) {
   if (n < least || n > most) bad("the form is: " form)
 }
-function reads(count, sure,   i) {
-  for (i = 1; i <= count; i++) add(3, 0, i < count, sure)
-}
+function reads(count,   i) { for (i = 1; i <= count; i++) add(3, 0, i < count, "") }
+# The short forms: a write begins with a control byte and a byte, and a read back follows it.
+function writes(control, byte) { add(1, 0, 0, "-"); add(2, 0, control, "A"); add(2, 0, byte, "A") }
+function reads_back(control, count) { add(1, 0, 0, "-"); add(2, 0, control, "A"); reads(count); add(4, 0, 0, "-") }
 
 function event(part,   w, n, i, k, s, v, bytes, digits, words) {
   n = split(part, w, " ")
@@ -119,7 +118,7 @@ function event(part,   w, n, i, k, s, v, bytes, digits, words) {
     wants(n, 2, 2, "read ack, read nack, or read COUNT")
     if (w[2] == "ack") add(3, 0, 1, "")
     else if (w[2] == "nack") add(3, 0, 0, "")
-    else reads(decimal(w[2], 1, 10000, "count"), "")
+    else reads(decimal(w[2], 1, 10000, "count"))
   }
   else if (w[1] == "voltage") {
     wants(n, 3, 3, "voltage SLOT on, or voltage SLOT off")
@@ -157,36 +156,26 @@ function event(part,   w, n, i, k, s, v, bytes, digits, words) {
     if (w[3] !~ /:$/) bad("the form is: write SLOT COUNTER: BYTE..., as in: write 0 1Eh: 01h 02h")
     s = slot_number(w[2]); sub(/:$/, "", w[3]); v = hex(w[3], 255, "counter")
     n = spread(w, 4, n)
-    add(1, 0, 0, "-")
-    add(2, 0, memory_byte(s, 0), "A"); add(2, 0, v, "A")
+    writes(memory_byte(s, 0), v)
     for (i = 4; i <= n; i++) { v = hex(w[i], 255, "byte"); add(2, 0, v, "") }
     add(4, 0, 0, "-")
   }
   else if (w[1] == "look") {
     wants(n, 4, 4, "look SLOT COUNTER COUNT, as in: look 0 1Eh 2")
     s = slot_number(w[2]); v = hex(w[3], 255, "counter"); k = decimal(w[4], 1, 10000, "count")
-    add(1, 0, 0, "-")
-    add(2, 0, memory_byte(s, 0), "A"); add(2, 0, v, "A")
-    add(1, 0, 0, "-")
-    add(2, 0, memory_byte(s, 1), "A"); reads(k, "")
-    add(4, 0, 0, "-")
+    writes(memory_byte(s, 0), v); reads_back(memory_byte(s, 1), k)
   }
   else if (w[1] == "set") {
     wants(n, 4, 4, "set SLOT REGISTER WORD, as in: set 3 02h 0500h")
     s = slot_number(w[2]); k = hex(w[3], 255, "register"); v = hex(w[4], 65535, "word")
-    add(1, 0, 0, "-")
-    add(2, 0, sensor_byte(s, 0), "A"); add(2, 0, k, "A")
+    writes(sensor_byte(s, 0), k)
     add(2, 0, int(v / 256), ""); add(2, 0, v % 256, "")
     add(4, 0, 0, "-")
   }
   else if (w[1] == "get") {
     wants(n, 3, 3, "get SLOT REGISTER, as in: get 3 05h")
     s = slot_number(w[2]); k = hex(w[3], 255, "register")
-    add(1, 0, 0, "-")
-    add(2, 0, sensor_byte(s, 0), "A"); add(2, 0, k, "A")
-    add(1, 0, 0, "-")
-    add(2, 0, sensor_byte(s, 1), "A"); reads(2, "")
-    add(4, 0, 0, "-")
+    writes(sensor_byte(s, 0), k); reads_back(sensor_byte(s, 1), 2)
   }
   else if (w[1] == "slot" || w[1] == "setup") bad("a setup line stands alone, without ;")
   else bad("\"" w[1] "\" is no event")
@@ -263,6 +252,12 @@ function record_words(kind, slot, val,   plain) {
   if (kind == 8) return val ? "power " val : "power"
   if (kind == 9) return "temperature " slot " " val
   return "event " kind " " slot " " val
+}
+# An answer as a capture has it: its code and its byte
+function answer_octals(a) {
+  if (a ~ /^D/) return octal(3) octal(from_hex(substr(a, 2)))
+  if (a ~ /^R/) return octal(4) octal(substr(a, 2))
+  return octal(index("-AN", a) - 1) octal(0)
 }
 function answer_words(a) {
   if (a == "A") return "ACK"
