@@ -4,8 +4,7 @@
 # were it ready, would acknowledge it, and of a stop whether it begins a write cycle.
 #
 # What the slot does not hear since its cycle runs, ticks.awk finds out: its rows M say what is left out of this run.
-# Reads these, and the events (the rows W of exports.awk and beside.awk, in order); bench.awk and watch.awk are read
-# before this.
+# Reads these, and the events (the rows W of exports.awk and beside.awk, in order); bench.awk is read before this.
 #
 #   slot  its number
 #   mode  bytes  the setup and the records of the run, in lines of octal escapes of printf

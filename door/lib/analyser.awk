@@ -1,5 +1,5 @@
 # The verdict on a logic analyser's export put in words, for ./plungerhen capture --sigrok and --saleae (analyser).
-# Reads the rows of ticks.awk; bench.awk, words.awk and watch.awk are read before this.
+# Reads the rows of ticks.awk; bench.awk and words.awk are read before this.
 #
 #   mode  bytes  the records as a capture has them, in lines of octal escapes of printf
 #         script the same without answers, as a script has them

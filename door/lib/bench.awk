@@ -50,6 +50,14 @@ function record_octals(kind, slot, val) {
   return octal(kind) octal(slot) octal(int(val / 256)) octal(val % 256)
 }
 
+# ---- what the program `watch` writes: a line for each record, the script's, and behind it a line for each slot that the
+# record changed, as in `0 kind=2 length=5 left=0 half=0 ..`
+function is_slot(line) { return line ~ /^[0-9]/ }
+function number_of(line, name,   at) {
+  at = index(line, " " name "=")
+  return at ? substr(line, at + length(name) + 2) + 0 : 0
+}
+
 # ---- kinds
 function has_sensor(kind) { return kind == 2 }
 function kind_words(kind) { return kind ? KIND_TOLD[kind] : "absent" }

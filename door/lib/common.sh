@@ -142,5 +142,5 @@ watch_case() {
 # telling_case MODE: what that plan tells, with what was watched where there is such (save.awk)
 telling_case() {
     if [ -n "$work" ] && [ -e "$work/watched" ]; then cat "$work/watched"; else printf '%s\n' "$plan"; fi |
-        awk_by 'octal watch save' -F '\t' -v mode="$1"
+        awk_by save -F '\t' -v mode="$1"
 }

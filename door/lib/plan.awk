@@ -4,7 +4,7 @@
 #   mode      show     the plan in the words of the case files, a line for each exchange
 #             case     a case file that plays all of it, from setup to a look at every byte
 #             records  the plan's records as they are, in one line of hex digits
-#             first    the records that bring a fresh bench to what is known of the module, in hex digits
+#             first    a case that brings a fresh bench to what is known of the module
 #             refused  which pages that differ lie in which protected block
 #   old, new  the two contents in hex digits      slot, ticks, half, blocks (a list)  what is known of the module
 # The environment variable NAMES has the names of the two files, for the case's heading. bench.awk is read before this.
@@ -105,32 +105,26 @@ function known() {
   return "# slot " slot ", write cycle " plural(ticks, "millisecond") ", half " half " selected, " protected_words(block, nblocks)
 }
 
-# ---- what comes before the plan: the program is told by these records, a case plays its own
-function first_records(   i, k, text) {
-  for (i = 1; i <= nblocks; i++) {    # voltage on; start, the block's command, two bytes, stop; the cycle; voltage off
-    text = text sprintf("07%02X0001", slot) "01000000020000" COMMAND["protect", block[i]] "020000000200000004000000"
-    for (k = 1; k <= ticks; k++) text = text "06000000"
-    text = text sprintf("07%02X0000", slot)
-  }
-  return text (half ? "01000000020000" COMMAND["half", half] "04000000" : "")
+# ---- the case around the plan
+function setup_line() { heading("slot " slot " memory " ticks) }
+function protect_lines(   i) {
+  if (nblocks) line("voltage " slot " on", "-", "")
+  for (i = 1; i <= nblocks; i++)
+    line("start; byte " COMMAND["protect", block[i]] "h 00h 00h; stop; " tick_words(ticks),
+         "- A*3 - " times("-", ticks), "block " block[i])
+  if (nblocks) line("voltage " slot " off", "-", "")
 }
-function before_plan(   page, now, i) {
+function before_plan(   page, now) {
   heading("# " ENVIRON["NAMES"] ", written by ./plungerhen plan")
-  heading(known()); heading("slot " slot " memory " ticks)
+  heading(known()); setup_line()
   heading(""); heading("# The old contents. Setup leaves FFh in every byte, so the pages that hold anything else are written.")
   for (page = 0; page < 32; page++) {
     if (page_of(old, page) ~ /^F+$/) continue
     if (int(page / 16) != now) { now = int(page / 16); half_line(now) }
     write_line(page, old, "page " page)
   }
-  if (nblocks) {
-    heading(""); heading("# The protection: high voltage on SA0, the command, two bytes, a stop, the write cycle.")
-    line("voltage " slot " on", "-", "")
-  }
-  for (i = 1; i <= nblocks; i++)
-    line("start; byte " COMMAND["protect", block[i]] "h 00h 00h; stop; " tick_words(ticks),
-         "- A*3 - " times("-", ticks), "block " block[i])
-  if (nblocks) line("voltage " slot " off", "-", "")
+  if (nblocks) { heading(""); heading("# The protection: high voltage on SA0, the command, two bytes, a stop, the write cycle.") }
+  protect_lines()
   if (now + 0 != half) { heading(""); heading("# The half."); half_line(half) }
   heading(""); heading("# The plan.")
 }
@@ -159,7 +153,7 @@ BEGIN { old = toupper(old); new = toupper(new); nblocks = split(blocks, block, "
 { got[++ngot] = $0 }
 END {
   if (mode == "refused") { tell_refused(); exit }
-  if (mode == "first") { print first_records(); exit }
+  if (mode == "first") { setup_line(); protect_lines(); if (half) half_line(half); print_lines(0); exit }
   if (mode == "case") before_plan()
   else heading(known())
   read_plan()

@@ -3,10 +3,11 @@
 #
 # One row a line, fields parted by tabs:
 #   I  number of events, number of events not compared, all bytes for the program as octal escapes
+#   P  the numbers of the setup
 #   C  0, a line to show as it is (comment or setup)
 #   S  line number, its text, "setup", the setup's answer
-#   E  line number, its text, the event in words, the answer (? not compared, "nothing" no line at all),
-#      and with a line's last event the comment that stands behind it, if any
+#   E  line number, its text, the event in words, the answer (? not compared, "nothing" no line at all), the comment
+#      that stands behind it, where it is a line's last event, and its record: kind, slot and value
 # or, alone, B: line number, what is wrong there.
 #
 #   strict  1: every line wants its answers
@@ -14,6 +15,10 @@
 #           must be the same or not there, and row I has the records alone
 
 function row(text) { rows[++nrows] = text }
+function record_of(digits,   val) {
+  val = from_hex(substr(digits, 5))
+  return from_hex(substr(digits, 1, 2)) "\t" from_hex(substr(digits, 3, 2)) "\t" (val < 32768 ? val : val - 65536)
+}
 
 function setupline(left,   i) {
   if (nevents) bad("setup comes before the first event")
@@ -62,7 +67,7 @@ function same_bench(   i, saved, here, there) {
   for (i = 1; i <= nline; i++) {
     nevents++
     answer = !arrow ? "?" : right == "nothing" ? "nothing" : due[i]
-    row("E\t" NR "\t" left "\t" told[i] "\t" answer (i == nline && note != "" ? "\t   " note : ""))
+    row("E\t" NR "\t" left "\t" told[i] "\t" answer "\t" (i == nline && note != "" ? "   " note : "") "\t" record_of(code[i]))
   }
 }
 
@@ -70,6 +75,7 @@ END {
   if (wrong) exit
   if (!lines) { NR = NR ? NR : 1; bad("neither setup nor event in this file"); exit }
   if (bench != "" && form != "") same_bench()
-  printf "I\t%d\t%d\t%s\n", nevents, loose, (bench == "" ? setupbytes() : "") input
+  printf "I\t%d\t%d\t%s\nP\t", nevents, loose, (bench == "" ? setupbytes() : "") input
+  for (i = 0; i < SLOTS; i++) printf "%d %d%s", kind[i], size[i], i < SLOTS - 1 ? " " : "\n"
   for (i = 1; i <= nrows; i++) print rows[i]
 }

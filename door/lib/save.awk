@@ -6,8 +6,7 @@
 #         short  where the case is cut short
 #         pairs  the numbers of the setup, an absent slot's length as 0
 #
-# What the case can't have been refused for ends with status 1 and a line that says so. bench.awk, octal.awk and
-# watch.awk are read before this.
+# What the case can't have been refused for ends with status 1 and a line that says so. bench.awk is read before this.
 
 # ---- busy: a slot's line behind event n. `inside` counts the slots that are in an exchange, which began in line `open`.
 function stands(line,   slot, phase) {
@@ -18,22 +17,17 @@ function stands(line,   slot, phase) {
   left[slot] = number_of(line, "left")
   if (number_of(line, "length") > longest) longest = number_of(line, "length")
 }
-function busy(   slot, i, kind, stopped, ticked) {
+function busy(   slot) {
   if (inside) return "the bench is not quiet: the exchange that begins in line " open " is not ended (a stop ends it)"
   for (slot in left) if (left[slot]) break
   if (!left[slot]) fail("in the program watch no slot is in an exchange or in a write cycle")
-  for (i = 1; i <= events; i++) {
-    kind = octal_at(2 * SLOTS + 4 * (i - 1))
-    if (kind == 4) { stopped = line_of[i]; ticked = 0 }
-    if (kind == 6) ticked++
-  }
   return "the bench is not quiet: a write cycle runs. Behind the last stop, in line " stopped ", " \
     (ticked == 1 ? "comes 1 tick" : ticked ? "come " ticked " ticks" : "comes no tick") \
     ", and the slots here take up to " longest " (tick " longest " lets it end)"
 }
 
 function bad_setup(   i) {
-  for (i = 0; i < SLOTS; i++) if (bad_pair(i, kinds[i], sizes[i]) != "") return bad_pair(i, kinds[i], sizes[i])
+  for (i = 0; i < SLOTS; i++) if (bad_pair(i, pair[2 * i + 1], pair[2 * i + 2]) != "") return bad_pair(i, pair[2 * i + 1], pair[2 * i + 2])
   fail("the setup is good")
 }
 function cut_at() {
@@ -45,11 +39,14 @@ function cut_at() {
 watched && is_slot($0) { stands($0) }
 watched && !is_slot($0) { n++ }
 $0 == "GOT" { watched = 1 }
-$1 == "I" { bytes = $4; for (i = 0; i < SLOTS; i++) { kinds[i] = octal_at(2 * i); sizes[i] = octal_at(2 * i + 1) } }
+$1 == "I" { bytes = $4 }
+$1 == "P" { split($2, pair, " ") }
 $1 == "E" { line_of[++events] = $2 }
+$1 == "E" && $7 == 4 { stopped = $2; ticked = 0 }
+$1 == "E" && $7 == 6 { ticked++ }
 END {
   if (mode == "busy") print busy()
   if (mode == "setup") print bad_setup()
   if (mode == "short") print cut_at()
-  if (mode == "pairs") for (i = 0; i < SLOTS; i++) printf "%d %d%s", kinds[i], kinds[i] ? sizes[i] : 0, i < SLOTS - 1 ? " " : "\n"
+  if (mode == "pairs") for (i = 1; i < 2 * SLOTS; i += 2) printf "%d %d%s", pair[i], pair[i] ? pair[i + 1] : 0, i + 1 < 2 * SLOTS ? " " : "\n"
 }

@@ -12,8 +12,7 @@
 #      at first, then where it changes
 #   Z  time: the end
 #
-# Lines that are not those of this case end with status 1 and a line that says so. bench.awk, octal.awk and
-# watch.awk are read before this.
+# Lines that are not those of this case end with status 1 and a line that says so. bench.awk is read before this.
 
 # How long an event takes: nine clocks for a byte, a millisecond for a tick; a condition, and what is not on the wires,
 # as two clocks. What is refused takes no time.
@@ -25,29 +24,30 @@ function length_of(kind, answer) {
 function shows(kind, from, to) { return kind == 6 ? to : from + 10 }
 
 # The slots' lines that come next.
-function states(at,   slot, now) {
+function states(at,   line, slot, now, b) {
   for (; is_slot(got[next_line]); next_line++) {
-    slot = got[next_line] + 0
-    now = number_of(got[next_line], "left") "\t" protection_of(got[next_line]) "\t" number_of(got[next_line], "voltage")
+    line = got[next_line]; slot = line + 0
+    now = number_of(line, "left") "\t"
+    for (b = 0; b < 4; b++) now = now number_of(line, "protection" b)
+    now = now "\t" number_of(line, "voltage")
     if (now != stood[slot]) print "S\t" at "\t" slot "\t" now
     stood[slot] = now
   }
 }
 
-function setup_rows(   i) {
-  for (i = 0; i < SLOTS; i++) if (octal_at(2 * i)) print "P\t" i "\t" octal_at(2 * i) "\t" octal_at(2 * i + 1)
+function setup_rows(pairs,   w, i) {
+  split(pairs, w, " ")
+  for (i = 0; i < SLOTS; i++) if (w[2 * i + 1]) print "P\t" i "\t" w[2 * i + 1] "\t" w[2 * i + 2]
   states(0)
-  for (i = 0; i < SLOTS; i++) if (octal_at(2 * i) && !(i in stood)) fail("the program watch does not tell where slot " i " stands")
+  for (i = 0; i < SLOTS; i++) if (w[2 * i + 1] && !(i in stood)) fail("the program watch does not tell where slot " i " stands")
 }
-function event_row(   at, kind, value, answer, to) {
-  at = 2 * SLOTS + 4 * n++
-  kind = octal_at(at); value = 256 * octal_at(at + 2) + octal_at(at + 3)
-  if (value >= 32768) value -= 65536
+function event_row(   answer, to) {
+  n++
   answer = got[next_line++]
   if (answer == "") fail("the program watch has no answer to event " n)
-  to = now + length_of(kind, answer)
-  print "E\t" n "\t" $2 "\t" now "\t" to "\t" kind "\t" octal_at(at + 1) "\t" value "\t" $4 "\t" answer "\t" $5 "\t" $6
-  states(shows(kind, now, to))
+  to = now + length_of($7, answer)
+  print "E\t" n "\t" $2 "\t" now "\t" to "\t" $7 "\t" $8 "\t" $9 "\t" $4 "\t" answer "\t" $5 "\t" $6
+  states(shows($7, now, to))
   now = to
 }
 
@@ -58,7 +58,7 @@ END {
   now = 100; next_line = 1
   for (r = 1; r <= nrows; r++) {
     $0 = rows[r]
-    if ($1 == "I") { bytes = $4; setup_rows() }
+    if ($1 == "P") setup_rows($2)
     if ($1 == "C") print "C\t" $3
     if ($1 == "E") event_row()
   }

@@ -48,7 +48,7 @@ function number(s,   i, low) {
   for (i = 1; i < length(low); i++) value = value * 16 + index("0123456789abcdef", substr(low, i, 1)) - 1
   return 1
 }
-function from_hex(digits) { number(digits "h"); return value }
+function from_hex(digits) { return number(digits "h") ? value : 0 }
 function decimal(s, least, most, what) {
   if (s !~ /^-?[0-9]+$/ || !number(s) || value < least || value > most)
     bad("\"" s "\" is no " what " (a decimal number from " least " to " most ")")
