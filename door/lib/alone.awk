@@ -11,12 +11,12 @@
 #         facts  what `watch` wrote of it, in the file `lines`, as rows, fields parted by tabs. What is not written of
 #                this run ends with status 1.
 #
-#   C  byte, slot: a control byte that such a slot, fresh and with high voltage, acknowledges
+#   C  byte, slot: a control byte that such a slot, when fresh, acknowledges; without high voltage (0) or with it (1)
 #   Q  event, slot: at this control byte, which it would acknowledge; whether it then stands otherwise than deaf (1, 0);
 #      at which level the byte is to be left out if the slot does not hear it: 0 not at all, since nothing of it lasts
 #      to the next start; 1 what is behind it, up to the next start; 2 the byte itself, too
 #   A  event, slot: it acknowledges this byte behind a control byte
-#   N  event, slot: it does not, and has acknowledged all before
+#   N  event, slot: it was taking bytes to write, and does not acknowledge this one
 #   B  event, slot: at this stop a write cycle begins
 
 # ---- the run: `said` is a record's line, `stands` the slot's last
@@ -36,15 +36,15 @@ function begin(   i) {
   else read_on()
   if (mode == "facts" && index(stands, slot " kind=") != 1) no_run()
 }
-# First every control byte, to the fresh slot with its high voltage on; then it is to be fresh again.
-function try_all(   first, byte) {
+# First every control byte, without high voltage and with it; then the slot is to be fresh again.
+function try_all(   first, on, byte) {
   first = stands
-  feed(7, slot, 1)
-  for (byte = 0; byte < 256; byte++) {
-    feed(1, 0, 0); feed(2, 0, byte)
-    if (said == "A") fact("C\t" byte "\t" slot)
+  for (on = 0; on <= 1; on++) {
+    feed(7, slot, on)
+    for (byte = 0; byte < 256; byte++) { feed(1, 0, 0); feed(2, 0, byte); if (said == "A") fact("C\t" byte "\t" slot "\t" on) }
+    feed(8, 0, 0)
   }
-  feed(8, 0, 0); feed(7, slot, 0)
+  feed(7, slot, 0)
   if (stands != first) no_run()
 }
 function fact(text) { if (mode == "facts") print text }
@@ -59,20 +59,20 @@ function take(n, kind, of, val,   i, before) {
   feed(kind, of, val)
   if (kind == 1) started()
   if (kind == 2 && said == "A") fact("A\t" n "\t" slot)
-  if (kind == 2 && said == "N" && heeds) { heeds = 0; fact("N\t" n "\t" slot) }
+  if (kind == 2 && said == "N" && number_of(before, "phase") == 4) fact("N\t" n "\t" slot)
   if (kind != 4) return
   if (number_of(before, "left") == 0 && number_of(stands, "left") > 0) fact("B\t" n "\t" slot)
   if (n in cut) running = 1
   for (i = 0; i < ticks_of[slot] && !running; i++) feed(6, 0, 0)
 }
 function control_byte(n, val,   deaf) {
-  fresh = heeds = asked = 0; muted = level[n]
+  fresh = asked = 0; muted = level[n]
   if (level[n] == 2) { fact("Q\t" n "\t" slot "\t" stood[n] "\t2"); return }
   deaf = stands
   sub(/ phase=[0-9]+ /, " phase=2 ", deaf)
   feed(2, 0, val)
   if (said != "A") return
-  asked = n; otherwise = heeds = stands != deaf
+  asked = n; otherwise = stands != deaf
 }
 # At a start nothing is left of an exchange but what lasts.
 function started() {

@@ -69,21 +69,20 @@ function on_beside(when, kind,   s) {
 }
 
 # ---- bytes. `control` is -1 where a control byte is to come, -2 where none is. deaf[] are the slots that did not hear
-# the last one since their cycles ran; `astray` is set once an answer is none that the model can give, since what follows
-# shows nothing more of cycles before.
+# the last one since their cycles ran.
 function on_byte(val, ack) {
   if (control == -1) { control = val; asked(val, ack) }
-  else taken(ack)
+  else if (ack) taken()
   if (!ack) spoiled = 1
 }
-# A control byte shows that a slot that would acknowledge it is ready, or that each that would heed it is not.
+# A control byte shows that a slot that would acknowledge it is ready; or, if that takes no high voltage, that each that
+# would heed it is not.
 function asked(val, ack,   s) {
   s = ack ? readiest(val) : -1
   if (s >= 0) answers(s, val)
   for (s = 0; s < SLOTS; s++) {
     if (!((n, s) in heeds)) continue
-    if (!ack && heeds[n, s]) declines(s)
-    if (!ack && !(s in open)) astray = 1
+    if (!ack && heeds[n, s] && ((val, s, 0) in could)) declines(s)
     if ((s in open) && ack && ((n "," s) in forced)) { ended_by[open[s]] = val; ends(s, start_gate, "heard") }
     if (!(s in open)) continue
     deaf[s] = 1
@@ -100,33 +99,29 @@ function is_cut(s, c,   m, w, i) {
   m = split(unheard[c], w, " ")
   for (i = 1; i <= m; i++) leave_out(s, w[i], 2)
 }
-# Which slot it was that acknowledged a control byte: the only one that would; where several would, and all are in their
-# cycles, the one whose cycle has had the most of its time. Where none would, as for want of voltage, the only one that
-# could.
-function readiest(val,   s, many, ready, part, most, best) {
+# Which slot it was that acknowledged a control byte: the only one that could; or, if all that would are in their cycles,
+# the one whose cycle has had the most of its time.
+function readiest(val,   s, many, part, most, best) {
+  for (s = 0; s < SLOTS; s++) if ((val, s, 1) in could) { best = s; many++ }
+  if (many == 1) return best
   best = -1
   for (s = 0; s < SLOTS; s++) {
     if (!((n, s) in heeds)) continue
-    many++
-    if (!(s in open)) { ready = 1; if (many == 1) best = s; continue }
+    if (!(s in open)) return -1
     part = (gate_at[start_gate] - stop_at[open[s]]) / ticks_of[s]
     if (best < 0 || part > most) { most = part; best = s }
   }
-  if (many) return many > 1 && ready ? -1 : best
-  astray = 1
-  for (s = 0; s < SLOTS; s++) if ((val, s) in could) { best = s; many++ }
-  return many == 1 ? best : -1
+  return best
 }
 function doubted(c, val) {
   doubt[++doubts] = c; doubt_row[doubts] = n; doubt_at[doubts] = gate_at[start_gate]; doubt_byte[doubts] = val
   busy_gate[c] = start_gate
 }
-# A byte behind it. Where it was acknowledged, and in the model nobody does that, the chip is another than the model, and
-# its stop counts as one that may begin a cycle.
-function taken(ack,   s, known) {
-  for (s = 0; s < SLOTS; s++) if (((n, s) in takes) && !(s in deaf)) known = 1
-  for (s = 0; s < SLOTS; s++) if (ack && !known && ((n, s) in refuses) && !(s in deaf)) took[s] = 1
-  if (known != ack) astray = 1
+# A byte behind it was acknowledged. Where in the model nobody does that, the chip is another than the model, and its stop
+# counts as one that may begin a cycle.
+function taken(   s) {
+  for (s = 0; s < SLOTS; s++) if (((n, s) in takes) && !(s in deaf)) return
+  for (s = 0; s < SLOTS; s++) if (((n, s) in refuses) && !(s in deaf)) took[s] = 1
 }
 # A slot acknowledged a control byte: if its cycle ran still before that exchange's start, it ended there.
 function answers(s, val,   c) {
@@ -142,7 +137,7 @@ function declines(s,   c) {
   c = latest[s]
   if (s in open) { busy_gate[c] = start_gate; ran_at[c] = gate_at[start_gate] }
   if ((s in open) || (c && how[c] == "clock" && busy_at[c] < gate_at[end_gate[c]])) busy_at[c] = gate_at[start_gate]
-  if (c && !(s in open) && how[c] == "with" && !(c in told_gate) && !by_clock(c, start_gate) && !unfit && !astray) { unfit = c; unfit_gate = start_gate }
+  if (c && !(s in open) && how[c] == "with" && !(c in told_gate) && !by_clock(c, start_gate) && !unfit) { unfit = c; unfit_gate = start_gate }
 }
 function by_clock(c, g) { return gate_at[g] - stop_at[c] >= 1e6 * ticks_of[slot_of[c]] }
 function on_stop(when,   s) {
@@ -298,7 +293,7 @@ BEGIN {
   for (i = 1; i <= m; i++) forced[word[i]] = 1
 }
 $1 == "Q" { heeds[$2, $3] = $4; out[$2, $3] = $5 }
-$1 == "C" { could[$2, $3] = 1 }
+$1 == "C" { could[$2, $3, $4] = 1 }
 $1 == "A" { takes[$2, $3] = 1 }
 $1 == "N" { refuses[$2, $3] = 1 }
 $1 == "B" { may_begin[$2, $3] = 1 }
