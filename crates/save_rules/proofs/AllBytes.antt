@@ -14,6 +14,7 @@ use Rattle.rules.specs.declared.Sensor.{Sensor}
 use Rattle.rules.specs.declared.Slot.{Slot}
 use Rattle.rules.specs.Modelled.{memoryBytes}
 use Rattle.rules.specs.Events.{refusalNumber}
+use Rattle.rules.specs.Refusals.{wrongLength}
 use Rattle.rules.specs.Fields.{inPhase, withLeft, pointing}
 use Rattle.rules.specs.Fresh.{noBlocks, freshSensor, absentSlot, atRest}
 use Rattle.save_rules.specs.declared.Saved.{Saved}
@@ -164,12 +165,43 @@ oldBus = withSlots memoryOne (withLeft 9 (inPhase Deaf memoryOne))
 pub record Readings : Type 0 where
   pub one-less : restoreOf oldBus (replicate 4095 0) [] ≡ (record { bus = oldBus; answer = answer.Refused MemoryLength }, replicate 4095 0)
   pub one-more : restoreOf oldBus (replicate 4097 0) sampleForm ≡ (record { bus = oldBus; answer = answer.Refused MemoryLength }, replicate 4097 0)
-  pub wrong-form : restoreOf oldBus blank (set sampleForm 1074 0x02) ≡ (record { bus = oldBus; answer = answer.Refused WrongForm }, blank)
-  pub right-form : restoreOf oldBus blank sampleForm ≡ (record { bus = sampleBus; answer = answer.Nothing }, memoryIn sampleForm blank)
+  pub wrong-form : restoreOf oldBus blank (pairs ++ bytes ++ state ++ set sensor 17 0x02)
+      ≡ (record { bus = oldBus; answer = answer.Refused WrongForm }, blank)
+  pub right-form : restoreOf oldBus blank sampleForm ≡ (record { bus = busIn sampleForm; answer = answer.Nothing }, memoryIn sampleForm blank)
+
+-- by what was computed above: what is accepted, and what is not
+by-length : (b : Bus) (m f : List ℕ) → wrongLength m ≡ true → restoreOf b m f ≡ (record { bus = b; answer = answer.Refused MemoryLength }, m)
+unfolding restoreOf
+by-length b m f e = rw e
+
+by-form : (b : Bus) (m f : List ℕ) → wrongLength m ≡ false → accepted f m ≡ false → restoreOf b m f ≡ (record { bus = b; answer = answer.Refused WrongForm }, m)
+unfolding restoreOf
+by-form b m f e a = rw (e, a)
+
+by-none : (b : Bus) (m f : List ℕ) → wrongLength m ≡ false → accepted f m ≡ true
+    → restoreOf b m f ≡ (record { bus = busIn f; answer = answer.Nothing }, memoryIn f m)
+unfolding restoreOf
+by-none b m f e a = rw (e, a)
+
+short : wrongLength (replicate 4095 0) ≡ true
+unfolding wrongLength
+short = refl
+
+long : wrongLength (replicate 4097 0) ≡ true
+unfolding wrongLength
+long = refl
+
+fits : wrongLength blank ≡ false
+unfolding wrongLength
+fits = refl
 
 pub readings : Readings
-unfolding open-saved
-readings = record { one-less = refl; one-more = refl; wrong-form = refl; right-form = refl }
+readings = record {
+  one-less = by-length _ _ _ short;
+  one-more = by-length _ _ _ long;
+  wrong-form = by-form _ _ _ fits (departures .wrong-timeout);
+  right-form = by-none _ _ _ fits (sample .accepts);
+}
 
 -- The number and the value of each result of saving.
 pub numbers : map {B = ℕ × ℕ} (λ (r : Saved). (savedNumber r, savedValue r)) (Refused MemoryLength ∷ Refused WrongState ∷ Refused Busy ∷ Refused TooShort ∷ Form 1075 ∷ [])

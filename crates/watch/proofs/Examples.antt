@@ -1,0 +1,58 @@
+-- What `watch` writes for whole inputs, byte by byte. Each theorem computes.
+-- Assumes nothing.
+use Prim.Native.Nat.{ℕ}
+use Prim.Native.String.{String}
+use mathlib.Core.Path.{_≡_, refl}
+use mathlib.Core.List.{List, [], _∷_, _++_, map}
+use lib.ListN.{replicate}
+use Rattle.script_text.specs.Quoted.{quoted}
+use Rattle.watch.specs.Watch.{watchOf}
+use Rattle.watch.specs.Open.{open-watch}
+
+-- a memory in slot 0 with a write cycle of two ticks, and a memory with sensor in slot 7 with one of five
+abbrev setup : List ℕ
+setup = 1 ∷ 2 ∷ replicate 12 0 ++ 2 ∷ 5 ∷ []
+
+-- the numbers of a slot in no exchange, from its protection to its marks: all 0
+abbrev still : String
+still = " protection0=0 protection1=0 protection2=0 protection3=0 coming0=0 coming1=0 coming2=0 coming3=0 latch0=0 latch1=0 latch2=0 latch3=0 latch4=0 latch5=0 latch6=0 latch7=0 latch8=0 latch9=0 latch10=0 latch11=0 latch12=0 latch13=0 latch14=0 latch15=0 mark0=0 mark1=0 mark2=0 mark3=0 mark4=0 mark5=0 mark6=0 mark7=0 mark8=0 mark9=0 mark10=0 mark11=0 mark12=0 mark13=0 mark14=0 mark15=0"
+
+-- the sensor's numbers at their defaults, and at a temperature of 100 sixteenths of a degree, which is above all limits
+abbrev cold : String
+cold = " pointer=0 configuration=0 high=0 low=0 critical=0 temperature=0 resolution=1 timeout=1 word=0\n"
+
+abbrev warm : String
+warm = " pointer=0 configuration=0 high=0 low=0 critical=0 temperature=49252 resolution=1 timeout=1 word=0\n"
+
+abbrev lines : List String → List ℕ
+lines [] = []
+lines (s ∷ ss) = quoted s ++ lines ss
+
+abbrev first : List String
+first =
+    "0 kind=1 length=2 left=0 half=0 counter=0 place=0 voltage=0 phase=0" ∷ still ∷ cold
+    ∷ "7 kind=2 length=5 left=0 half=0 counter=0 place=0 voltage=0 phase=0" ∷ still ∷ cold ∷ []
+
+-- inputs, and what is written for them: a setup that is cut, a bad one with records behind it, one of which the record is cut; records that change
+-- both slots (a start), one of them (a temperature), and none (a tick, a slot that is not there, an unknown kind)
+abbrev table : List (List ℕ × List String)
+table =
+    ([], "short\n" ∷ [])
+    ∷ (replicate 15 1, "short\n" ∷ [])
+    ∷ (3 ∷ 1 ∷ replicate 14 0 ++ 1 ∷ 0 ∷ 0 ∷ 0 ∷ [], "R5\n" ∷ [])
+    ∷ (replicate 16 0, [])
+    ∷ (setup, first)
+    ∷ (
+      setup ++ 6 ∷ 0 ∷ 0 ∷ 0 ∷ 9 ∷ 7 ∷ 0 ∷ 100 ∷ 7 ∷ 9 ∷ 0 ∷ 1 ∷ 1 ∷ 0 ∷ 0 ∷ 0 ∷ 12 ∷ [],
+      first ++ "-\n"
+          ∷ "-\n" ∷ "7 kind=2 length=5 left=0 half=0 counter=0 place=0 voltage=0 phase=0" ∷ still ∷ warm
+          ∷ "R3\n"
+          ∷ "-\n" ∷ "0 kind=1 length=2 left=0 half=0 counter=0 place=0 voltage=0 phase=1" ∷ still ∷ cold
+          ∷ "7 kind=2 length=5 left=0 half=0 counter=0 place=0 voltage=0 phase=1" ∷ still ∷ warm
+          ∷ "short\n" ∷ [],
+    )
+    ∷ []
+
+pub watched : map (λ (c : List ℕ × List String). watchOf (c .0)) table ≡ map (λ (c : List ℕ × List String). lines (c .1)) table
+unfolding open-watch
+watched = refl

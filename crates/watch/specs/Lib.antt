@@ -1,0 +1,4 @@
+pub mod Watch
+pub mod Steps
+pub mod Reading
+pub mod Open

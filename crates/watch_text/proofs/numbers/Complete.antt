@@ -1,0 +1,116 @@
+-- The numbers are complete: slots with the same numbers are the same.
+-- Assumes nothing.
+use mathlib.Core.Path.{_≡_, refl, sym, _∙_, ap}
+use mathlib.Core.Bool.{Bool, true, false}
+use mathlib.Core.List.{List, [], _∷_}
+use Prim.Native.Nat.{ℕ, zero, suc, _+_, _-_, _<_}
+use native.Mathlib.Omega.{arith}
+use lib.ListN.{length, getD}
+use lib.Seq.{ext-getD}
+use Rattle.rules.specs.declared.Phase.{Phase}
+use Rattle.rules.specs.declared.Phase.the-variants.{Idle, Control, Deaf, MemoryCounter, MemoryData, MemoryRead, HalfSelected, CommandAddress, CommandData, CommandStop, SensorPointer, SensorHigh, SensorLow, SensorReadHigh, SensorReadLow}
+use Rattle.rules.specs.declared.Sensor.{Sensor}
+use Rattle.rules.specs.declared.Slot.{Slot}
+use Rattle.watch_text.specs.Numbers.{bit, phaseNumber, plainNumbers, sensorNumbers, numbersOf}
+use Rattle.watch_text.proofs.numbers.Laws.{Sized, plain-at, protection-at, coming-at, latch-at, mark-at, sensor-at}
+
+-- a bit and a phase, back from their numbers
+bit-back : (a b : Bool) → bit a ≡ bit b → a ≡ b
+unfolding bit
+bit-back true true e = refl
+bit-back true false e = absurd (omega arith)
+bit-back false true e = absurd (omega arith)
+bit-back false false e = refl
+
+abbrev phaseOf : ℕ → Phase
+phaseOf n =
+    getD (Idle ∷ Control ∷ Deaf ∷ MemoryCounter ∷ MemoryData ∷ MemoryRead ∷ HalfSelected ∷ CommandAddress ∷ CommandData ∷ CommandStop ∷ SensorPointer
+    ∷ SensorHigh ∷ SensorLow ∷ SensorReadHigh ∷ SensorReadLow ∷ []) n Idle
+
+phase-back : (p : Phase) → phaseOf (phaseNumber p) ≡ p
+unfolding phaseNumber
+phase-back Idle = refl
+phase-back Control = refl
+phase-back Deaf = refl
+phase-back MemoryCounter = refl
+phase-back MemoryData = refl
+phase-back MemoryRead = refl
+phase-back HalfSelected = refl
+phase-back CommandAddress = refl
+phase-back CommandData = refl
+phase-back CommandStop = refl
+phase-back SensorPointer = refl
+phase-back SensorHigh = refl
+phase-back SensorLow = refl
+phase-back SensorReadHigh = refl
+phase-back SensorReadLow = refl
+
+module _ (s t : Slot) (y : Sized s) (z : Sized t) (e : numbersOf s ≡ numbersOf t) where
+  at : (k : ℕ) → getD (numbersOf s) k 0 ≡ getD (numbersOf t) k 0
+  at k = ap (λ (l : List ℕ). getD l k 0) e
+
+  plain : (k : ℕ) → k < 8 → getD (plainNumbers s) k 0 ≡ getD (plainNumbers t) k 0
+  plain k h = sym (plain-at s k h) ∙ at k ∙ plain-at t k h
+
+  sensor : (k : ℕ) → getD (sensorNumbers (s .sensor)) k 0 ≡ getD (sensorNumbers (t .sensor)) k 0
+  sensor k =
+      let n : k + 48 - 48 ≡ k = omega arith in
+      sym (ap (λ i. getD (sensorNumbers (s .sensor)) i 0) n) ∙ sensor-at s (k + 48) y (omega arith) ∙ at (k + 48)
+      ∙ sym (sensor-at t (k + 48) z (omega arith)) ∙ ap (λ i. getD (sensorNumbers (t .sensor)) i 0) n
+
+  -- an array of bits from place `from` on
+  bits : (from n : ℕ) (p q : List Bool) → length p ≡ n → length q ≡ n
+      → ((k : ℕ) → k < n → bit (getD p (from + k - from) false) ≡ getD (numbersOf s) (from + k) 0)
+      → ((k : ℕ) → k < n → bit (getD q (from + k - from) false) ≡ getD (numbersOf t) (from + k) 0) → p ≡ q
+  bits from n p q l m f g =
+      ext-getD false p q (l ∙ sym m) (λ k h.
+      let c : from + k - from ≡ k = omega arith in
+      let i : k < n = rw l at h in
+      bit-back _ _ (sym (ap (λ j. bit (getD p j false)) c) ∙ f k i ∙ at (from + k) ∙ sym (g k i) ∙ ap (λ j. bit (getD q j false)) c))
+
+  latches : s .latch ≡ t .latch
+  latches =
+      ext-getD 0 (s .latch) (t .latch) (y .2 ∙ sym (z .2)) (λ k h.
+      let c : 16 + k - 16 ≡ k = omega arith in
+      let i : k < 16 = rw (y .2) at h in
+      sym (ap (λ j. getD (s .latch) j 0) c) ∙ latch-at s (16 + k) y (omega arith) (omega arith) ∙ at (16 + k)
+      ∙ sym (latch-at t (16 + k) z (omega arith) (omega arith)) ∙ ap (λ j. getD (t .latch) j 0) c)
+
+  sensors : s .sensor ≡ t .sensor
+  unfolding sensorNumbers
+  sensors = λ i. record {
+    pointer = sensor 0 i;
+    configuration = sensor 1 i;
+    high = sensor 2 i;
+    low = sensor 3 i;
+    critical = sensor 4 i;
+    temperature = sensor 5 i;
+    resolution = sensor 6 i;
+    timeout = sensor 7 i;
+    word = sensor 8 i;
+  }
+
+  -- EVERY NUMBER IS TOLD: two slots that are told alike are the same slot
+  pub numbers-decide : s ≡ t
+  unfolding plainNumbers
+  numbers-decide =
+      let p : s .protection ≡ t .protection = bits 8 4 (s .protection) (t .protection) (y .0) (z .0) (λ k h. protection-at s (8 + k) y (omega arith) (omega arith)) (λ k h. protection-at t (8 + k) z (omega arith) (omega arith)) in
+      let c : s .coming ≡ t .coming = bits 12 4 (s .coming) (t .coming) (y .1) (z .1) (λ k h. coming-at s (12 + k) y (omega arith) (omega arith)) (λ k h. coming-at t (12 + k) z (omega arith) (omega arith)) in
+      let m : s .marks ≡ t .marks = bits 32 16 (s .marks) (t .marks) (y .3) (z .3) (λ k h. mark-at s (32 + k) y (omega arith) (omega arith)) (λ k h. mark-at t (32 + k) z (omega arith) (omega arith)) in
+      let v : s .voltage ≡ t .voltage = bit-back _ _ (plain 6 (omega arith)) in
+      let a : s .phase ≡ t .phase = sym (phase-back (s .phase)) ∙ ap phaseOf (plain 7 (omega arith)) ∙ phase-back (t .phase) in
+      λ i. record {
+        kind = plain 0 (omega arith) i;
+        length = plain 1 (omega arith) i;
+        left = plain 2 (omega arith) i;
+        half = plain 3 (omega arith) i;
+        counter = plain 4 (omega arith) i;
+        protection = p i;
+        coming = c i;
+        voltage = v i;
+        phase = a i;
+        latch = latches i;
+        marks = m i;
+        place = plain 5 (omega arith) i;
+        sensor = sensors i;
+      }

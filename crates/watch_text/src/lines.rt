@@ -1,0 +1,91 @@
+// Slots' lines, put into a lent output: a slot's own, and those of all present slots whose numbers changed.
+ghost use mathlib.Core.Path.{_≡_};
+ghost use mathlib.Core.Bool.{cond};
+ghost use mathlib.Core.List.{_∷_, []};
+ghost use Prim.Native.Nat.{_+_, _≤_};
+ghost use lib.Dec.{eqb};
+ghost use lib.ListN.{length, getD};
+ghost use lib.Seq.{sets};
+ghost use Rattle.script_text.specs.Decimal.{decimal};
+ghost use Rattle.watch_text.specs.Numbers.{numbersOf};
+ghost use Rattle.watch_text.specs.Lines.{names, numberTexts, slotLine, changeLine, changeLines};
+use super::numbers;
+use rules::Slot;
+
+// The names of a slot's numbers, as they stand in its line: each behind a space, with a sign behind it for its number to follow.
+const NAMES: [u8; 483] =
+    *b" kind= length= left= half= counter= place= voltage= phase= protection0= protection1= protection2= protection3= coming0= coming1= coming2= coming3= latch0= latch1= latch2= latch3= latch4= latch5= latch6= latch7= latch8= latch9= latch10= latch11= latch12= latch13= latch14= latch15= mark0= mark1= mark2= mark3= mark4= mark5= mark6= mark7= mark8= mark9= mark10= mark11= mark12= mark13= mark14= mark15= pointer= configuration= high= low= critical= temperature= resolution= timeout= word=";
+
+// A character of the names, and behind a sign the number at place k, put at a place of the output; the place after them.
+fn put_next(out: &mut [u8], at: usize, b: u8, s: Slot, k: usize) -> usize
+    requires { ⌜ at + 6 ≤ length (now out) ⌝ }
+    ensures { λ r. ⌜ (r ≡ at + length (b ∷ cond (eqb b 0x3D) (decimal (getD (numbersOf s) k 0)) []))
+        × (now (out .exit) ≡ sets (now (out .entry)) at (b ∷ cond (eqb b 0x3D) (decimal (getD (numbersOf s) k 0)) [])) × (r ≤ at + 6) ⌝ }
+{
+    let next = script_text::letters::put_one(out, at, b);
+    if b == b'=' {
+        return script_text::letters::put_decimal(out, next, numbers::number(s, k) as usize);
+    }
+    next
+}
+
+// The place of the number that comes next.
+fn counted(k: usize, b: u8) -> usize
+    requires { ⌜ k ≤ 483 ⌝ }
+    ensures { λ r. ⌜ (r ≡ k + cond (eqb b 0x3D) 1 0) × (r ≤ k + 1) ⌝ }
+{
+    if b == b'=' { k + 1 } else { k }
+}
+
+// All numbers of a slot with their names; the place after them.
+fn put_numbers(out: &mut [u8], from: usize, s: Slot) -> usize
+    requires { ⌜ from + 2898 ≤ length (now out) ⌝ }
+    ensures { λ r. ⌜ (r ≡ from + length (numberTexts names (numbersOf s)))
+        × (now (out .exit) ≡ sets (now (out .entry)) from (numberTexts names (numbersOf s))) × (r ≤ from + 2898) ⌝ }
+{
+    let mut at = from;
+    let mut k = 0;
+    for i in 0..483usize {
+        let b = NAMES[i];
+        at = put_next(out, at, b, s, k);
+        k = counted(k, b);
+    }
+    at
+}
+
+// A slot's line: its number, all its numbers by their names, and the line's end.
+fn put_slot(out: &mut [u8], at: usize, n: usize, s: Slot) -> usize
+    requires { ⌜ (n ≤ 8) × (at + 2900 ≤ length (now out)) ⌝ }
+    ensures { λ r. ⌜ (r ≡ at + length (slotLine n s)) × (now (out .exit) ≡ sets (now (out .entry)) at (slotLine n s)) × (r ≤ at + 2900) ⌝ }
+{
+    let first = script_text::letters::put_decimal(out, at, n);
+    let last = put_numbers(out, first, s);
+    script_text::letters::put_one(out, last, b'\n')
+}
+
+// The line of a slot that is present and whose numbers are no longer what they were; of any other nothing.
+fn put_change(out: &mut [u8], at: usize, n: usize, was: Slot, is: Slot) -> usize
+    requires { ⌜ (n ≤ 8) × (at + 2900 ≤ length (now out)) ⌝ }
+    ensures { λ r. ⌜ (r ≡ at + length (changeLine n was is)) × (now (out .exit) ≡ sets (now (out .entry)) at (changeLine n was is))
+        × (r ≤ at + 2900) ⌝ }
+{
+    if (is.kind == 0) | numbers::same_numbers(was, is) {
+        return at;
+    }
+    put_slot(out, at, n, is)
+}
+
+// The lines of all such slots, in their order.
+pub fn put_changes(out: &mut [u8], from: usize, was: [Slot; 8], is: [Slot; 8]) -> usize
+    requires { ⌜ from + 23200 ≤ length (now out) ⌝ }
+    ensures { λ r. ⌜ (r ≡ from + length (changeLines was is)) × (now (out .exit) ≡ sets (now (out .entry)) from (changeLines was is))
+        × (r ≤ from + 23200) ⌝ }
+{
+    let mut at = from;
+    for n in 0..8usize {
+        let a = was[n];
+        let b = is[n];
+        at = put_change(out, at, n, a, b);
+    }
+    at
+}
