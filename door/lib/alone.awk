@@ -15,9 +15,7 @@
 #   Q  event, slot: at this control byte, which it would acknowledge; whether it then stands otherwise than deaf (1, 0);
 #      at which level the byte is to be left out if the slot does not hear it: 0 not at all, since nothing of it lasts
 #      to the next start; 1 what is behind it, up to the next start; 2 the byte itself, too
-#   A  event, slot: it acknowledges this byte behind a control byte
-#   N  event, slot: it was taking bytes to write, and does not acknowledge this one
-#   B  event, slot: at this stop a write cycle begins
+#   B  event, slot: at this stop a write cycle begins, or would, had it not refused a byte to write
 
 # ---- the run: `said` is a record's line, `stands` the slot's last
 function read_on(   got) {
@@ -32,16 +30,18 @@ function feed(kind, of, val) {
   if (++records % 64 == 0) printf "\n"
 }
 function begin(   i) {
-  if (mode == "bytes") for (i = 0; i < SLOTS; i++) printf "%s", octal(i == slot ? kind_of[i] : 0) octal(i == slot ? ticks_of[i] : 0)
-  else read_on()
-  if (mode == "facts" && index(stands, slot " kind=") != 1) no_run()
+  if (mode == "facts") { read_on(); if (index(stands, slot " kind=") != 1) no_run(); return }
+  for (i = 0; i < SLOTS; i++) printf "%s", i == slot ? octal(kind_of[i]) octal(ticks_of[i]) : octal(0) octal(0)
 }
 # First every control byte, without high voltage and with it; then the slot is to be fresh again.
 function try_all(   first, on, byte) {
   first = stands
   for (on = 0; on <= 1; on++) {
     feed(7, slot, on)
-    for (byte = 0; byte < 256; byte++) { feed(1, 0, 0); feed(2, 0, byte); if (said == "A") fact("C\t" byte "\t" slot "\t" on) }
+    for (byte = 0; byte < 256; byte++) {
+      feed(1, 0, 0); feed(2, 0, byte)
+      if (said == "A") fact("C\t" byte "\t" slot "\t" on)
+    }
     feed(8, 0, 0)
   }
   feed(7, slot, 0)
@@ -51,17 +51,16 @@ function fact(text) { if (mode == "facts") print text }
 
 # ---- the events
 function take(n, kind, of, val,   i, before) {
-  if (kind == 1) { fresh = 1; muted = 0 }
+  if (kind == 1) { fresh = 1; muted = refused = 0 }
   if (kind == 8) running = 0
   if (kind == 2 && fresh) { control_byte(n, val); return }
   if (muted && kind >= 2 && kind <= 4) return
   before = stands
   feed(kind, of, val)
   if (kind == 1) started()
-  if (kind == 2 && said == "A") fact("A\t" n "\t" slot)
-  if (kind == 2 && said == "N" && number_of(before, "phase") == 4) fact("N\t" n "\t" slot)
+  if (kind == 2 && said == "N" && number_of(before, "phase") == 4) refused = 1
   if (kind != 4) return
-  if (number_of(before, "left") == 0 && number_of(stands, "left") > 0) fact("B\t" n "\t" slot)
+  if (refused || (number_of(before, "left") == 0 && number_of(stands, "left") > 0)) fact("B\t" n "\t" slot)
   if (n in cut) running = 1
   for (i = 0; i < ticks_of[slot] && !running; i++) feed(6, 0, 0)
 }
@@ -76,17 +75,17 @@ function control_byte(n, val,   deaf) {
 }
 # At a start nothing is left of an exchange but what lasts.
 function started() {
-  if (asked) asked_row(stands == at_start ? 0 : level[asked] + 1)
+  if (asked) fact("Q\t" asked "\t" slot "\t" otherwise "\t" level[asked] + (stands != at_start))
   asked = 0; at_start = stands
 }
-function asked_row(out) { fact("Q\t" asked "\t" slot "\t" otherwise "\t" (out < level[asked] ? level[asked] : out)) }
 
 BEGIN { FS = "\t"; told_slots(); begin(); try_all() }
 $1 == "M" && $2 == slot && $4 == "cut" { cut[$3] = 1; next }
 $1 == "M" && $2 == slot { level[$3] = $4; stood[$3] = $5 }
 $1 == "W" { take(++events, $6, $7, $8) }
 END {
-  if (asked) asked_row(0)
+  if (failed) exit 1
+  feed(1, 0, 0); started()
   if (mode == "bytes") printf "\n"
-  exit failed || (mode == "facts" && ahead != "")
+  exit ahead != ""
 }

@@ -148,24 +148,17 @@ function events_shown(   from, i, wide, many) {
   if (from) printf "%" wide "s  (%s not shown)\n", "", (from == 1 ? "1 earlier event is" : from " earlier events are")
   for (i = from; i <= at; i += many) {
     get(i)
-    many = i < at && f[5] == "t" ? ticks_from(i) : 1
+    for (many = 1; f[5] == "t" && i + many < at && raw[i + many] ~ /\tt\t/; many++) ;
     printf "%" wide "s  %-24s  %s\n", ms(f[3]), (many > 1 ? "tick " many : words_of(i)),
       (i == at ? difference() : f[5] == "t" ? "(placed)" : answer_words(f[9]))
   }
-}
-function ticks_from(i,   many, g) {
-  for (many = 0; i + many < at; many++) {
-    split(raw[i + many], g, "\t")
-    if (g[5] != "t") break
-  }
-  return many
 }
 
 # ---- tell: the model's state, by the slot's line
 function now(name) { return number_of(line, name) }
 function phases() {
-  split("is in no exchange,waits for a control byte,is deaf until the next start,waits for the counter,takes bytes to write," \
-    "gives bytes of its memory,has had a half command,waits for the first byte behind a command," \
+  split("is in no exchange,waits for a control byte,is deaf until the next start,waits for the counter," \
+    "takes bytes to write,gives bytes of its memory,has had a half command,waits for the first byte behind a command," \
     "waits for the second byte behind a command,waits for the stop of a command,waits for the pointer," \
     "waits for the high byte of a register; or a start,waits for the low byte of a register," \
     "gives the high byte of a register,gives the low byte of a register", doing, ",")

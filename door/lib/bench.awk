@@ -50,8 +50,8 @@ function record_octals(kind, slot, val) {
   return octal(kind) octal(slot) octal(int(val / 256)) octal(val % 256)
 }
 
-# ---- what the program `watch` writes: a line for each record, the script's, and behind it a line for each slot that the
-# record changed, as in `0 kind=2 length=5 left=0 half=0 ..`
+# ---- what the program `watch` writes: a line for each record, the script's, and behind it a line for each slot that
+# the record changed, as in `0 kind=2 length=5 left=0 half=0 ..`
 function is_slot(line) { return line ~ /^[0-9]/ }
 function number_of(line, name,   at) {
   at = index(line, " " name "=")
@@ -69,11 +69,11 @@ function kind_named(word,   k) {
 function bad_pair(slot, kind, ticks,   k, numbers, words) {
   for (k = 1; k in KIND; k++) { numbers = numbers (k + 1 in KIND ? ", " : " or ") k; words = words ", " KIND_TOLD[k] }
   if (kind >= k) return "slot " slot " is of kind " kind ", not 0" numbers " (absent" words ")"
-  if (kind && (ticks < 1 || ticks > 5)) return "slot " slot " has a write cycle of " plural(ticks, "tick") ", not of 1 to 5"
-  return ""
+  if (!kind || (ticks >= 1 && ticks <= 5)) return ""
+  return "slot " slot " has a write cycle of " plural(ticks, "tick") ", not of 1 to 5"
 }
-# The slots that ./plungerhen capture --sigrok and --saleae are told of, from `slots`, as in `2:1:5 3:2:5`: kind_of[], and
-# ticks_of[], the write cycle in ticks
+# The slots that ./plungerhen capture --sigrok and --saleae are told of, from `slots`, as in `2:1:5 3:2:5`: kind_of[],
+# and ticks_of[], the write cycle in ticks
 function told_slots(   w, i, part) {
   for (i = split(slots, w, " "); i; i--) {
     split(w[i], part, ":")

@@ -25,9 +25,8 @@ function allowed(word) {
   if (word == "tick") bad("ticks are not told: they are placed where the wires show that a write cycle has ended")
   if (word == "event" || word == "raw") bad("\"" word "\" can't stand here: say voltage, temperature, power or timeout")
 }
-function one(i,   kind, slot, v) {
-  kind = from_hex(substr(code[i], 1, 2)); slot = from_hex(substr(code[i], 3, 2)); v = from_hex(substr(code[i], 5))
-  if (v >= 32768) v -= 65536
+function one(i,   r, kind, slot, v) {
+  split(record_of(code[i]), r, "\t"); kind = r[1]; slot = r[2] + 0; v = r[3]
   if (kind == 7 || kind == 9) {
     if (!(slot in kind_of)) bad("slot " slot " is not told: say --slot " (slot < SLOTS ? slot : "N") " memory or sensor, and its write cycle")
     if (kind == 9 && !has_sensor(kind_of[slot])) bad("slot " slot " is told as a memory: it has no sensor that feels a temperature")

@@ -27,9 +27,10 @@ awk_by() {
 bench() { awk "$(<"$lib/bench.awk")"$'\n'"BEGIN { print $1 }"; }
 # is_slot WORD: whether it is the number of one of `slots` slots
 is_slot() { [[ $1 =~ ^(0|[1-9][0-9]{0,3})$ ]] && [ "$1" -lt "$slots" ]; }
-# octals COUNT: so many bytes of standard input, as octal escapes
-# shellcheck disable=SC1003    # a backslash
-octals() { od -An -v -to1 -N"$1" | tr -d '\n' | tr ' ' '\\'; }
+
+# A difference, as the program capture says it: a record's number, the model's answer, the captured one.
+answer='(-|A|N|D[0-9A-F][0-9A-F]|R[0-9]{1,3})'
+difference="^(0|[1-9][0-9]{0,14}) $answer ($answer|\\?)\$"
 
 # program NAME LINE: runs the proved program NAME (./run NAME), or the command line, if one is given
 program() { if [ -n "$2" ]; then eval "$2"; else "$root/run" "$1"; fi; }
@@ -68,7 +69,8 @@ unreadable() {
 # image FILE: the bytes of a slot's memory, as octal escapes, in `bytes`; if it has none such, `why` says so
 image() {
     is_readable "$1" || return
-    bytes=$(octals 513 <"$1")
+    # shellcheck disable=SC1003    # a backslash
+    bytes=$(od -An -v -to1 -N513 <"$1" | tr -d '\n' | tr ' ' '\\')
     case ${#bytes} in
     0) why="it is empty; a slot's memory is 1 to 512 bytes" ;;
     2052) why="it has more than 512 bytes; a slot's memory is 1 to 512 bytes" ;;
@@ -131,16 +133,13 @@ read_case() {
     *) die "'$1' could not be read (awk failed)" ;;
     esac
 }
-# watch_case: what the program `watch` (./run watch), or the command line that the environment variable WATCH names, says
-# of that case, behind its plan and a line GOT: in $work/watched; `watched` is its first line
+# watch_case: what the program `watch` (./run watch), or the command line that the environment variable WATCH names,
+# says of that case, behind its plan and a line GOT: in $work/watched; `watched` is its first line
 # shellcheck disable=SC2034,SC2059    # for who asked; the bytes are escapes
 watch_case() {
     workplace
     { printf '%s\nGOT\n' "$plan"; printf "$input" 2>/dev/null | program watch "${WATCH:-}"; } >"$work/watched"
     watched=$(sed '1,/^GOT$/d' "$work/watched" | head -n 1)
 }
-# telling_case MODE: what that plan tells, with what was watched where there is such (save.awk)
-telling_case() {
-    if [ -n "$work" ] && [ -e "$work/watched" ]; then cat "$work/watched"; else printf '%s\n' "$plan"; fi |
-        awk_by save -F '\t' -v mode="$1"
-}
+# telling_case MODE [FILE]: what that plan tells, or the file with what was watched (save.awk)
+telling_case() { awk_by save -F '\t' -v mode="$1" "${2:--}" <<<"$plan"; }

@@ -9,11 +9,10 @@
 #   old, new  the two contents in hex digits      slot, ticks, half, blocks (a list)  what is known of the module
 # The environment variable NAMES has the names of the two files, for the case's heading. bench.awk is read before this.
 #
-# The records are not taken on trust: what is not five ticks, half commands and whole pages of `new` that differ from
-# `old`, each such page once, ends with status 1 and a line that says why.
+# Records that cannot be told so, as five ticks, half commands and whole pages of `new`, end with status 1 and a line that
+# says why.
 
 function digit(c) { return index("0123456789ABCDEF", c) - 1 }
-function number(hex) { return 16 * digit(substr(hex, 1, 1)) + digit(substr(hex, 2, 1)) }
 function byte_of(contents, address) { return substr(contents, 2 * address + 1, 2) }
 function page_of(contents, page) { return substr(contents, 32 * page + 1, 32) }
 function differs(page) { return page_of(old, page) != page_of(new, page) }
@@ -68,22 +67,20 @@ function next_is(record, what) { if (got[++at] != record) fail("record " at " is
 function hex_record(kind, b) { return sprintf("%02X0000%02X", kind, b) }
 
 function read_page(   page, i) {
-  page = 16 * standing + int(number(substr(got[++at], 7, 2)) / 16)
+  page = 16 * standing + digit(substr(got[++at], 7, 1))
   if (got[at] != hex_record(2, page % 16 * 16)) fail("record " at " is " got[at] ", where the first counter of a page should come")
-  if (page <= last_page) fail("page " page " comes after page " last_page)
-  if (!differs(page)) fail("page " page " is written and does not differ")
   for (i = 0; i < 16; i++) next_is("020000" byte_of(new, 16 * page + i), "byte " i " of page " page)
   next_is("04000000", "a stop")
   for (i = 1; i <= ticks; i++) next_is("06000000", "a tick")
   write_line(page, new, "page " page ", half " standing ", " changes(page))
-  last_page = page; pages++; passed += ticks
+  pages++; passed += ticks
 }
 
 function read_plan(   i) {
   if (got[0] !~ /^[1-9][0-9]*$/ || got[0] != ngot) fail("its first line is \"" got[0] "\", and " plural(ngot, "line") " follow")
   for (i = 1; i <= 5; i++) next_is("06000000", "one of five ticks")
   line("tick 5", "-*5", "a write cycle that may still run ends")
-  standing = half; passed = 5; last_page = -1
+  standing = half; passed = 5
   while (at < ngot) {
     next_is("01000000", "a start")
     if (got[++at] == "020000" COMMAND["half", 0] || got[at] == "020000" COMMAND["half", 1]) {
@@ -94,15 +91,14 @@ function read_plan(   i) {
     else if (got[at] == hex_record(2, memory_byte(slot, 0))) read_page()
     else fail("record " at " is " got[at] ", where a control byte should come")
   }
-  for (i = 0; i < 32; i++) if (differs(i)) wanted++
-  if (wanted != pages) fail(pages " pages are written, and " wanted " differ")
 }
 
 function summary() {
   return "# " (pages ? "" : "nothing is to be written: ") plural(pages + 0, "page") ", " plural(ngot, "record") ", " plural(passed, "millisecond")
 }
 function known() {
-  return "# slot " slot ", write cycle " plural(ticks, "millisecond") ", half " half " selected, " protected_words(block, nblocks)
+  return "# slot " slot ", write cycle " plural(ticks, "millisecond") ", half " half " selected, " \
+    protected_words(block, nblocks)
 }
 
 # ---- the case around the plan
@@ -123,7 +119,7 @@ function before_plan(   page, now) {
     if (int(page / 16) != now) { now = int(page / 16); half_line(now) }
     write_line(page, old, "page " page)
   }
-  if (nblocks) { heading(""); heading("# The protection: high voltage on SA0, the command, two bytes, a stop, the write cycle.") }
+  if (nblocks) heading("\n# The protection: high voltage on SA0, the command, two bytes, a stop, the write cycle.")
   protect_lines()
   if (now + 0 != half) { heading(""); heading("# The half."); half_line(half) }
   heading(""); heading("# The plan.")

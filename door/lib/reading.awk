@@ -15,10 +15,6 @@
 #           must be the same or not there, and row I has the records alone
 
 function row(text) { rows[++nrows] = text }
-function record_of(digits,   val) {
-  val = from_hex(substr(digits, 5))
-  return from_hex(substr(digits, 1, 2)) "\t" from_hex(substr(digits, 3, 2)) "\t" (val < 32768 ? val : val - 65536)
-}
 
 function setupline(left,   i) {
   if (nevents) bad("setup comes before the first event")
@@ -67,7 +63,8 @@ function same_bench(   i, saved, here, there) {
   for (i = 1; i <= nline; i++) {
     nevents++
     answer = !arrow ? "?" : right == "nothing" ? "nothing" : due[i]
-    row("E\t" NR "\t" left "\t" told[i] "\t" answer "\t" (i == nline && note != "" ? "   " note : "") "\t" record_of(code[i]))
+    behind = i == nline && note != "" ? "   " note : ""
+    row("E\t" NR "\t" left "\t" told[i] "\t" answer "\t" behind "\t" record_of(code[i]))
   }
 }
 

@@ -8,7 +8,7 @@
 #
 # What the case can't have been refused for ends with status 1 and a line that says so. bench.awk is read before this.
 
-# ---- busy: a slot's line behind event n. `inside` counts the slots that are in an exchange, which began in line `open`.
+# ---- busy: a slot's line behind event n. `inside` are the slots in an exchange, which began in line `open`.
 function stands(line,   slot, phase) {
   slot = line + 0; phase = number_of(line, "phase") != 0
   if (phase && !inside) open = line_of[n]
@@ -26,9 +26,10 @@ function busy(   slot) {
     ", and the slots here take up to " longest " (tick " longest " lets it end)"
 }
 
-function bad_setup(   i) {
-  for (i = 0; i < SLOTS; i++) if (bad_pair(i, pair[2 * i + 1], pair[2 * i + 2]) != "") return bad_pair(i, pair[2 * i + 1], pair[2 * i + 2])
-  fail("the setup is good")
+function bad_setup(   i, why) {
+  for (i = 0; i < SLOTS && why == ""; i++) why = bad_pair(i, pair[2 * i + 1], pair[2 * i + 2])
+  if (why == "") fail("the setup is good")
+  return why
 }
 function cut_at() {
   if (length(bytes) < 8 * SLOTS) return "after " length(bytes) / 4 " of " 2 * SLOTS " bytes of the setup"
@@ -48,5 +49,6 @@ END {
   if (mode == "busy") print busy()
   if (mode == "setup") print bad_setup()
   if (mode == "short") print cut_at()
-  if (mode == "pairs") for (i = 1; i < 2 * SLOTS; i += 2) printf "%d %d%s", pair[i], pair[i] ? pair[i + 1] : 0, i + 1 < 2 * SLOTS ? " " : "\n"
+  for (i = 1; i < 2 * SLOTS && mode == "pairs"; i += 2)
+    printf "%d %d%s", pair[i], pair[i] ? pair[i + 1] : 0, i + 1 < 2 * SLOTS ? " " : "\n"
 }

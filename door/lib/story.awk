@@ -39,7 +39,8 @@ function setup_rows(pairs,   w, i) {
   split(pairs, w, " ")
   for (i = 0; i < SLOTS; i++) if (w[2 * i + 1]) print "P\t" i "\t" w[2 * i + 1] "\t" w[2 * i + 2]
   states(0)
-  for (i = 0; i < SLOTS; i++) if (w[2 * i + 1] && !(i in stood)) fail("the program watch does not tell where slot " i " stands")
+  for (i = 0; i < SLOTS; i++)
+    if (w[2 * i + 1] && !(i in stood)) fail("the program watch does not tell where slot " i " stands")
 }
 function event_row(   answer, to) {
   n++

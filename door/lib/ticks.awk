@@ -13,26 +13,19 @@
 #   U  slot, record and time of a command that it is taken not to have heard, the command, time of the stop that began
 #      its write cycle, a word for it
 #   O  what was left out, as exports.awk has it
+#   M  slot, event, and what alone.awk is to leave out of the slot's next run: the level, and whether it then stood
+#      otherwise than deaf; or `cut`, at a stop, for a cycle that power cuts
 #   N  exchanges, events on the wires, events beside them, ticks, time of the first event, time of the last
 #
 # and, behind these, F: slot, stop and end of one cycle, then slot, stop and last time at which it ran of another with
 # which no ticks fit, and the time of the stop with which the rows E then end.
 #
-#   M  slot, event, and what alone.awk is to leave out: the level, and whether it then stood otherwise than deaf; or
-#      `cut`, at a stop, for a cycle that power cuts
-#
-# Where the rows M are not those with which the slots' runs were made, the runs are to be made anew, and these rows too.
-#
-# The rule. A stop may begin a cycle of a slot if it does in the slot's own run, and every byte before it was
-# acknowledged. The cycle is over (seen) before the start of the first exchange whose control byte the slot
-# acknowledged, or (clock) once as many milliseconds have passed as it has ticks; until then it runs, if no power is
-# lost. A tick counts for every slot: where a cycle is over, so is one that began no later and has no more ticks (with).
-# Whether a slot in a cycle heard a control byte that another could acknowledge, the wires do not show: it is taken not
-# to have, and its cycle to run there, but for those in `heard`, words of rows U (heard). Ticks stand before gates only,
-# which are the starts and the events beside the wires. With P(g) ticks up to gate g, a cycle of n ticks from gate b on
-# that ends before gate e asks for P(e) >= P(b) + n and P(e - 1) <= P(b) + n - 1. The least P that do are taken. Where
-# none do, a cycle need only run as long as it was seen to; where still none do, it is not judged. What the model then
-# says of it all is not known here.
+# The rule (docs/DECISIONS.md, 107 to 109 and 131). A cycle is over (seen) before the start of the first exchange whose
+# control byte the slot acknowledged, or (clock) once as many milliseconds have passed as it has ticks, or (with) where
+# one is that began no earlier and has no fewer ticks, unless power cuts it. A slot in a cycle is taken not to hear what
+# another acknowledges, but for the words of rows U in `heard` (heard). Ticks stand before gates only, which are the
+# starts and the events beside the wires. With P(g) ticks up to gate g, a cycle of n ticks from gate b on that ends
+# before gate e asks for P(e) >= P(b) + n and P(e - 1) <= P(b) + n - 1. The least P that do are taken.
 
 # ---- the events
 function take(when, from, line, source, kind, slot, val, answer) {
@@ -58,7 +51,7 @@ function on_start(when,   s) {
   if (!inside) exchange++
   inside = 1
   control = -1; spoiled = 0
-  for (s = 0; s < SLOTS; s++) { delete deaf[s]; delete took[s] }
+  for (s = 0; s < SLOTS; s++) delete deaf[s]
   new_gate(when)
   start_gate = gates
 }
@@ -72,7 +65,6 @@ function on_beside(when, kind,   s) {
 # the last one since their cycles ran.
 function on_byte(val, ack) {
   if (control == -1) { control = val; asked(val, ack) }
-  else if (ack) taken()
   if (!ack) spoiled = 1
 }
 # A control byte shows that a slot that would acknowledge it is ready; or, if that takes no high voltage, that each that
@@ -99,8 +91,8 @@ function is_cut(s, c,   m, w, i) {
   m = split(unheard[c], w, " ")
   for (i = 1; i <= m; i++) leave_out(s, w[i], 2)
 }
-# Which slot it was that acknowledged a control byte: the only one that could; or, if all that would are in their cycles,
-# the one whose cycle has had the most of its time.
+# Which slot it was that acknowledged a control byte: the only one that could; or, if all that would are in a cycle, the
+# one whose cycle has had the most of its time.
 function readiest(val,   s, many, part, most, best) {
   for (s = 0; s < SLOTS; s++) if ((val, s, 1) in could) { best = s; many++ }
   if (many == 1) return best
@@ -116,12 +108,6 @@ function readiest(val,   s, many, part, most, best) {
 function doubted(c, val) {
   doubt[++doubts] = c; doubt_row[doubts] = n; doubt_at[doubts] = gate_at[start_gate]; doubt_byte[doubts] = val
   busy_gate[c] = start_gate
-}
-# A byte behind it was acknowledged. Where in the model nobody does that, the chip is another than the model, and its stop
-# counts as one that may begin a cycle.
-function taken(   s) {
-  for (s = 0; s < SLOTS; s++) if (((n, s) in takes) && !(s in deaf)) return
-  for (s = 0; s < SLOTS; s++) if (((n, s) in refuses) && !(s in deaf)) took[s] = 1
 }
 # A slot acknowledged a control byte: if its cycle ran still before that exchange's start, it ended there.
 function answers(s, val,   c) {
@@ -142,7 +128,7 @@ function declines(s,   c) {
 function by_clock(c, g) { return gate_at[g] - stop_at[c] >= 1e6 * ticks_of[slot_of[c]] }
 function on_stop(when,   s) {
   for (s = 0; s < SLOTS; s++)
-    if (control >= 0 && !spoiled && !(s in deaf) && (((n, s) in may_begin) || (s in took))) begins(s, when)
+    if (control >= 0 && !spoiled && !(s in deaf) && ((n, s) in may_begin)) begins(s, when)
   control = -2; inside = 0
 }
 
@@ -294,8 +280,6 @@ BEGIN {
 }
 $1 == "Q" { heeds[$2, $3] = $4; out[$2, $3] = $5 }
 $1 == "C" { could[$2, $3, $4] = 1 }
-$1 == "A" { takes[$2, $3] = 1 }
-$1 == "N" { refuses[$2, $3] = 1 }
 $1 == "B" { may_begin[$2, $3] = 1 }
 $1 == "W" { n++; take($2 + 0, $3, $4, $5, $6, $7, $8, $9) }
 $1 == "O" { omitted[++omissions] = $0 }

@@ -1,7 +1,7 @@
 # The words of the case files (examples/cases/README.md): setup lines, events and answers, read into the script's bytes,
-# and told from them. bench.awk is read before this. Shared by the commands of ./plungerhen that read a case (reading.awk), a capture or an export, and
+# and told from them. Shared by the commands of ./plungerhen that read a case (reading.awk), a capture or an export, and
 # by the examples of tests/plan, tests/save and tests/list, which put their own part behind this one; it does nothing by
-# itself.
+# itself. bench.awk is read before this.
 #
 #   parted()          the line in $0: `left` -> `right`, `arrow` where there is one, `note` the comment; 0 if it has
 #                     nothing else
@@ -96,9 +96,10 @@ function reads_back(control, count) { add(1, 0, 0, "-"); add(2, 0, control, "A")
 
 function event(part,   w, n, i, k, s, v, bytes, digits, words) {
   n = split(part, w, " ")
-  if (w[1] == "start") { wants(n, 1, 1, "start"); add(1, 0, 0, "") }
-  else if (w[1] == "stop") { wants(n, 1, 1, "stop"); add(4, 0, 0, "") }
-  else if (w[1] == "timeout") { wants(n, 1, 1, "timeout"); add(5, 0, 0, "") }
+  if (w[1] ~ /^(start|stop|timeout)$/) {
+    wants(n, 1, 1, w[1])
+    add(w[1] == "start" ? 1 : w[1] == "stop" ? 4 : 5, 0, 0, "")
+  }
   else if (w[1] == "power") {
     wants(n, 1, 2, "power, or power NUMBER")
     v = n == 2 ? decimal(w[2], -32768, 32767, "value that a record can hold") : 0
@@ -242,6 +243,11 @@ function match_list(   i, open, next_want) {
 }
 
 # ---- records and answers in words
+# kind, slot and value of a record in hex digits
+function record_of(digits,   val) {
+  val = from_hex(substr(digits, 5))
+  return from_hex(substr(digits, 1, 2)) "\t" from_hex(substr(digits, 3, 2)) "\t" (val < 32768 ? val : val - 65536)
+}
 function record_words(kind, slot, val,   plain) {
   if (val >= 32768) val -= 65536
   split("start - - stop timeout tick", plain, " ")
