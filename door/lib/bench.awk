@@ -34,11 +34,11 @@ function called(byte) {
 # ---- words and escapes
 function fail(sentence) { print sentence; exit 1 }
 function plural(n, word) { return n " " word (n == 1 ? "" : "s") }
-function listed(list, n,   i, text) {
+function joined(list, n,   i, text) {
   for (i = 1; i <= n; i++) text = text (i == 1 ? "" : i < n ? ", " : " and ") list[i]
   return text
 }
-function blocks_named(list, n) { return (n == 1 ? "block " : "blocks ") listed(list, n) }
+function blocks_named(list, n) { return (n == 1 ? "block " : "blocks ") joined(list, n) }
 function protected_words(list, n) { return n ? blocks_named(list, n) " protected" : "no block protected" }
 # Octal escapes of printf: of a byte, of a record
 function octal(byte) {

@@ -140,7 +140,7 @@ function tell_refused(   i, page, list, n, told) {
     if (!n) continue
     told = 1
     print "refused (7): block " block[i] " is protected, and " \
-      (n == 1 ? "page " list[1] " in it differs" : "pages " listed(list, n) " in it differ")
+      (n == 1 ? "page " list[1] " in it differs" : "pages " joined(list, n) " in it differ")
   }
   if (!told) fail("R7")
 }

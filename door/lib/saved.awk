@@ -105,7 +105,7 @@ function read_form() {
 # ---- in words
 function sum(   i, n, list) {
   for (i = 0; i < SLOTS; i++) if (kind[i]) list[++n] = i " (" kind_words(kind[i]) ")"
-  return plural(size, "byte") ", " (n ? (n == 1 ? "slot " : "slots ") listed(list, n) : "every slot absent")
+  return plural(size, "byte") ", " (n ? (n == 1 ? "slot " : "slots ") joined(list, n) : "every slot absent")
 }
 
 function protection_words(v,   i, n, list) {
