@@ -1,7 +1,7 @@
 /*
  * Chance that is the same for the same seed (splitmix for the seed, then
  * xorshift).  Included by generate.c and by the judges: replan.c, recapture.c,
- * resave.c and relist.c.
+ * resave.c, relist.c and rewatch.c.
  */
 static unsigned long long state;
 

@@ -1,6 +1,6 @@
 # shellcheck shell=bash
 # Shared by the tests that hold the programs against the second opinion, random and planted of tests/bus, tests/plan,
-# tests/capture, tests/save and tests/list, and by tests/bus/fuzz; sourced, not run.
+# tests/capture, tests/save, tests/list and tests/watch, and by tests/bus/fuzz; sourced, not run.
 #
 # Finds the repository, `root`, and the folder of the test, `here`; builds the C programs (build.sh) into a folder that
 # goes away at the end, `work`; and runs the two programs. FIRST, if set, is the command line of the program under test,

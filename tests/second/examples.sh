@@ -1,5 +1,5 @@
 # shellcheck shell=bash
-# What tests/plan/examples, tests/save/examples and tests/list/examples have in common; sourced, not run.
+# What the tests `examples` of tests/plan, tests/save, tests/list and tests/watch have in common; sourced, not run.
 #
 # Who sources it sets `reading`, an awk program that, behind words.awk, makes rows of an example, fields parted by tabs;
 # or, alone, a row B: line number, what is wrong there. It then calls each_example.

@@ -1,7 +1,7 @@
 /*
  * What a program owes to its input, and what it said held against that.  For
- * the judges: recapture.c, resave.c and relist.c, which define JUDGE, their
- * name, and include this after the model and chance.h.
+ * the judges: recapture.c, resave.c, relist.c and rewatch.c, which define
+ * JUDGE, their name, and include this after the model and chance.h.
  */
 #include "program.h"
 

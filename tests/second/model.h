@@ -1,7 +1,7 @@
 /*
  * The second opinion's model for other programs: second.c without its main,
  * and one record at a time.  Included by request.h, capture.h, forms.h,
- * giver.c and relist.c.
+ * giver.c, relist.c and tests/watch/numbers.h.
  */
 #define main script_main
 #include "second.c"

@@ -7,24 +7,13 @@ ghost use lib.ListN.{length};
 use libc::STDERR_FILENO;
 use libc::STDIN_FILENO;
 use libc::STDOUT_FILENO;
+use list_lend::text::Told;
 use rules::Bus;
 
-// Records of the longest list.
-const MOST: usize = 4096;
+// Bytes of the longest list's records; and what stands for no list to be given.
+const MOST: usize = 16384;
 
-// Room for a list's records.
-fn room() -> [u8; 16384]
-    ensures { λ r. ⌜ 16384 ≡ length r ⌝ }
-{
-    [0; 16384]
-}
-
-// And for what is written of it, which `list_lend` asks for as many bytes as any list needs.
-fn page() -> [u8; 262140]
-    ensures { λ r. ⌜ 262140 ≡ length r ⌝ }
-{
-    [0; 262140]
-}
+const NONE: usize = 16385;
 
 // What goes from one list to the next: the bus, and whether to go on.
 struct Going {
@@ -32,65 +21,96 @@ struct Going {
     on: bool,
 }
 
-// The records of a list, given, and its lines written.
-fn give_list(bus: Bus, mem: &mut [u8], records: &[u8], count: usize, out: &mut [u8]) -> Bus
-    requires { ⌜ (count ≤ 4096) × (length (now records) ≤ 16384) × (length (now out) ≡ 262140) ⌝ }
+// The front of some bytes, cut to what there is.
+fn front<'a>(all: &'a [u8], n: usize) -> &'a [u8]
+    ensures { λ r. ⌜ length (now r) ≤ n ⌝ }
 {
-    let told = list_lend::lend::give_records(bus, mem, records, count, out);
-    script_streams::opening::write(STDOUT_FILENO, out, told.end);
+    if n < all.len() {
+        return &all[..n];
+    }
+    all
+}
+
+// The front of what `list_lend` has put.
+fn write(out: &[u8; 262140], end: usize) {
+    io::write_all(STDOUT_FILENO, front(out, end));
+}
+
+// What is said of a list that is cut, and of one that is too long; no list is then given.
+fn cut() {
+    io::write_all(STDOUT_FILENO, b"short\n");
+}
+
+fn too_long() {
+    let mut out = [0u8; 41];
+    list_lend::text::put_too_many(&mut out);
+    io::write_all(STDERR_FILENO, &out);
+}
+
+// How many bytes the next list's records are. At the input's end there is no list.
+fn size() -> usize {
+    let mut number = [0u8; 2];
+    let n = io::read_full(STDIN_FILENO, &mut number);
+    if n == 0 {
+        return NONE;
+    }
+    if n == 1 {
+        cut();
+        return NONE;
+    }
+    let count = list_lend::text::number_in(&number);
+    if MOST / 4 < count {
+        too_long();
+        return NONE;
+    }
+    4 * count
+}
+
+// Records given as one list, with as many places; its lines are put at the front of the output.
+fn put_list(bus: Bus, mem: &mut [u8], records: &[u8], out: &mut [u8; 262140]) -> Told
+    requires { ⌜ length (now records) ≤ 16384 ⌝ }
+{
+    list_lend::lend::give_records(bus, mem, records, records.len() / 4, out)
+}
+
+// And written.
+fn give_list(bus: Bus, mem: &mut [u8], records: &[u8]) -> Bus
+    requires { ⌜ length (now records) ≤ 16384 ⌝ }
+{
+    let mut out = [0u8; 262140];
+    let told = put_list(bus, mem, records, &mut out);
+    write(&out, told.end);
     told.bus
 }
 
-// A list's records are read and given, if they are whole.
-fn read_list(bus: Bus, mem: &mut [u8], count: usize, out: &mut [u8]) -> Going
-    requires { ⌜ (count ≤ 4096) × (length (now out) ≡ 262140) ⌝ }
+// A list's records are read into the room for them, and given, if they are whole.
+fn read_list(bus: Bus, mem: &mut [u8], room: &mut [u8], size: usize) -> Going
+    requires { ⌜ (size ≤ 16384) × (length (now room) ≡ 16384) ⌝ }
 {
-    let mut records = room();
-    let size = 4 * count;
-    let came = io::read_full(STDIN_FILENO, &mut records[..size]);
+    let came = io::read_full(STDIN_FILENO, &mut room[..size]);
     if came < size {
-        let end = script_text::letters::put_short(out);
-        script_streams::opening::write(STDOUT_FILENO, out, end);
+        cut();
         return Going { bus, on: false };
     }
-    let next = give_list(bus, mem, &records[..size], count, out);
+    let next = give_list(bus, mem, &room[..size]);
     Going {
         bus: next,
         on: true,
     }
 }
 
-// One list: its number of records, and then they. At the input's end there is none.
-fn read_on(bus: Bus, mem: &mut [u8], out: &mut [u8]) -> Going
-    requires { ⌜ length (now out) ≡ 262140 ⌝ }
-{
-    let mut number = [0u8; 2];
-    let n = io::read_full(STDIN_FILENO, &mut number);
-    if n == 0 {
-        return Going { bus, on: false };
-    }
-    if n < 2 {
-        let end = script_text::letters::put_short(out);
-        script_streams::opening::write(STDOUT_FILENO, out, end);
-        return Going { bus, on: false };
-    }
-    let count = list_lend::text::number_in(&number);
-    if MOST < count {
-        let end = list_lend::text::put_too_many(out);
-        script_streams::opening::write(STDERR_FILENO, out, end);
-        return Going { bus, on: false };
-    }
-    read_list(bus, mem, count, out)
-}
-
 // List after list, until the input ends or one is not given. A proved loop has to end, so it counts down from a number that no input uses up.
-fn read_all(bus: Bus, mem: &mut [u8], out: &mut [u8])
-    requires { ⌜ length (now out) ≡ 262140 ⌝ }
+fn read_all(bus: Bus, mem: &mut [u8], room: &mut [u8])
+    requires { ⌜ length (now room) ≡ 16384 ⌝ }
 {
     let mut g = Going { bus, on: true };
     let mut turns = u64::MAX;
     while 0 < turns {
-        g = read_on(g.bus, mem, out);
+        let size = size();
+        if MOST < size {
+            return;
+        }
+        g = read_list(g.bus, mem, room, size);
         if !g.on {
             return;
         }
@@ -100,10 +120,11 @@ fn read_all(bus: Bus, mem: &mut [u8], out: &mut [u8])
 
 fn main() {
     let mut mem = [0u8; 4096];
-    let mut out = page();
+    let mut room = [0u8; MOST];
+    let mut out = [0u8; 6];
     let begun = script_streams::opening::begin(STDOUT_FILENO, &mut mem, &mut out);
     if begun.on {
         let bus = begun.bus;
-        read_all(bus, &mut mem, &mut out);
+        read_all(bus, &mut mem, &mut room);
     }
 }

@@ -2,8 +2,13 @@
 // came of it. `stdin` says what a line may hold, and `stdout` has what document 01 asks for.
 ghost use Prim.Native.Nat.{_≤_};
 ghost use lib.ListN.{length};
-use capture_rules::Verdict;
-use edges_text::commands::Bench;
+
+mod names; // the words of the tries
+mod parts; // parts of memory and shelf
+mod report; // what is told of the tries
+mod state; // what they hand in: a memory, and numbers of a slot
+mod words; // the tries as commands, read word by word
+
 use libc::STDOUT_FILENO;
 use list_lend::text::Told;
 use plan_rules::Planned;
@@ -11,104 +16,191 @@ use rules::Answer;
 use rules::BlockNo;
 use rules::Bus;
 use rules::Event;
-use rules::Outcome;
 use rules::Pair;
-use rules::Slot;
 use rules::SlotNo;
 use save_rules::Saved;
 
-fn least(a: usize, b: usize) -> usize
-    ensures { λ r. ⌜ r ≤ b ⌝ }
-{
-    if a < b { a } else { b }
+// What a command goes on from, beside memory and shelf: the pairs of the last setup, the bus, and how long the memory is.
+struct Bench {
+    pairs: [Pair; 8],
+    bus: Bus,
+    length: usize,
 }
 
-// An event on the bus with the first `length` bytes.
-fn event(slots: [Slot; 8], mem: &mut [u8], length: usize, e: Event) -> Outcome {
-    let n = least(length, mem.len());
-    bus_event::event(Bus { slots }, &mut mem[..n], e)
-}
-
-// An event, and what came of it.
-fn act(b: Bench, mem: &mut [u8; 8192], t: [u32; 38]) -> Bench {
-    let was = b.slots;
-    let old = *mem;
-    let out = event(was, mem, b.length, edges_text::commands::event(t));
-    edges_text::report::came(out, was, &old, mem);
-    let bus = out.bus;
-    let slots = bus.slots;
-    let mut next = b;
-    next.slots = slots;
-    next
-}
-
-fn block(slots: [Slot; 8], mem: &[u8], length: usize, n: u32, k: u32) {
-    let end = least(length, mem.len());
-    let s = SlotNo((n % 256) as u8);
-    let b = BlockNo((k % 256) as u8);
-    edges_text::report::part(bus_block::block(&mem[..end], Bus { slots }, s, b));
-}
-
-// The verdict on a capture: its line as the capture program writes it, but for the line's end, which is the try's own.
-fn verdict(v: Verdict) {
-    let mut out = [0u8; 32];
-    let end = capture_pieces::text::put_verdict(&mut out, v);
-    edges_text::report::sign(b':');
-    edges_text::report::sign(b' ');
-    if 0 < end {
-        io::write_all(STDOUT_FILENO, &out[..end - 1]);
+// What a try begins with: the bus of the last setup, and a memory of 4096 bytes.
+fn anew(pairs: [Pair; 8], mem: &mut [u8; 8192]) -> Bench {
+    state::fill(mem);
+    let made = bus_setup::setup(pairs);
+    let bus = made.bus;
+    Bench {
+        pairs,
+        bus,
+        length: 4096,
     }
 }
 
-// The capture of some pairs, the first `length` bytes, and a command's bytes as records.
-fn check(pairs: [Pair; 8], mem: &[u8], length: usize, t: [u32; 38]) {
-    let end = least(length, mem.len());
-    let records = edges_text::commands::bytes(t);
-    let n = edges_text::words::bytes(t);
-    verdict(capture_entry::check(pairs, &mem[..end], &records[..n]));
+// The event of some numbers, of which one that is missing counts as 0.
+fn event_of(kind: u32, slot: u32, value: u32) -> Event {
+    let record = [
+        (kind % 256) as u8,
+        (slot % 256) as u8,
+        (value / 256 % 256) as u8,
+        (value % 256) as u8,
+    ];
+    script_text::records::record_at(&record, 0)
 }
 
-// A bench with the first `length` bytes, saved into the first `room` bytes of the shelf.
-fn saved(slots: [Slot; 8], mem: &[u8], length: usize, shelf: &mut [u8], room: usize) -> Saved {
-    let end = least(length, mem.len());
-    let n = least(room, shelf.len());
-    save_entry::save(Bus { slots }, &mem[..end], &mut shelf[..n])
-}
-
-// The form's length or the refusal.
-fn tell(s: Saved) {
-    match s {
-        Saved::Form(n) => edges_text::report::kept(n),
-        Saved::Refused(r) => edges_text::report::answer(Answer::Refused(r)),
+// The event that a command asks for, by its numbers or by its name.
+fn event(verb: u32, x: u32, y: u32, z: u32) -> Event {
+    match verb {
+        names::EVENT => event_of(x, y, z),
+        names::BYTE | names::READ | names::POWER => event_of(verb % names::EVENT, 0, x),
+        _ => event_of(verb % names::EVENT, x, y),
     }
 }
 
-// A saving, and what came of it.
-fn save(b: Bench, mem: &[u8; 8192], shelf: &mut [u8; 8192], room: u32) {
-    let slots = b.slots;
-    let old = *shelf;
-    tell(saved(slots, mem, b.length, shelf, room as usize));
-    edges_text::report::changed(!check::same(&old, shelf));
+// An event on the bus with the first `length` bytes, and its answer.
+fn act(bus: Bus, mem: &mut [u8], length: usize, e: Event) -> Bus {
+    let out = bus_event::event(bus, parts::front(mem, length), e);
+    let answer = out.answer;
+    report::answer(answer);
+    out.bus
 }
 
 // The first `size` bytes of the shelf as a form, read into the bus with the first `length` bytes.
-fn restored(slots: [Slot; 8], mem: &mut [u8], length: usize, shelf: &[u8], size: usize) -> Outcome {
-    let end = least(length, mem.len());
-    let n = least(size, shelf.len());
-    save_restore::restore(Bus { slots }, &mut mem[..end], &shelf[..n])
+fn restore(bus: Bus, mem: &mut [u8], length: usize, shelf: &[u8], size: u32) -> Bus {
+    let form = parts::first(shelf, size as usize);
+    let out = save_restore::restore(bus, parts::front(mem, length), form);
+    let answer = out.answer;
+    report::answer(answer);
+    out.bus
 }
 
-// A restore, and what came of it.
-fn restore(b: Bench, mem: &mut [u8; 8192], shelf: &[u8; 8192], size: u32) -> Bench {
-    let was = b.slots;
+// A command's bytes given as one list: the number of answer places, and the records behind it.
+fn given(bus: Bus, mem: &mut [u8], bytes: &[u8], text: &mut [u8; 262140]) -> Told
+    requires { ⌜ length (now bytes) ≤ 37 ⌝ }
+{
+    let places = parts::byte(bytes, 0) as usize;
+    list_lend::lend::give_records(bus, mem, parts::behind(bytes, 1), places, text)
+}
+
+// A list on the bus with the first `length` bytes, and what then stands at its places.
+fn give(bus: Bus, mem: &mut [u8], length: usize, t: [u32; 38]) -> Bus {
+    let mut text = [0u8; 262140];
+    let bytes = words::bytes_of(t);
+    let told = given(
+        bus,
+        parts::front(mem, length),
+        parts::first(&bytes, words::byte_count(t)),
+        &mut text,
+    );
+    report::lines(&text, told.end);
+    told.bus
+}
+
+// What moves bus and memory: an event, a list or a form; and what it has changed.
+fn move_on(b: Bench, mem: &mut [u8; 8192], shelf: &[u8; 8192], t: [u32; 38]) -> Bench {
     let old = *mem;
-    let out = restored(was, mem, b.length, shelf, size as usize);
-    edges_text::report::came(out, was, &old, mem);
-    let bus = out.bus;
-    let slots = bus.slots;
-    let mut next = b;
-    next.slots = slots;
-    next
+    let was = b.bus;
+    let bus = match t[0] {
+        names::LIST => give(was, mem, b.length, t),
+        names::RESTORE => restore(was, mem, b.length, shelf, t[1]),
+        _ => act(was, mem, b.length, event(t[0], t[1], t[2], t[3])),
+    };
+    report::changes(was, bus, &old, mem);
+    Bench { bus, ..b }
+}
+
+// A command's bytes as the records of a capture, with the pairs of the last setup and the first `length` bytes: the verdict's line as the capture
+// program writes it, but for the line's end, which is the try's own.
+fn check(pairs: [Pair; 8], mem: &[u8], length: usize, t: [u32; 38]) {
+    let mut out = [0u8; 32];
+    let bytes = words::bytes_of(t);
+    let records = parts::first(&bytes, words::byte_count(t));
+    let verdict = capture_entry::check(pairs, parts::first(mem, length), records);
+    let end = capture_pieces::text::put_verdict(&mut out, verdict);
+    report::sign(b':');
+    report::sign(b' ');
+    if 0 < end {
+        io::write_all(STDOUT_FILENO, parts::first(&out, end - 1));
+    }
+}
+
+fn block(bus: Bus, mem: &[u8], length: usize, n: u32, k: u32) {
+    let s = SlotNo((n % 256) as u8);
+    let b = BlockNo((k % 256) as u8);
+    report::part(bus_block::block(parts::first(mem, length), bus, s, b));
+}
+
+// What looks, and leaves all as it is.
+fn look(b: Bench, mem: &[u8; 8192], shelf: &[u8; 8192], t: [u32; 38]) {
+    let pairs = b.pairs;
+    let bus = b.bus;
+    let x = t[1];
+    let y = t[2];
+    match t[0] {
+        names::SHOW => report::slot(bus, x),
+        names::AT => report::at(mem, x, y),
+        names::FORM => report::at(shelf, x, y),
+        names::RECORD => report::record(shelf, x),
+        names::BLOCK => block(bus, mem, b.length, x, y),
+        names::CHECK => check(pairs, mem, b.length, t),
+        _ => {}
+    }
+}
+
+// A bench with the first `length` bytes, saved into the first `room` bytes of the shelf: the form's length or the refusal.
+fn save(bus: Bus, mem: &[u8], length: usize, shelf: &mut [u8], room: u32) {
+    let kept = parts::front(shelf, room as usize);
+    match save_entry::save(bus, parts::first(mem, length), kept) {
+        Saved::Form(n) => report::counted(n, names::BYTES),
+        Saved::Refused(r) => report::answer(Answer::Refused(r)),
+    }
+}
+
+// The number of records or the refusal; where the rest of the buffer begins.
+fn told(p: Planned) -> usize {
+    match p {
+        Planned::Records(n) => {
+            report::counted(n, names::RECORDS);
+            4 * parts::least(n, 2048)
+        }
+        Planned::Refused(r) => {
+            report::answer(Answer::Refused(r));
+            0
+        }
+    }
+}
+
+// A plan for a slot of the bench with the first `length` bytes, laid into the first `room` bytes of the shelf. Its image, of `size` bytes, stood on
+// the shelf where the slot's own bytes stand in the memory.
+fn plan(
+    bus: Bus,
+    mem: &[u8],
+    length: usize,
+    old: &[u8; 8192],
+    shelf: &mut [u8],
+    slot: u32,
+    size: u32,
+    room: u32,
+) -> usize {
+    let image = parts::first(parts::behind(old, 512 * (slot % 8) as usize), size as usize);
+    let s = SlotNo((slot % 256) as u8);
+    let laid = parts::front(shelf, room as usize);
+    told(plan_entry::plan(bus, parts::first(mem, length), s, image, laid))
+}
+
+// A saving or a plan, and whether it has changed the shelf.
+fn shelve(b: Bench, mem: &[u8; 8192], shelf: &mut [u8; 8192], t: [u32; 38]) {
+    let old = *shelf;
+    let bus = b.bus;
+    let mut from = 0;
+    if t[0] == names::SAVE {
+        save(bus, mem, b.length, shelf, t[1]);
+    } else {
+        from = plan(bus, mem, b.length, &old, shelf, t[1], t[2], t[3]);
+    }
+    report::rest(&old, shelf, from);
 }
 
 // One byte on the shelf is made another.
@@ -116,177 +208,79 @@ fn put(shelf: &mut [u8; 8192], v: u32, n: u32, i: u32) {
     shelf[(512 * (n % 16) + i % 512) as usize] = (v % 256) as u8;
 }
 
-// A plan for a slot of the bench with the first `length` bytes, laid into the first `room` bytes of the shelf.
-fn planned(
-    slots: [Slot; 8],
-    mem: &[u8],
-    length: usize,
-    slot: SlotNo,
-    image: &[u8],
-    shelf: &mut [u8],
-    room: usize,
-) -> Planned {
-    let end = least(length, mem.len());
-    let n = least(room, shelf.len());
-    plan_entry::plan(Bus { slots }, &mem[..end], slot, image, &mut shelf[..n])
+// Another setup, and its answer.
+fn setup(b: Bench, t: [u32; 38]) -> Bench {
+    let bytes = words::bytes_of(t);
+    let pairs = script_text::records::pairs(&bytes);
+    let made = bus_setup::setup(pairs);
+    let answer = made.answer;
+    report::answer(answer);
+    let bus = made.bus;
+    Bench { pairs, bus, ..b }
 }
 
-// The plan that a command asks for. Its image stood on the shelf where the slot's own bytes stand in the memory.
-fn asked(
-    slots: [Slot; 8],
-    mem: &[u8],
-    length: usize,
-    t: [u32; 38],
-    old: &[u8],
-    shelf: &mut [u8],
-) -> Planned {
-    let k = (t[1] % 256) as u8;
-    let from = least(512 * ((k % 8) as usize), old.len());
-    let size = least(t[2] as usize, old.len() - from);
-    planned(
-        slots,
-        mem,
-        length,
-        SlotNo(k),
-        &old[from..from + size],
-        shelf,
-        t[3] as usize,
-    )
-}
-
-// The number of records or the refusal; where the rest of the buffer begins.
-fn told(p: Planned) -> usize {
-    match p {
-        Planned::Records(n) => {
-            edges_text::report::planned(n);
-            4 * least(n, 2048)
-        }
-        Planned::Refused(r) => {
-            edges_text::report::answer(Answer::Refused(r));
-            0
-        }
+// Numbers of a slot are handed in, if all of them are there and fit.
+fn slot(b: Bench, t: [u32; 38]) -> Bench {
+    let n = (t[1] % 8) as usize;
+    let bus = b.bus;
+    let mut slots = bus.slots;
+    let h = state::hand_in(slots[n], t);
+    if !h.ok {
+        report::not_understood();
+        return b;
     }
-}
-
-// The rest of the shelf, as it was and as it is.
-fn rest(old: &[u8], shelf: &[u8], from: usize) {
-    let was = least(from, old.len());
-    let is = least(from, shelf.len());
-    edges_text::report::rest(!check::same(&old[was..], &shelf[is..]), from);
-}
-
-// A plan, and what came of it.
-fn lay(b: Bench, mem: &[u8; 8192], old: &[u8; 8192], shelf: &mut [u8; 8192], t: [u32; 38]) {
-    let slots = b.slots;
-    let from = told(asked(slots, mem, b.length, t, old, shelf));
-    rest(old, shelf, from);
-}
-
-fn plan(b: Bench, mem: &[u8; 8192], shelf: &mut [u8; 8192], t: [u32; 38]) {
-    let old = *shelf;
-    lay(b, mem, &old, shelf, t);
-}
-
-// What is done with the shelf.
-fn shelve(b: Bench, mem: &mut [u8; 8192], shelf: &mut [u8; 8192], t: [u32; 38]) -> Bench {
-    match t[0] {
-        edges_text::names::RESTORE => return restore(b, mem, shelf, t[1]),
-        edges_text::names::SAVE => save(b, mem, shelf, t[1]),
-        edges_text::names::FORM => edges_text::report::at(shelf, t[1], t[2]),
-        edges_text::names::PUT => put(shelf, t[1], t[2], t[3]),
-        edges_text::names::PLAN => plan(b, mem, shelf, t),
-        edges_text::names::RECORD => edges_text::report::record(shelf, t[1]),
-        _ => {}
-    }
-    b
-}
-
-// Records given as one list, with so many answer places, on the bus with the first `size` bytes; what then stands at the places is put at the front
-// of the text.
-fn given(
-    slots: [Slot; 8],
-    mem: &mut [u8],
-    size: usize,
-    records: &[u8],
-    places: usize,
-    text: &mut [u8; 262140],
-) -> Told
-    requires { ⌜ length (now records) ≤ 16384 ⌝ }
-{
-    let end = least(size, mem.len());
-    let all = least(places, 65535);
-    list_lend::lend::give_records(Bus { slots }, &mut mem[..end], records, all, text)
-}
-
-// The front of the text.
-fn lines(text: &[u8], end: usize) {
-    let n = least(end, text.len());
-    edges_text::report::lines(&text[..n]);
-}
-
-// A list, with a text for what stands at its places, and what came of it.
-fn give(b: Bench, mem: &mut [u8; 8192], text: &mut [u8; 262140], t: [u32; 38]) -> Bench {
-    let was = b.slots;
-    let old = *mem;
-    let all = edges_text::commands::bytes(t);
-    let places = all[0] as usize;
-    let n = edges_text::words::bytes(t);
-    let from = least(1, n);
-    let done = given(was, mem, b.length, &all[from..n], places, text);
-    lines(text, done.end);
-    let bus = done.bus;
-    let slots = bus.slots;
-    edges_text::report::changes(was, slots, !check::same(&old, mem));
-    let mut next = b;
-    next.slots = slots;
-    next
-}
-
-fn list(b: Bench, mem: &mut [u8; 8192], t: [u32; 38]) -> Bench {
-    let mut text = [0u8; 262140];
-    give(b, mem, &mut text, t)
-}
-
-// What looks, and leaves all as it is.
-fn look(b: Bench, mem: &[u8; 8192], t: [u32; 38]) {
-    let pairs = b.pairs;
-    let slots = b.slots;
-    match t[0] {
-        edges_text::names::SHOW => edges_text::report::slot(slots[(t[1] % 8) as usize]),
-        edges_text::names::AT => edges_text::report::at(mem, t[1], t[2]),
-        edges_text::names::BLOCK => block(slots, mem, b.length, t[1], t[2]),
-        edges_text::names::CHECK => check(pairs, mem, b.length, t),
-        _ => {}
+    let s = h.slot;
+    slots[n] = s;
+    Bench {
+        bus: Bus { slots },
+        ..b
     }
 }
 
 // A command, if it is understood.
 fn run(b: Bench, mem: &mut [u8; 8192], shelf: &mut [u8; 8192], t: [u32; 38]) -> Bench {
-    if (edges_text::names::EVENT <= t[0]) & (t[0] <= edges_text::names::TEMPERATURE) {
-        return act(b, mem, t);
+    match t[0] {
+        names::SETUP => setup(b, t),
+        names::MEMORY => Bench {
+            length: t[1] as usize,
+            ..b
+        },
+        names::SLOT => slot(b, t),
+        names::LIST | names::RESTORE | names::EVENT..=names::TEMPERATURE => move_on(
+            b,
+            mem,
+            shelf,
+            t,
+        ),
+        names::SAVE | names::PLAN => {
+            shelve(b, mem, shelf, t);
+            b
+        }
+        names::PUT => {
+            put(shelf, t[1], t[2], t[3]);
+            b
+        }
+        _ => {
+            look(b, mem, shelf, t);
+            b
+        }
     }
-    if t[0] == edges_text::names::LIST {
-        return list(b, mem, t);
-    }
-    look(b, mem, t);
-    let next = shelve(b, mem, shelf, t);
-    edges_text::commands::change(next, t)
 }
 
 // The first command of a line begins anew, unless it is `then`. A proved loop has to end, so it counts down from a number that no input uses up.
 fn main() {
     let mut mem = [0u8; 8192];
     let mut shelf = [0u8; 8192];
-    let mut b = edges_text::commands::anew([Pair { kind: 0, length: 0 }; 8], &mut mem);
+    let mut b = anew([Pair { kind: 0, length: 0 }; 8], &mut mem);
     let mut end: u8 = 0;
     let mut turns = u64::MAX;
     while 0 < turns {
-        let s = edges_text::words::listen(end);
+        let s = words::listen(end);
         let t = s.words;
-        if (end != b';') & (t[0] != edges_text::names::MISSING) {
+        if (end != b';') & (t[0] != names::MISSING) {
             let pairs = b.pairs;
-            b = edges_text::commands::anew(pairs, &mut mem);
-            edges_text::state::fill(&mut shelf);
+            b = anew(pairs, &mut mem);
+            state::fill(&mut shelf);
         }
         b = run(b, &mut mem, &mut shelf, t);
         end = s.end;

@@ -2,31 +2,30 @@
 ghost use Prim.Native.Nat.{_≤_};
 ghost use lib.ListN.{length};
 
-// The number that digits say, or that they are none: another byte, no byte, or a number above 999,999,999.
-pub enum Count {
-    Of(u64),
-    Wrong,
+// Stands for no count: another byte than a digit, no byte, or a number above 999,999,999.
+pub const WRONG: u64 = 1000000000;
+
+// A count with one more digit.
+fn longer(value: u64, d: u8) -> u64 {
+    if d < b'0' {
+        return WRONG;
+    }
+    if b'9' < d {
+        return WRONG;
+    }
+    if 99999999 < value {
+        return WRONG;
+    }
+    10 * value + (d - b'0') as u64
 }
 
-fn count_of(digits: &[u8]) -> Count {
+// The count that some digits say.
+fn count_of(digits: &[u8]) -> u64 {
     let mut value = 0u64;
     for i in 0..digits.len() {
-        let d = digits[i];
-        if d < b'0' {
-            return Count::Wrong;
-        }
-        if b'9' < d {
-            return Count::Wrong;
-        }
-        if 99999999 < value {
-            return Count::Wrong;
-        }
-        value = 10 * value + (d - b'0') as u64;
+        value = longer(value, digits[i]);
     }
-    if digits.len() == 0 {
-        return Count::Wrong;
-    }
-    Count::Of(value)
+    value
 }
 
 // Where a line's text ends: before its line's end, if it has one.
@@ -44,13 +43,13 @@ fn end_of(line: &[u8]) -> usize
 }
 
 // The count on a line: a letter and a blank stand before it.
-pub fn asked(line: &[u8]) -> Count {
+pub fn asked(line: &[u8]) -> u64 {
     let end = end_of(line);
     if end < 3 {
-        return Count::Wrong;
+        return WRONG;
     }
     if line[1] != b' ' {
-        return Count::Wrong;
+        return WRONG;
     }
     count_of(&line[2..end])
 }

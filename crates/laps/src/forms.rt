@@ -1,7 +1,6 @@
 // Laps of saving, reading and copying: savings (`s`) of a bench with eight slots of kind 2, restorings of its form (`r`), or copies of as many
 // bytes (`c`). Each lap counts one byte up, and `done` is written only where that byte has counted the laps, and out of the room that they have
 // filled.
-ghost use mathlib.Core.Path.{_≡_};
 ghost use Prim.Native.Nat.{_≤_};
 ghost use lib.ListN.{length};
 use libc::STDERR_FILENO;
@@ -36,22 +35,18 @@ fn counted(bus: Bus, counter: u8) -> Bus {
 }
 
 // So many savings. The first byte of memory and a counter go into the form, and from there, counted up, into memory and bus again.
-fn save_laps(bus: Bus, mem: &mut [u8], form: &mut [u8], count: u64) -> u8
-    requires { ⌜ (length (now mem) ≡ 4096) × (length (now form) ≡ 4276) ⌝ }
-{
+fn save_laps(bus: Bus, mem: &mut [u8; 4096], form: &mut [u8; FORM], count: u64) {
     let mut at = bus;
     for _ in 0..count {
         save_entry::save(at, mem, form);
         mem[0] = up(form[FIRST]);
         at = counted(at, up(form[COUNTER]));
     }
-    mem[0]
+    finish(mem[0], count, form);
 }
 
 // So many restorings, the other way round.
-fn restore_laps(bus: Bus, mem: &mut [u8], form: &mut [u8], count: u64) -> u8
-    requires { ⌜ (length (now mem) ≡ 4096) × (length (now form) ≡ 4276) ⌝ }
-{
+fn restore_laps(bus: Bus, mem: &mut [u8; 4096], form: &mut [u8; FORM], count: u64) {
     let mut at = bus;
     for _ in 0..count {
         let restored = save_restore::restore(at, mem, form);
@@ -59,18 +54,16 @@ fn restore_laps(bus: Bus, mem: &mut [u8], form: &mut [u8], count: u64) -> u8
         form[FIRST] = up(mem[0]);
         form[COUNTER] = up(counter_of(at));
     }
-    form[FIRST]
+    finish(form[FIRST], count, mem);
 }
 
 // So many copies of as many bytes.
-fn copy_laps(from: &mut [u8], to: &mut [u8], count: u64) -> u8
-    requires { ⌜ (length (now from) ≡ 4276) × (length (now to) ≡ 4276) ⌝ }
-{
+fn copy_laps(from: &mut [u8; FORM], to: &mut [u8; FORM], count: u64) {
     for _ in 0..count {
         bytes::copy(from, to);
         from[FIRST] = up(to[FIRST]);
     }
-    from[FIRST]
+    finish(from[FIRST], count, to);
 }
 
 // The end of some laps: where the byte has counted them, from FFh on, `done` is put into the room that they have filled, and written out of it.
@@ -93,17 +86,12 @@ pub fn run(letter: u8, count: u64) {
     let mut mem = [0xFFu8; 4096];
     let mut form = [0u8; FORM];
     save_entry::save(bus, &mem, &mut form);
-    if letter == b's' {
-        let last = save_laps(bus, &mut mem, &mut form, count);
-        finish(last, count, &mut form);
-        return;
+    match letter {
+        b's' => save_laps(bus, &mut mem, &mut form, count),
+        b'r' => restore_laps(bus, &mut mem, &mut form, count),
+        _ => {
+            let mut to = [0u8; FORM];
+            copy_laps(&mut form, &mut to, count);
+        }
     }
-    if letter == b'r' {
-        let last = restore_laps(bus, &mut mem, &mut form, count);
-        finish(last, count, &mut mem);
-        return;
-    }
-    let mut to = [0u8; FORM];
-    let last = copy_laps(&mut form, &mut to, count);
-    finish(last, count, &mut to);
 }

@@ -4,26 +4,32 @@ mod count;
 mod forms;
 mod lists;
 
-use count::Count;
 use libc::STDERR_FILENO;
 use libc::STDIN_FILENO;
 
-fn main() {
-    let mut line = [0u8; 64];
-    let n = io::read_full(STDIN_FILENO, &mut line);
-    let letter = line[0];
-    if let Count::Of(laps) = count::asked(&line[..n]) {
-        if (letter == b's') | (letter == b'r') | (letter == b'c') {
-            forms::run(letter, laps);
-            return;
-        }
-        if (letter == b'l') | (letter == b'o') {
-            lists::run(letter == b'l', laps);
-            return;
-        }
+// So many laps of what the letter asks for.
+fn run(letter: u8, laps: u64) {
+    match letter {
+        b's' | b'r' | b'c' => forms::run(letter, laps),
+        b'l' | b'o' => lists::run(letter == b'l', laps),
+        _ => usage(),
     }
+}
+
+fn usage() {
     io::write_all(
         STDERR_FILENO,
         b"laps: say s, r, c, l or o, a blank and a count, as in: s 1000\n",
     );
+}
+
+fn main() {
+    let mut line = [0u8; 64];
+    let n = io::read_full(STDIN_FILENO, &mut line);
+    let laps = count::asked(&line[..n]);
+    if laps < count::WRONG {
+        run(line[0], laps);
+    } else {
+        usage();
+    }
 }

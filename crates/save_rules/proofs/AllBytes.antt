@@ -93,19 +93,27 @@ state = 0x03 ∷ 0x00 ∷ 0x04 ∷ 0x0F ∷ 1 ∷ 0xFF ∷ 1 ∷ []
 abbrev sensor : List ℕ
 sensor = 0x04 ∷ 0x00 ∷ 0x0F ∷ 0x09 ∷ 0x02 ∷ 0x41 ∷ 0x05 ∷ 0x00 ∷ 0x01 ∷ 0x04 ∷ 0x06 ∷ 0x40 ∷ 0xC1 ∷ 0x90 ∷ 0x00 ∷ 0x03 ∷ 0x00 ∷ 0x01 ∷ []
 
--- it is accepted, and nothing that differs from it in one of these ways
+-- and that of a bench without slots, whose other fields are empty
+abbrev noPairs : List ℕ
+noPairs = 0x01 ∷ 0x00 ∷ 0x10 ∷ replicate 16 0
+
+abbrev empty : ℕ → List ℕ
+empty tag = tag ∷ 0x00 ∷ 0x00 ∷ []
+
+-- both are accepted, and nothing that differs from one of them in one of these ways
 abbrev Departs : List ℕ → Type 0
 Departs f = accepted f blank ≡ false
 
 pub record Table : Type 0 where
   pub right : accepted (pairs ++ bytes ++ state ++ sensor) blank ≡ true
+  pub no-slot : accepted (noPairs ++ empty 2 ++ empty 3 ++ empty 4) blank ≡ true
   -- tags
   pub wrong-tag : Departs (set pairs 0 0x05 ++ bytes ++ state ++ sensor)
-  pub wrong-order : Departs (pairs ++ bytes ++ sensor ++ state)
-  pub twice : Departs (pairs ++ bytes ++ state ++ state ++ sensor)
-  pub left-out : Departs (pairs ++ bytes ++ state)
+  pub wrong-order : Departs (noPairs ++ empty 2 ++ empty 4 ++ empty 3)
+  pub twice : Departs (noPairs ++ empty 2 ++ empty 3 ++ empty 3 ++ empty 4)
+  pub left-out : Departs (noPairs ++ empty 2 ++ empty 3)
   -- lengths
-  pub wrong-length : Departs (pairs ++ bytes ++ set state 2 0x05 ++ sensor)
+  pub wrong-length : Departs (noPairs ++ empty 2 ++ set (empty 3) 2 0x01 ++ empty 4)
   pub low-byte-first : Departs (pairs ++ set (set bytes 1 0x00) 2 0x02 ++ state ++ sensor)
   pub byte-behind : Departs (pairs ++ bytes ++ state ++ sensor ++ 0x00 ∷ [])
   pub byte-missing : Departs (pairs ++ bytes ++ state ++ take 17 sensor)
@@ -132,6 +140,7 @@ pub departures : Table
 unfolding open-saved
 departures = record {
   right = refl;
+  no-slot = refl;
   wrong-tag = refl;
   wrong-order = refl;
   twice = refl;

@@ -14,7 +14,7 @@ use Rattle.proof_lists.specs.Tests.{by-test, cond-cases}
 use Rattle.rules.specs.declared.Bus.{Bus}
 use Rattle.rules.specs.declared.Event.{Event}
 use Rattle.rules.specs.declared.Outcome.{Outcome}
-use Rattle.rules.specs.Refusals.{inRange, emptyBus}
+use Rattle.rules.specs.Refusals.{inRange}
 use Rattle.rules.specs.Runs.{Bench, next, answered, eventOf}
 use Rattle.rules.proofs.Range.Kept.{next-in-range}
 use Rattle.bus_event.proofs.Onward.{event-bench, event-answer}
@@ -23,22 +23,12 @@ use Rattle.script_text.specs.Letters.{lineOf}
 use Rattle.script_text.proofs.letters.Laws.{Put, put-on}
 use Rattle.script_turns.specs.Frame.{lastLine, finishOf}
 use Rattle.script_turns.proofs.frame.Laws.{last-length}
-use Rattle.watch_text.specs.Lines.{changeLines}
+use Rattle.watch_text.specs.Lines.{changeLines, benchLines}
 use Rattle.watch.specs.declared.Going.{Going}
 use Rattle.watch.specs.declared.Stepped.{Stepped}
-use Rattle.watch.specs.Watch.{firstText, recordText}
-use Rattle.watch.specs.Steps.{firstOf, cut, readText, readNext, stepOf}
+use Rattle.watch.specs.Watch.{recordText}
+use Rattle.watch.specs.Steps.{cut, readText, readNext, stepOf}
 use Rattle.watch.specs.Reading.{benchLeft, outLeft, Went, UpToLast, Exhausted, mostReads, Watched}
-
--- the slots behind the setup
-pub first-by : (b none : Bus) (out o : List ℕ) (end : ℕ) → none ≡ emptyBus → Put out 0 (changeLines (none .slots) (b .slots)) end o
-    → firstOf b out ≡ (end, o)
-unfolding firstOf firstText
-first-by b none out o end e p =
-    let t : changeLines (none .slots) (b .slots) ≡ changeLines (emptyBus .slots) (b .slots) = ap (λ (n : Bus). changeLines (n .slots) (b .slots)) e in
-    let k : length (changeLines (emptyBus .slots) (b .slots)) ≡ end = sym (p .0 ∙ zero-add _ ∙ ap length t) in
-    let q : sets out 0 (changeLines (emptyBus .slots) (b .slots)) ≡ o = sym (p .1 ∙ ap (sets out 0) t) in
-    λ i. (k i, q i)
 
 -- fewer bytes than a record has
 pub cut-by : (b : Bus) (m bs out o : List ℕ) (end : ℕ) → length bs < 4 → finishOf (length bs) out ≡ (end, o)
@@ -183,16 +173,14 @@ module _ (x : Bench) (out₀ : List ℕ) (g : Going) (m out : List ℕ) (turns :
       short false f = absurd (false≢true (sym f))
 
 -- the loop's end: no more reads, or too many of them
-pub watched-by : (b : Bus) (m out first : List ℕ) (end : ℕ) (g : Going) (stored written : List ℕ) (turns : ℕ) → firstOf b out ≡ (end, first)
+pub watched-by : (b : Bus) (m out first : List ℕ) (g : Going) (stored written : List ℕ) (turns : ℕ) → first ≡ sets out 0 (benchLines b)
     → Ongoing (record { bus = b; memory = m }) first g stored written turns → (g .on && ltb 0 turns) ≡ false → Watched b m out (g .told) stored written
-unfolding firstOf
-watched-by b m out first end g stored written turns e a t =
+watched-by b m out first g stored written turns f a t =
     let x : Bench = record { bus = b; memory = m } in
-    let f : sets out 0 (firstText b) ≡ first = ap (λ (z : ℕ × List ℕ). z .1) e in
     record {
       reads = a .reads;
       memory = ap (λ (z : Bench). z .memory) (a .bench);
-      put = a .put ∙ ap (λ (o : List ℕ). outLeft x o (a .reads)) (sym f);
+      put = a .put ∙ ap (λ (o : List ℕ). outLeft x o (a .reads)) f;
       before = by-test (g .on) (λ o. each-last (a .reads) (a .onward o)) (λ o. a .ended o .0);
       over = λ d n. by-test (g .on) (λ o. absurd (n (made (rw o at t)))) (λ o. a .ended o .1 d);
     }

@@ -23,7 +23,8 @@ use Rattle.script_turns.specs.Frame.{badSetupLine, startingMemory, cutSetup, fi
 use Rattle.script_turns.specs.Script.{recordsIn, ending, begunAt}
 use Rattle.script_turns.proofs.frame.Laws.{first-length, written}
 use Rattle.script_streams.specs.Opened.{Opened}
-use Rattle.watch.specs.Watch.{firstText, recordText, recordTexts, benchText, watchOf}
+use Rattle.watch_text.specs.Lines.{benchLines}
+use Rattle.watch.specs.Watch.{recordText, recordTexts, benchText, watchOf}
 use Rattle.watch.specs.Steps.{cut, readText, readNext}
 use Rattle.watch.specs.Reading.{textPut, inputOf, Exhausted, Watched, watchedPut}
 
@@ -76,7 +77,7 @@ module _ (head more : List ℕ) (l : length head ≡ 16) where
   of-bad g = rw (whole, pairs-of head more l, g)
 
   of-good : allOf goodPair (pairsOf head) ≡ true
-      → watchOf (head ++ more) ≡ firstText (begunAt (pairsOf head) .bus) ++ benchText (begunAt (pairsOf head)) more
+      → watchOf (head ++ more) ≡ benchLines (begunAt (pairsOf head) .bus) ++ benchText (begunAt (pairsOf head)) more
   unfolding watchOf
   of-good g = rw (whole, pairs-of head more l, g, behind)
 
@@ -119,7 +120,7 @@ module _ (out m o : List ℕ) (r : Begun) (p : Opened out r m o) (room : length 
       let f : take (r .end) o ≡ [] = puts-first ∙ rw (c, g) in
       let b : r .bus ≡ setupOf (pairsOf head) .bus = sym (ap (λ (b : Begun × List ℕ × List ℕ). b .0 .bus) (p .begun)) ∙ rw c in
       let n : m ≡ startingMemory = sym (ap (λ (b : Begun × List ℕ × List ℕ). b .1) (p .begun)) in
-      ap (_++ (firstText (r .bus) ++ textPut (record { bus = r .bus; memory = m }) (w .reads))) f
-      ∙ ap₂ (λ (a : Bus) (k : List ℕ). firstText a ++ textPut (record { bus = a; memory = k }) (w .reads)) b n
-      ∙ ap (firstText (setupOf (pairsOf head) .bus) ++_) (reads-put (begunAt (pairsOf head)) (w .reads) x)
+      ap (_++ (benchLines (r .bus) ++ textPut (record { bus = r .bus; memory = m }) (w .reads))) f
+      ∙ ap₂ (λ (a : Bus) (k : List ℕ). benchLines a ++ textPut (record { bus = a; memory = k }) (w .reads)) b n
+      ∙ ap (benchLines (setupOf (pairsOf head) .bus) ++_) (reads-put (begunAt (pairsOf head)) (w .reads) x)
       ∙ sym (of-good head (inputOf (w .reads)) l g)

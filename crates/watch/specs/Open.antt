@@ -6,5 +6,5 @@ use Rattle.watch.specs.Watch
 
 -- everything: what is written for known bytes computes
 unfoldable pub open-watch : Unit {0}
-unfolding open-script open-lines Watch.firstText Watch.recordText Watch.recordTexts Watch.benchText Watch.watchOf
+unfolding open-script open-lines Watch.recordText Watch.recordTexts Watch.benchText Watch.watchOf
 open-watch = tt

@@ -9,8 +9,8 @@ use lib.ListN.{length}
 use lib.Seq.{sets}
 use Rattle.rules.specs.declared.Bus.{Bus}
 use Rattle.rules.specs.Runs.{Bench}
+use Rattle.watch_text.specs.Lines.{benchLines}
 use Rattle.watch.specs.declared.Going.{Going}
-use Rattle.watch.specs.Watch.{firstText}
 use Rattle.watch.specs.Steps.{cut, readText, readNext}
 
 -- read after read: the bench, the output, and what is put at its front, one after another
@@ -59,10 +59,10 @@ mostReads = 18446744073709551615
 pub record Watched (b : Bus) (m out : List ℕ) (told : Bool) (stored written : List ℕ) : Type 0 where
   pub reads : List (List ℕ)
   pub memory : stored ≡ (benchLeft (record { bus = b; memory = m }) reads) .memory
-  pub put : written ≡ outLeft (record { bus = b; memory = m }) (sets out 0 (firstText b)) reads
+  pub put : written ≡ outLeft (record { bus = b; memory = m }) (sets out 0 (benchLines b)) reads
   pub before : UpToLast reads
   pub over : told ≡ true → (length reads ≡ mostReads → ⊥) → Exhausted reads
 
 -- what is put at the front of the output, one after another
 unfoldable pub watchedPut : (b : Bus) (m out : List ℕ) (told : Bool) (stored written : List ℕ) → Watched b m out told stored written → List ℕ
-watchedPut b m out told stored written w = firstText b ++ textPut (record { bus = b; memory = m }) (w .reads)
+watchedPut b m out told stored written w = benchLines b ++ textPut (record { bus = b; memory = m }) (w .reads)

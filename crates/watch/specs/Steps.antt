@@ -7,16 +7,11 @@ use mathlib.Core.List.{List}
 use lib.Dec.{ltb}
 use lib.ListN.{length}
 use lib.Seq.{sets}
-use Rattle.rules.specs.declared.Bus.{Bus}
 use Rattle.rules.specs.Runs.{Bench, next}
 use Rattle.script_text.specs.Records.{recordAt}
 use Rattle.script_turns.specs.Frame.{lastLine}
 use Rattle.watch.specs.declared.Stepped.{Stepped}
-use Rattle.watch.specs.Watch.{firstText, recordText}
-
--- the slots behind the setup: where they end, and the output
-unfoldable pub firstOf : Bus → List ℕ → ℕ × List ℕ
-firstOf b out = (length (firstText b), sets out 0 (firstText b))
+use Rattle.watch.specs.Watch.{recordText}
 
 -- what is read at a time is the bytes of one record, or fewer: then the input has ended
 abbrev pub cut : List ℕ → Bool

@@ -7,7 +7,7 @@ ghost use Prim.Native.Nat.{_≤_};
 ghost use lib.ListN.{length};
 ghost use Rattle.rules.specs.Modelled.{memoryBytes};
 ghost use Rattle.rules.specs.Refusals.{inRange};
-ghost use Rattle.watch.specs.Steps.{firstOf, stepOf};
+ghost use Rattle.watch.specs.Steps.{stepOf};
 ghost use Rattle.watch.specs.Reading.{Went, Watched};
 use libc::STDIN_FILENO;
 use libc::STDOUT_FILENO;
@@ -17,17 +17,6 @@ use rules::Bus;
 struct Stepped {
     bus: Bus,
     end: usize,
-}
-
-// All present slots, put at the front of the output: before the setup there was none. Where they end.
-fn first(bus: Bus, out: &mut [u8]) -> usize
-    requires { ⌜ 23200 ≤ length (now out) ⌝ }
-    ensures { λ r. ⌜ (firstOf bus (now (out .entry)) ≡ (r, now (out .exit))) × (r ≤ length (now (out .entry))) ⌝ }
-{
-    let none = bus_setup::empty_bus();
-    let was = none.slots;
-    let is = bus.slots;
-    watch_text::lines::put_changes(out, 0, was, is)
 }
 
 // A record is run, and its line and those of the slots that it changed are put at the front of the output; of fewer bytes, with which the input ends,
@@ -92,7 +81,7 @@ fn watch(bus: Bus, mem: &mut [u8], out: &mut [u8]) -> bool
     requires { ⌜ (inRange bus ≡ true) × (length (now mem) ≡ memoryBytes) × (length (now out) ≡ 65536) ⌝ }
     ensures { λ r. ⌜ Watched bus (now (mem .entry)) (now (out .entry)) r (now (mem .exit)) (now (out .exit)) ⌝ }
 {
-    let end = first(bus, out);
+    let end = watch_text::lines::put_bench(out, bus);
     let told = tell(out, end);
     let mut g = Going {
         bus,

@@ -6,9 +6,11 @@ use mathlib.Core.Bool.{Bool, cond, _||_}
 use mathlib.Core.List.{List, [], _∷_, _++_}
 use lib.ListN.{getD}
 use Rattle.proof_lists.specs.Same.{same}
+use Rattle.rules.specs.declared.Bus.{Bus}
 use Rattle.rules.specs.declared.Slot.{Slot}
 use Rattle.rules.specs.Modelled.{slotCount, absent}
 use Rattle.rules.specs.Fresh.{absentSlot}
+use Rattle.rules.specs.Refusals.{emptyBus}
 use Rattle.script_text.specs.Decimal.{decimal}
 use Rattle.script_text.specs.Quoted.{quoted}
 use Rattle.watch_text.specs.Numbers.{numbersOf}
@@ -49,3 +51,7 @@ changeLinesTo (suc n) was is = changeLinesTo n was is ++ changeLine n (getD was 
 
 unfoldable pub changeLines : List Slot → List Slot → List ℕ
 changeLines was is = changeLinesTo slotCount was is
+
+-- "for all of them": where there was none, each present slot has changed
+unfoldable pub benchLines : Bus → List ℕ
+benchLines b = changeLines (emptyBus .slots) (b .slots)

@@ -8,8 +8,9 @@ ghost use lib.ListN.{length, getD};
 ghost use lib.Seq.{sets};
 ghost use Rattle.script_text.specs.Decimal.{decimal};
 ghost use Rattle.watch_text.specs.Numbers.{numbersOf};
-ghost use Rattle.watch_text.specs.Lines.{names, numberTexts, slotLine, changeLine, changeLines};
+ghost use Rattle.watch_text.specs.Lines.{names, numberTexts, slotLine, changeLine, changeLines, benchLines};
 use super::numbers;
+use rules::Bus;
 use rules::Slot;
 
 // The names of a slot's numbers, as they stand in its line: each behind a space, with a sign behind it for its number to follow.
@@ -88,4 +89,15 @@ pub fn put_changes(out: &mut [u8], from: usize, was: [Slot; 8], is: [Slot; 8]) -
         at = put_change(out, at, n, a, b);
     }
     at
+}
+
+// The lines of all present slots of a bus, put at the front of the output: where there was none, each has changed. Where they end.
+pub fn put_bench(out: &mut [u8], bus: Bus) -> usize
+    requires { ⌜ 23200 ≤ length (now out) ⌝ }
+    ensures { λ r. ⌜ (r ≡ length (benchLines bus)) × (now (out .exit) ≡ sets (now (out .entry)) 0 (benchLines bus)) × (r ≤ 23200) ⌝ }
+{
+    let none = bus_setup::empty_bus();
+    let was = none.slots;
+    let is = bus.slots;
+    put_changes(out, 0, was, is)
 }

@@ -29,7 +29,7 @@ watch-spec =
     Inv-loop
     μ-loop
     (λ c κs. omega arith)
-    (λ c κs. omega (arith, c .before .before .before .first .ensures .1))
+    (λ c κs. omega (arith, c .before .before .before .put-bench .ensures .2))
     (λ c. (c .before .before .before .before .before .before .before .before .pre .0, omega arith, omega arith, ongoing-none _ _ _ _))
     (λ c κs. (c .before .before .before .before .before .loop .inv .0, omega arith, omega arith))
     (λ c. omega (arith, ltb-true 0 (c .before .before .before .before .before .before .before .before .before .before .loop .turns) (and-right (c .before .before .before .before .before .before .before .before .before .before .loop .g .on) (ltb 0 (c .before .before .before .before .before .before .before .before .before .before .loop .turns)) (c .before .before .before .before .before .before .before .before .if1 .taken))))
@@ -42,4 +42,4 @@ watch-spec =
     (r .0, omega arith, omega arith, ongoing-more _ _ _ _ _ _ (l .inv .3) _ _ _ _ (omega arith) (and-left (l .g .on) (ltb 0 (l .turns)) t) (r .1)))
     (λ c. omega arith)
     (λ c. omega arith)
-    (λ c. watched-by _ _ _ _ _ _ _ _ _ (c .before .before .before .before .before .before .before .first .ensures .0) (c .before .before .loop .inv .3) (c .if1 .left)))
+    (λ c. watched-by _ _ _ _ _ _ _ _ (c .before .before .before .before .before .before .before .put-bench .ensures .1) (c .before .before .loop .inv .3) (c .if1 .left)))

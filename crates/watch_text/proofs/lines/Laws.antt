@@ -5,7 +5,7 @@ use mathlib.Core.Bool.{Bool, true, false, false≢true, cond, not, _&&_, _||_}
 use mathlib.Core.List.{List, [], _∷_, _++_, append-assoc, append-nil}
 use Prim.Native.Nat.{ℕ, zero, suc, _+_, _≤_, _<_}
 use Prim.Native.String.{String}
-use native.Mathlib.Nat.{add-zero}
+use native.Mathlib.Nat.{add-zero, zero-add}
 use native.Mathlib.Numerals.{add-one}
 use native.Mathlib.Omega.{arith}
 use borrow.Author.Tests.{eq-eqb, ne-eqb}
@@ -15,15 +15,17 @@ use lib.Seq.{sets, length-sets, drop-cons, drop-length, drop-drop, getD-drop}
 use Rattle.proof_lists.specs.Each.{allOf, getD-any}
 use Rattle.proof_lists.specs.Same.{same}
 use Rattle.proof_lists.specs.Tests.{by-test, and-left, and-right}
+use Rattle.rules.specs.declared.Bus.{Bus}
 use Rattle.rules.specs.declared.Slot.{Slot}
 use Rattle.rules.specs.Modelled.{absent}
 use Rattle.rules.specs.Fresh.{absentSlot}
+use Rattle.rules.specs.Refusals.{emptyBus}
 use Rattle.script_text.specs.Decimal.{decimal}
 use Rattle.script_text.specs.Quoted.{quoted}
 use Rattle.script_text.proofs.letters.Decimal.{decimal-one, digits-most}
 use Rattle.script_text.proofs.letters.Laws.{Put, put-on}
 use Rattle.watch_text.specs.Numbers.{numbersOf}
-use Rattle.watch_text.specs.Lines.{names, numberText, numberTexts, slotLine, changeLine, changeLinesTo}
+use Rattle.watch_text.specs.Lines.{names, numberText, numberTexts, slotLine, changeLine, changeLinesTo, changeLines, benchLines}
 
 -- a text with the next of some numbers behind each sign
 abbrev pub sign : ℕ → Bool
@@ -180,3 +182,11 @@ changes-step n at mid end was is d e out o p h l f g =
 pub changes-none : (was is : List Slot) → changeLinesTo 0 was is ≡ []
 unfolding changeLinesTo
 changes-none was is = refl
+
+-- all slots of a bench
+pub bench-by : (b none : Bus) (out o : List ℕ) (end : ℕ) → none ≡ emptyBus → Within 23200 out 0 (changeLines (none .slots) (b .slots)) end o
+    → (end ≡ length (benchLines b)) × (o ≡ sets out 0 (benchLines b)) × (end ≤ 23200)
+unfolding benchLines
+bench-by b none out o end e p =
+    let t : changeLines (none .slots) (b .slots) ≡ changeLines (emptyBus .slots) (b .slots) = ap (λ (n : Bus). changeLines (n .slots) (b .slots)) e in
+    (p .0 ∙ zero-add (length (changeLines (none .slots) (b .slots))) ∙ ap length t, p .1 ∙ ap (sets out 0) t, omega (arith, p .2))

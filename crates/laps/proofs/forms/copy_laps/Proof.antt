@@ -1,14 +1,12 @@
--- The buffers keep their lengths.
+-- The laps are counted up.
 -- Assumes nothing.
-use mathlib.Core.Path.{_≡_}
 use Prim.Native.Nat.{_≤_, _-_}
 use borrow.Author.Needs.{needs}
-use lib.ListN.{length}
 use Rattle.laps.proofs.forms.copy_laps.Statement.{statement}
 use Rattle.laps.proofs.forms.copy_laps.Tie as tie
 
 abbrev Inv-loop : tie.InvT-loop
-Inv-loop from₀ to₀ count counter₀ from to counter = (counter ≤ count) × (length from ≡ 4276) × (length to ≡ 4276)
+Inv-loop from₀ to₀ count counter₀ from to counter = counter ≤ count
 
 abbrev μ-loop : tie.MeasureT-loop
 μ-loop from₀ to₀ count counter₀ from to counter = count - counter
@@ -28,6 +26,5 @@ copy-laps-spec =
     (λ c. search needs)
     (λ c. search needs)
     (λ c. search needs)
-    (λ c. search needs)
-    (λ c. search needs)
+    (λ c κs. search needs)
     (λ c. search needs))

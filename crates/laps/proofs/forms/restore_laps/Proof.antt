@@ -1,15 +1,12 @@
--- Memory and form keep their lengths.
+-- The laps are counted up.
 -- Assumes nothing.
-use mathlib.Core.Path.{_≡_}
 use Prim.Native.Nat.{_≤_, _-_}
-use native.Mathlib.Omega.{arith}
 use borrow.Author.Needs.{needs}
-use lib.ListN.{length, length-set}
 use Rattle.laps.proofs.forms.restore_laps.Statement.{statement}
 use Rattle.laps.proofs.forms.restore_laps.Tie as tie
 
 abbrev Inv-loop : tie.InvT-loop
-Inv-loop mem₀ form₀ count at₀ counter₀ mem form at counter = (counter ≤ count) × (length mem ≡ 4096) × (length form ≡ 4276)
+Inv-loop mem₀ form₀ count at₀ counter₀ mem form at counter = counter ≤ count
 
 abbrev μ-loop : tie.MeasureT-loop
 μ-loop mem₀ form₀ count at₀ counter₀ mem form at counter = count - counter
@@ -27,11 +24,10 @@ restore-laps-spec =
     (λ c. search needs)
     (λ c κs. search needs)
     (λ c κs. search needs)
-    (λ c. simp length-set (omega arith))
     (λ c. search needs)
     (λ c. search needs)
     (λ c. search needs)
     (λ c. search needs)
     (λ c. search needs)
-    (λ c. search needs)
+    (λ c κs. search needs)
     (λ c. search needs))

@@ -1,14 +1,12 @@
--- Memory and form keep their lengths.
+-- The laps are counted up.
 -- Assumes nothing.
-use mathlib.Core.Path.{_≡_}
 use Prim.Native.Nat.{_≤_, _-_}
 use borrow.Author.Needs.{needs}
-use lib.ListN.{length}
 use Rattle.laps.proofs.forms.save_laps.Statement.{statement}
 use Rattle.laps.proofs.forms.save_laps.Tie as tie
 
 abbrev Inv-loop : tie.InvT-loop
-Inv-loop mem₀ form₀ count at₀ counter₀ mem form at counter = (counter ≤ count) × (length mem ≡ 4096) × (length form ≡ 4276)
+Inv-loop mem₀ form₀ count at₀ counter₀ mem form at counter = counter ≤ count
 
 abbrev μ-loop : tie.MeasureT-loop
 μ-loop mem₀ form₀ count at₀ counter₀ mem form at counter = count - counter
@@ -31,6 +29,5 @@ save-laps-spec =
     (λ c. search needs)
     (λ c. search needs)
     (λ c. search needs)
-    (λ c. search needs)
-    (λ c. search needs)
+    (λ c κs. search needs)
     (λ c. search needs))
