@@ -1,71 +1,56 @@
 # The verdict on a logic analyser's export put in words, for ./plungerhen capture --sigrok and --saleae (analyser).
-# Reads the rows of ticks.awk; words.awk and told.awk are read before this.
+# Reads the rows of ticks.awk; bench.awk and words.awk are read before this.
 #
 #   mode  bytes  the records as a capture has them, in lines of octal escapes of printf
-#         asked  the text for the program `edges` that leads to record number `at` and shows the slots that it concerns
-#         agrees the report on an export that agrees; NAME in the environment is the name of the file
+#         script the same without answers, as a script has them
+#         agrees the report on an export that agrees; NAME in the environment is the name of the file. Where the write
+#                cycles are not those of the model, it ends with status 1, and says nothing.
 #         tell   the report on one that differs at record number `at`, where the model says `model` and the export
-#                `seen`. STATES in the environment is what `edges` showed, `given` names the slots whose memory was
-#                told. What is no verdict on these rows ends with status 1 and a line that says why.
+#                `seen`; `given` names the slots whose memory was told. What is no verdict on these rows ends with
+#                status 1 and a line that says why.
 #         unfit  the sentence on a row F
 #         doubts the words of rows U up to record number `at`, or of all where it is empty, the latest first: of the
 #                slots that this record concerns
-#         begun  the write cycles that these rows have, a line `SLOT RECORD` each; `model` has those of the model, from
-#                what `edges` says of mode stops
-#         stops  the text for `edges` that shows every told slot before each stop and behind it
+#
+# `lines` is the file with what the program `watch` wrote of the records, for agrees and tell.
 
-function plural(n, word) { return n " " word (n == 1 ? "" : "s") }
-function listed(list, n,   i, text) {
-  for (i = 1; i <= n; i++) text = text (i == 1 ? "" : i < n ? ", " : " and ") list[i]
-  return text
-}
 function ms(time) { return sprintf("%.3f", time / 1e6) }
 function since(time, stop) { return sprintf("%.1f", (time - stop) / 1e6) }
 
 # ---- bytes
-function octals(   i) { for (i = 0; i < 256; i++) oct[i] = octal(i) }
-function record_bytes(kind, slot, val, answer,   code, byte) {
-  if (val < 0) val += 65536
-  code = 0; byte = 0
-  if (answer ~ /^D/) { code = 3; byte = from_hex(substr(answer, 2)) }
-  else code = index("-AN", answer) - 1
-  printf "%s", oct[kind] oct[slot] oct[int(val / 256)] oct[val % 256] oct[code] oct[byte]
-  if (++written % 64 == 0) printf "\n"
+function record_bytes(kind, slot, val, answer) {
+  printf "%s", record_octals(kind, slot, val) (mode == "bytes" ? answer_octals(answer) : "")
+  if (++records % 64 == 0) printf "\n"
 }
 
-# ---- asked. The slots that an event concerns go by the last control byte: the one that it names, or every told one
-# where it is a command.
+# ---- what `watch` wrote: stands[] is each slot's last line
+# Of the next record, number `record`: which slots have now begun a write cycle, and which have had a half command.
+function read_on(record,   got, s, was) {
+  while ((got = getline ahead <lines) > 0 && is_slot(ahead)) {
+    s = ahead + 0; was = stands[s]
+    if (number_of(ahead, "left") && !number_of(was, "left")) { begun[s, record] = 1; begins++ }
+    if (number_of(ahead, "phase") == 6 && number_of(was, "phase") != 6) half_by[s] = record " " number_of(ahead, "half")
+    stands[s] = ahead
+  }
+}
+# Whether the cycles that ticks were placed for are those of the model
+function same_cycles(   c) {
+  for (c = 1; c <= cycles; c++) if (!((slot[c], stop[c]) in begun)) return 0
+  return begins + 0 == cycles + 0
+}
+
+# ---- the slots that an event concerns go by the last control byte: the one that it names, or every told one where it
+# is a command
 function follow(kind, val) {
   if (kind == 1) control = -1
   else if (kind == 2 && control == -1) control = val
   else if (kind == 4 || kind == 5 || kind == 8) control = -2
 }
-function family(val) { return val < 0 ? 0 : int(val / 16) }
-function concerns(s) {
-  if (!(s in kind_of)) return 0
-  if (family(control) == 10 || family(control) == 3) return s == int(control / 2) % 8
-  return family(control) == 6
-}
-function asked_event() {
-  if ($2 > at) return
-  if ($2 < at) printf "%s; event %s %s %s", (asks++ % 8 ? "" : (asks > 1 ? "\n" : "") "then"), $6, $7, $8
-  follow($6, $8)
-}
-function setup_words(   s, text) {
-  text = "setup"
-  for (s = 0; s < 8; s++) text = text " " kind_of[s] + 0 " " ticks_of[s] + 0
-  return text
-}
-function end_asked(   s) {
-  printf "%sthen", asks ? "\n" : ""
-  for (s = 0; s < 8; s++) if (concerns(s)) printf "; show %d", s
-  printf "\n"
-}
+function concerns(s) { return (s in kind_of) && (is_command(control) || named_slot(control) == s) }
 
 # ---- the write cycles: how long they took, up to a record
 function cycle_row() {
-  began[$2 + 0, $3 + 0] = 1
-  slot[++cycles] = $2; stop[cycles] = $3; stop_at[cycles] = $4; how[cycles] = $5
+  slot[++cycles] = $2 + 0; stop[cycles] = $3 + 0; stop_at[cycles] = $4; how[cycles] = $5
   end[cycles] = $6; end_at[cycles] = $7; busy[cycles] = $8; by[cycles] = $9
 }
 # How it ended, up to a record, as its row says; `first` if it was seen when it was first asked, `open` if it ended
@@ -103,7 +88,7 @@ function clock_words(s,   c, text) {
 }
 function so_many(w) { return count["all"] == 1 ? "" : ", " plural(count[w], "cycle") }
 function measured(upto,   s, text) {
-  for (s = 0; s < 8; s++) {
+  for (s = 0; s < SLOTS; s++) {
     measure(s, upto)
     text = seen_words("seen") seen_words("first") clock_words(s)
     if (count["with"]) text = text "; not asked before another slot was ready" so_many("with")
@@ -138,7 +123,6 @@ function end_agrees() {
 }
 
 # ---- tell: the event, and the exchange up to it
-function fail(sentence) { print sentence; exit 1 }
 function get(i) { split(raw[i], f, "\t") }
 function words_of(i) { get(i); return record_words(f[6], f[7], f[8]) }
 function heading(   text) {
@@ -164,112 +148,79 @@ function events_shown(   from, i, wide, many) {
   if (from) printf "%" wide "s  (%s not shown)\n", "", (from == 1 ? "1 earlier event is" : from " earlier events are")
   for (i = from; i <= at; i += many) {
     get(i)
-    many = i < at && f[5] == "t" ? ticks_from(i) : 1
+    for (many = 1; f[5] == "t" && i + many < at && raw[i + many] ~ /\tt\t/; many++) ;
     printf "%" wide "s  %-24s  %s\n", ms(f[3]), (many > 1 ? "tick " many : words_of(i)),
       (i == at ? difference() : f[5] == "t" ? "(placed)" : answer_words(f[9]))
   }
 }
-function ticks_from(i,   many, g) {
-  for (many = 0; i + many < at; many++) {
-    split(raw[i + many], g, "\t")
-    if (g[5] != "t") break
-  }
-  return many
-}
 
-# ---- tell: the model's state, as `edges` shows it: names and hex numbers, without those that are 0
-function shown_numbers(s,   parts, n, i, w, m) {
-  for (i in now) delete now[i]
-  n = split(ENVIRON["STATES"], parts, "; ")
-  for (i = 1; i <= n; i++) if (index(parts[i], "show " s ": ") == 1) break
-  if (i > n) return 0
-  m = split(substr(parts[i], 9), w, " ")
-  for (i = 1; i < m; i += 2) now[w[i]] = w[i] == "phase" ? w[i + 1] : from_hex(substr(w[i + 1], 1, length(w[i + 1]) - 1))
-  return now["kind"] == kind_of[s]
-}
+# ---- tell: the model's state, by the slot's line
+function now(name) { return number_of(line, name) }
 function phases() {
-  doing["idle"] = "is in no exchange"
-  doing["control"] = "waits for a control byte"
-  doing["deaf"] = "is deaf until the next start"
-  doing["memory-counter"] = "waits for the counter"
-  doing["memory-data"] = "takes bytes to write"
-  doing["memory-read"] = "gives bytes of its memory"
-  doing["half-selected"] = "has had a half command"
-  doing["command-address"] = "waits for the first byte behind a command"
-  doing["command-data"] = "waits for the second byte behind a command"
-  doing["command-stop"] = "waits for the stop of a command"
-  doing["sensor-pointer"] = "waits for the pointer"
-  doing["sensor-high"] = "waits for the high byte of a register, or a start"
-  doing["sensor-low"] = "waits for the low byte of a register"
-  doing["sensor-read-high"] = "gives the high byte of a register"
-  doing["sensor-read-low"] = "gives the low byte of a register"
+  split("is in no exchange,waits for a control byte,is deaf until the next start,waits for the counter," \
+    "takes bytes to write,gives bytes of its memory,has had a half command,waits for the first byte behind a command," \
+    "waits for the second byte behind a command,waits for the stop of a command,waits for the pointer," \
+    "waits for the high byte of a register; or a start,waits for the low byte of a register," \
+    "gives the high byte of a register,gives the low byte of a register", doing, ",")
+  sub(/;/, ",", doing[12])
 }
-function protected_words(   i, n, list) {
-  for (i = 0; i < 4; i++) if (now["protection" (i ? "+" i : "")]) list[++n] = i
-  return n ? (n == 1 ? "block " : "blocks ") listed(list, n) " protected" : "no block protected"
+function memory_words(   address, i, n, list) {
+  for (i = 0; i < 4; i++) if (now("protection" i)) list[++n] = i
+  address = 256 * now("half") + now("counter")
+  return "half " now("half") ", counter " show(now("counter")) " (address " sprintf("%03X", address) "h, block " int(address / 128) "), " \
+    protected_words(list, n) ", high voltage " (now("voltage") ? "on" : "off")
 }
-function memory_words(   address) {
-  address = 256 * now["half"] + now["counter"]
-  return "half " now["half"] + 0 ", counter " show(now["counter"]) " (address " sprintf("%03X", address) "h, block " int(address / 128) "), " \
-    protected_words() ", high voltage " (now["voltage"] ? "on" : "off")
-}
-function sensor_words(   names, text) {
+function sensor_words(   names, name, text) {
   split("configuration,high,low,critical,temperature,-,-,resolution,timeout", names, ",")
-  text = "pointer " show(now["pointer"])
-  if (now["pointer"] in names && names[now["pointer"]] != "-")
-    text = text " (" names[now["pointer"]] ", " sprintf("%04X", now[names[now["pointer"]]]) "h)"
-  if (now["phase"] ~ /^sensor-read/) text = text ", the word being read is " sprintf("%04X", now["word"]) "h"
+  text = "pointer " show(now("pointer")); name = names[now("pointer")]
+  if (name ~ /[a-z]/) text = text " (" name ", " sprintf("%04X", now(name)) "h)"
+  if (doing[now("phase") + 1] ~ /^gives/) text = text ", the word being read is " sprintf("%04X", now("word")) "h"
   return text
 }
 function state_line(s,   text) {
-  if (!shown_numbers(s)) { print "  the model's slot " s " is not shown: the program edges could not be built or run, or says nothing of it"; return }
-  text = "  just before, the model's slot " s " " doing[now["phase"] == "" ? "idle" : now["phase"]] ": "
-  text = text (family(control) == 3 ? sensor_words() : memory_words()) ", "
-  print text (now["left"] ? "a write cycle with " now["left"] " of " plural(ticks_of[s], "tick") " left" : "no write cycle")
+  line = stands[s]
+  if (line == "") { print "  the model's slot " s " is not shown: the program watch could not be built or run, or says nothing of it"; return }
+  text = "  just before, the model's slot " s " " doing[now("phase") + 1] ": "
+  text = text (is_sensor(control) ? sensor_words() : memory_words()) ", "
+  print text (now("left") ? "a write cycle with " now("left") " of " plural(ticks_of[s], "tick") " left" : "no write cycle")
 }
 
-# ---- tell: what was written to a slot before this exchange
-# The last stretch of events, from a start on, that wrote to slot s: wrote_from to wrote_to; and the last half command,
-# at half_at. A protect or clear is for the slot if its stop began a write cycle there.
-function look_back(s, limit,   i, behind, from, acked, order_from, order_to) {
-  wrote_from = half_at = order_from = -1; control = -2
-  for (i = 0; i < limit; i++) {
-    get(i)
-    if (f[6] == 1) from = i
-    if (f[6] == 2 && control == -1) { acked = f[9] == "A"; behind = 0; if (acked && f[8] ~ /^(108|110)$/) half_at = i }
-    else if (f[6] == 2 && control >= 0) behind++
-    follow(f[6], f[8])
-    if (f[6] == 2 && acked && writes_to(s, behind)) { wrote_from = from; wrote_to = i }
-    if (f[6] == 1) order_from = -1
-    if (f[6] == 2 && acked && control ~ /^(98|104|106|96|102)$/) { order_from = from; order_to = i }
-    if (order_from >= 0 && ((s, i) in began)) { wrote_from = order_from; wrote_to = order_to }
-  }
+# ---- tell: what was written to a slot before this exchange. The last stretch of events, from a start on, that wrote to
+# it names the slot, or its stop began a write cycle there: wrote[] has its first record and its last byte.
+function written(record, kind, val, answer,   s) {
+  if (kind == 1) from = record
+  if (kind == 2 && control == -1) { acked = answer == "A"; behind = 0 }
+  else if (kind == 2) behind++
+  follow(kind, val)
+  if (kind == 2) last = record
+  for (s in kind_of)
+    if ((kind == 2 && acked && behind >= 2 && control % 2 == 0 && named_slot(control) == s) || ((s, record) in begun))
+      wrote[s] = from " " last
 }
-function writes_to(s, behind) {
-  return (family(control) == 10 || family(control) == 3) && control % 2 == 0 && int(control / 2) % 8 == s && behind >= 2
-}
-function bytes_written(   i, text, n) {
-  for (i = wrote_from; i <= wrote_to; i++) {
+# What was so before an exchange, or before an event outside of any
+function keep_before(   s) { for (s in kind_of) { wrote_before[s] = wrote[s]; half_before[s] = half_by[s] } }
+function bytes_written(from, to,   i, text, n) {
+  for (i = from; i <= to; i++) {
     get(i)
     if (f[6] == 2 && ++n <= 20) text = text " " show(f[8]) (f[9] == "N" ? " (NACK)" : "")
   }
   return text (n > 20 ? " .., " n " bytes" : "")
 }
-function write_line(s, memory,   text) {
-  if (wrote_from < 0) {
+function write_line(s, memory,   text, w) {
+  if (!split(wrote_before[s], w, " ")) {
     text = "; its memory begins with " \
       ((" " given " ") ~ (" " s " ") ? "the bytes that --memory told" : "FFh in every byte, since --memory told no other")
     print "  nothing was written to slot " s " before this exchange" (memory ? text : "")
     return
   }
-  text = bytes_written()
-  get(wrote_from)
+  text = bytes_written(w[1], w[2])
+  get(w[1])
   print "  last written to slot " s " in exchange " f[10] ", from " ms(f[3]) " ms:" text
 }
-function half_line() {
-  if (half_at < 0) return
-  get(half_at)
-  print "  half " (f[8] == 110) " was selected by " show(f[8]) " in exchange " f[10] ", at " ms(f[3]) " ms"
+function half_line(s,   w) {
+  if (!split(half_before[s], w, " ")) return
+  get(w[1])
+  print "  half " w[2] " was selected by " show(f[8]) " in exchange " f[10] ", at " ms(f[3]) " ms"
 }
 function cycle_line(s,   c, latest, text, w) {
   for (c = 1; c <= cycles; c++) if (slot[c] == s && stop[c] < at) latest = c
@@ -303,26 +254,21 @@ function doubt_line(s) {
 }
 function doubt_row() { if ($3 <= at) { doubt_at[$2 + 0] = $4; doubt_byte[$2 + 0] = $5; doubt_stop[$2 + 0] = $6 } }
 
-function led_there(   s, was, any_slot, limit) {
-  get(at)
-  limit = f[10] ? first_of[f[10]] : at
-  was = control
+function led_there(   s, any_slot) {
   print "What led there:"
-  for (s = 0; s < 8; s++) {
-    control = was
+  for (s = 0; s < SLOTS; s++) {
     if (!concerns(s)) continue
     any_slot = 1
     state_line(s)
-    look_back(s, limit)
-    write_line(s, family(was) == 10)
-    if (family(was) == 10) half_line()
+    write_line(s, is_memory(control))
+    if (is_memory(control)) half_line(s)
     cycle_line(s)
     doubt_line(s)
   }
-  if (!any_slot) nobody(was)
+  if (!any_slot) nobody(control)
 }
 function nobody(byte) {
-  if (family(byte) == 10 || family(byte) == 3) print "  slot " int(byte / 2) % 8 " is not told (--slot): in the model nobody answers to " show(byte)
+  if (named_slot(byte) >= 0) print "  slot " named_slot(byte) " is not told (--slot): in the model nobody answers to " show(byte)
   else if (byte >= 0) print "  in the model nobody answers to " show(byte)
   else print "  in the model no exchange is under way here: a stop, a timeout or power has ended it"
 }
@@ -338,30 +284,9 @@ function end_tell() {
   rule()
 }
 
-# ---- doubts, and the write cycles of these rows and of the model
+# ---- doubts
 function end_doubts(   i) {
-  for (i = keys; i; i--) if (at == "" || (key_record[i] <= at && (concerns(key_slot[i]) || family(control) == 0))) print key[i]
-}
-function asked_stop(   s, shows) {
-  for (s = 0; s < 8; s++) if (s in kind_of) shows = shows "; show " s
-  if ($6 == 4) print "then" shows "; event 4 0 0" shows
-  else print "then; event " $6 " " $7 " " $8
-}
-function left_of(part,   n, w, i) {
-  n = split(part, w, " ")
-  for (i = 1; i < n; i++) if (w[i] == "left") return w[i + 1]
-  return ""
-}
-# A line of edges' about a stop: which slots had no cycle before it and have one behind it.
-function begun_by(line, record,   part, n, i, s, was, behind) {
-  n = split(line, part, "; ")
-  for (i = 1; i <= n; i++) {
-    if (part[i] ~ /^event 4 /) behind = 1
-    if (part[i] !~ /^show [0-7]: /) continue
-    s = substr(part[i], 6, 1)
-    if (!behind) was[s] = left_of(part[i])
-    else if (was[s] == "" && left_of(part[i]) != "") print s, record
-  }
+  for (i = keys; i; i--) if (at == "" || (key_record[i] <= at && (concerns(key_slot[i]) || control < 0))) print key[i]
 }
 
 # ---- unfit
@@ -375,21 +300,17 @@ function end_unfit(   way) {
 
 BEGIN {
   FS = "\t"; told_slots(); control = -2
-  if (mode == "bytes") octals()
   if (mode == "tell") phases()
-  if (mode == "asked" || mode == "stops") print setup_words()
+  if (mode == "tell" || mode == "agrees") read_on(-1)
 }
-$1 == "E" && mode == "bytes" { record_bytes($6, $7, $8, $9) }
-$1 == "E" && mode == "asked" { asked_event() }
-$1 == "E" && mode == "stops" { asked_stop() }
-$1 == "E" && mode == "model" && $6 == 4 { while ((getline shown <states) > 0) if (shown ~ /event 4 /) { begun_by(shown, $2); break } }
+$1 == "E" && (mode == "bytes" || mode == "script") { record_bytes($6, $7, $8, $9) }
 $1 == "E" && mode == "doubts" && (at == "" || $2 <= at) { follow($6, $8) }
-$1 == "K" && mode == "begun" { print $2, $3 }
 $1 == "U" && mode == "doubts" { key[++keys] = $7; key_slot[keys] = $2 + 0; key_record[keys] = $3 }
+$1 == "E" && (mode == "agrees" || (mode == "tell" && $2 < at)) { read_on($2 + 0) }
 $1 == "E" && mode == "tell" && $2 <= at {
   raw[$2 + 0] = $0
-  if ($10 && !($10 in first_of)) first_of[$10] = $2
-  follow($6, $8)
+  if (!$10 || !($10 in first_of)) { keep_before(); first_of[$10] = $2 }
+  written($2 + 0, $6, $8, $9)
 }
 $1 == "K" { cycle_row() }
 $1 == "U" && mode == "tell" { doubt_row() }
@@ -397,9 +318,9 @@ $1 == "O" { omission() }
 $1 == "N" { exchanges = $2; wires = $3; besides = $4; ticks = $5; first_time = $6; last_time = $7 }
 $1 == "F" && mode == "unfit" { end_unfit() }
 END {
-  if (mode == "bytes") printf "\n"
-  if (mode == "asked") end_asked()
+  if (mode == "bytes" || mode == "script") printf "\n"
   if (mode == "doubts") end_doubts()
+  if (mode == "agrees" && !same_cycles()) exit 1
   if (mode == "agrees") end_agrees()
   if (mode == "tell") end_tell()
 }

@@ -1,9 +1,9 @@
 # What happened beside the wires, told in the words of the cases with a time in front, read for ./plungerhen capture
-# --beside (analyser). words.awk and told.awk are read before this.
+# --beside (analyser). bench.awk and words.awk are read before this.
 #
 # From lines such as `at 12.5 ms voltage 0 on` to rows, fields parted by tabs, the time in nanoseconds:
 #
-#   X  time, line number, kind, slot, value
+#   W  time, the same once more, line number, b, kind, slot, value, -
 #   Z  the end
 #
 # or, last, B: line number, what is wrong there.
@@ -25,17 +25,16 @@ function allowed(word) {
   if (word == "tick") bad("ticks are not told: they are placed where the wires show that a write cycle has ended")
   if (word == "event" || word == "raw") bad("\"" word "\" can't stand here: say voltage, temperature, power or timeout")
 }
-function one(i,   kind, slot, v) {
-  kind = from_hex(substr(code[i], 1, 2)); slot = from_hex(substr(code[i], 3, 2)); v = from_hex(substr(code[i], 5))
-  if (v >= 32768) v -= 65536
+function one(i,   r, kind, slot, v) {
+  split(record_of(code[i]), r, "\t"); kind = r[1]; slot = r[2] + 0; v = r[3]
   if (kind == 7 || kind == 9) {
-    if (!(slot in kind_of)) bad("slot " slot " is not told: say --slot " (slot < 8 ? slot : "N") " memory or sensor, and its write cycle")
-    if (kind == 9 && kind_of[slot] != 2) bad("slot " slot " is told as a memory: it has no sensor that feels a temperature")
+    if (!(slot in kind_of)) bad("slot " slot " is not told: say --slot " (slot < SLOTS ? slot : "N") " memory or sensor, and its write cycle")
+    if (kind == 9 && !has_sensor(kind_of[slot])) bad("slot " slot " is told as a memory: it has no sensor that feels a temperature")
   }
   if (kind == 9 && (v < -640 || v > 2000)) bad("the temperature " v " is not from -640 to 2000 sixteenths of a degree")
   if (kind == 8 && (v < 0 || v > 16))
     bad("the number behind power is " v ", and must be from 0 to 16, the bytes stored of a write cycle that it cuts")
-  print "X\t" sprintf("%.0f", when) "\t" NR "\t" kind "\t" slot "\t" v
+  printf "W\t%.0f\t%.0f\t%d\tb\t%d\t%d\t%d\t-\n", when, when, NR, kind, slot, v
 }
 function beside_line(   w, n, i, part, rest) {
   if (arrow) bad("what happens beside the wires has no answer")

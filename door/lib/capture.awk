@@ -18,17 +18,12 @@
 
 # ---- read
 function row(text) { rows[++nrows] = text }
-function answer_bytes(a) {
-  if (a ~ /^D/) return octal(3) octal(from_hex(substr(a, 2)))
-  if (a ~ /^R/) return octal(4) octal(substr(a, 2))
-  return octal(index("-AN", a) - 1) octal(0)
-}
 
 function setup_line() {
   if (nevents) bad("setup comes before the first event")
   if (arrow) bad("a capture's setup has no answer")
   setupwords(left)
-  if (cut) bad("the setup is cut short: a capture has all 16 numbers")
+  if (cut) bad("the setup is cut short: a capture has all " 2 * SLOTS " numbers")
 }
 
 # `memory SLOT FILE.bin`, where the name may have blanks in it, or `memory SLOT: BYTE...`
@@ -40,7 +35,7 @@ function memory_line(   slot, rest, w, n, i, bytes) {
   rest = substr(rest, length(slot) + 1)
   if (rest !~ /^[ :] *[^ :]/ || rest ~ /^( +[0-9A-Fa-f]+h(\*[0-9]+)?)+$/)
     bad("the form is: memory SLOT FILE.bin, or memory SLOT: BYTE..., as in: memory 0: 23h 11h")
-  slot = decimal(slot, 0, 7, "slot number")
+  slot = slot_number(slot)
   if (slot in memory_at) bad("the memory of slot " slot " is told twice")
   memory_at[slot] = NR
   if (rest ~ /^ /) { row("F\t" NR "\t" slot "\t" trim(rest)); return }
@@ -61,13 +56,13 @@ function event_line(   i) {
   match_list()
   for (i = 1; i <= nline; i++) {
     row("E\t" nevents++ "\t" NR "\t" left "\t" from_hex(substr(code[i], 1, 2)) "\t" told[i] "\t" due[i])
-    records[NR] = records[NR] substr(input, 16 * i - 15, 16) answer_bytes(due[i])
+    records[NR] = records[NR] substr(input, 16 * i - 15, 16) answer_octals(due[i])
   }
 }
 
 function end_read(   i, slot) {
   if (!lines) { NR = NR ? NR : 1; bad("neither setup nor event in this file") }
-  for (slot = 0; slot < 8; slot++)
+  for (slot = 0; slot < SLOTS; slot++)
     if ((slot in memory_at) && !kind[slot]) { NR = memory_at[slot]; bad("slot " slot " is absent: it has no memory") }
   printf "I\t%d\t%s\t", nevents, setupbytes()
   for (i = 1; i <= NR; i++) if (i in records) printf "%s", records[i]
@@ -87,8 +82,6 @@ function end_bytes(   i) {
 }
 
 # ---- tell
-function fail(sentence) { print sentence; exit 1 }
-
 # The first event to show: eight before the record, or the start of the exchange that this one stands in, but not more
 # than forty before.
 function shown_from(   i, from, inside) {

@@ -17,6 +17,21 @@ plural() { if [ "$1" -eq 1 ]; then printf '1 %s' "$2"; else printf '%s %ss' "$1"
 long=
 noted() { [ ! -t 2 ] || [ -z "$long" ] || printf '\r\033[K%s' "${1//[[:cntrl:]]/?}" >&2; }
 
+# awk_by NAMES OPTION...: awk with these programs of this folder, behind bench.awk
+awk_by() {
+    local name by=(-f "$lib/bench.awk")
+    for name in $1; do by+=(-f "$lib/$name.awk"); done
+    awk "${by[@]}" "${@:2}"
+}
+# bench EXPRESSION: what bench.awk says, as in: bench SLOTS
+bench() { awk "$(<"$lib/bench.awk")"$'\n'"BEGIN { print $1 }"; }
+# is_slot WORD: whether it is the number of one of `slots` slots
+is_slot() { [[ $1 =~ ^(0|[1-9][0-9]{0,3})$ ]] && [ "$1" -lt "$slots" ]; }
+
+# A difference, as the program capture says it: a record's number, the model's answer, the captured one.
+answer='(-|A|N|D[0-9A-F][0-9A-F]|R[0-9]{1,3})'
+difference="^(0|[1-9][0-9]{0,14}) $answer ($answer|\\?)\$"
+
 # program NAME LINE: runs the proved program NAME (./run NAME), or the command line, if one is given
 program() { if [ -n "$2" ]; then eval "$2"; else "$root/run" "$1"; fi; }
 
@@ -47,9 +62,20 @@ readable() { is_readable "$1" || unreadable "$1"; }
 readable_case() { is_case "$1" || unreadable "$1"; }
 unreadable() {
     case $why in
-    'it is '*) die "'$1' ${why#it }" ;;
+    'it '*) die "'$1' ${why#it }" ;;
     *) die "there is no file '$1'" ;;
     esac
+}
+# image FILE: the bytes of a slot's memory, as octal escapes, in `bytes`; if it has none such, `why` says so
+image() {
+    is_readable "$1" || return
+    # shellcheck disable=SC1003    # a backslash
+    bytes=$(od -An -v -to1 -N513 <"$1" | tr -d '\n' | tr ' ' '\\')
+    case ${#bytes} in
+    0) why="it is empty; a slot's memory is 1 to 512 bytes" ;;
+    2052) why="it has more than 512 bytes; a slot's memory is 1 to 512 bytes" ;;
+    esac
+    [ -z "$why" ]
 }
 
 # A folder for what is made on the way, `work`, and the files that are made aside: both go at the end.
@@ -92,7 +118,7 @@ put_in_place() {
 
 # ---- a case, as a plan (reading.awk)
 # plan_of FILE STRICT BENCH: that plan; reading.awk says what the two others are
-plan_of() { awk -v strict="$2" -v bench="$3" -f "$lib/words.awk" -f "$lib/reading.awk" <"$1"; }
+plan_of() { awk_by 'words reading' -v strict="$2" -v bench="$3" <"$1"; }
 # read_case FILE: the plan in `plan`; `events` is the number of events, and `input` the setup and the records, as octal
 # escapes of printf
 read_case() {
@@ -107,5 +133,13 @@ read_case() {
     *) die "'$1' could not be read (awk failed)" ;;
     esac
 }
-# telling_case MODE: what that plan tells (save.awk)
-telling_case() { awk -F '\t' -f "$lib/octal.awk" -f "$lib/save.awk" -v mode="$1" <<<"$plan"; }
+# watch_case: what the program `watch` (./run watch), or the command line that the environment variable WATCH names,
+# says of that case, behind its plan and a line GOT: in $work/watched; `watched` is its first line
+# shellcheck disable=SC2034,SC2059    # for who asked; the bytes are escapes
+watch_case() {
+    workplace
+    { printf '%s\nGOT\n' "$plan"; printf "$input" 2>/dev/null | program watch "${WATCH:-}"; } >"$work/watched"
+    watched=$(sed '1,/^GOT$/d' "$work/watched" | head -n 1)
+}
+# telling_case MODE [FILE]: what that plan tells, or the file with what was watched (save.awk)
+telling_case() { awk_by save -F '\t' -v mode="$1" "${2:--}" <<<"$plan"; }

@@ -6,8 +6,8 @@
 #
 # Writes rows, fields parted by tabs, times in nanoseconds:
 #
-#   W  when it took place, when it began, line number, kind, value, answer: an event on the wires; a byte takes place
-#      when its ninth bit does
+#   W  when it took place, when it began, line number, w, kind, 0, value, answer: an event on the wires; a byte takes
+#      place when its ninth bit does
 #   O  rows, their number       left out: what stands before the first start
 #   O  byte, line number        left out: the last byte, whose ninth bit is not there
 #   O  cut, line number         left out: the last row of a table, which has no line end and may be cut
@@ -21,7 +21,7 @@
 function wire(when, from, line, kind, value, answer) {
   release(from)
   held = 1; held_when = when
-  held_from = sprintf("%.0f", from) "\t" line "\t" kind "\t" value "\t" answer
+  held_from = sprintf("%.0f", from) "\t" line "\tw\t" kind "\t0\t" value "\t" answer
 }
 function release(before) {
   if (!held) return

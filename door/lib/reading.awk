@@ -3,14 +3,15 @@
 #
 # One row a line, fields parted by tabs:
 #   I  number of events, number of events not compared, all bytes for the program as octal escapes
+#   P  the numbers of the setup
 #   C  0, a line to show as it is (comment or setup)
 #   S  line number, its text, "setup", the setup's answer
-#   E  line number, its text, the event in words, the answer (? not compared, "nothing" no line at all),
-#      and with a line's last event the comment that stands behind it, if any
+#   E  line number, its text, the event in words, the answer (? not compared, "nothing" no line at all), the comment
+#      that stands behind it, where it is a line's last event, and its record: kind, slot and value
 # or, alone, B: line number, what is wrong there.
 #
 #   strict  1: every line wants its answers
-#   bench   empty, or the sixteen numbers of a saved bench's setup, from which the case is played: the case's own setup
+#   bench   empty, or the numbers of a saved bench's setup, from which the case is played: the case's own setup
 #           must be the same or not there, and row I has the records alone
 
 function row(text) { rows[++nrows] = text }
@@ -18,10 +19,10 @@ function row(text) { rows[++nrows] = text }
 function setupline(left,   i) {
   if (nevents) bad("setup comes before the first event")
   setupwords(left)
-  for (i = 0; i < 8; i++) if ((i in kind) && !(i in named_at)) named_at[i] = NR
+  for (i = 0; i < SLOTS; i++) if ((i in kind) && !(i in named_at)) named_at[i] = NR
   last_setup = NR
   if (bench != "" && (cut || arrow)) bad("from a saved bench, the setup is whole and not refused")
-  if (cut && !arrow) bad("a setup of fewer than 16 numbers is cut short: write -> short")
+  if (cut && !arrow) bad("a setup of fewer than " 2 * SLOTS " numbers is cut short: write -> short")
   row("C\t0\t" $0)
   if (arrow) {
     if (setupanswer != "") bad("the setup has its answer already")
@@ -32,10 +33,10 @@ function setupline(left,   i) {
 }
 
 # The setup that the case tells against that of the bench it is played from.
-function slot_words(k, ticks) { return k ? (k == 1 ? "memory" : k == 2 ? "sensor" : "of kind " k ",") " " ticks : "absent" }
+function slot_words(k, ticks) { return k ? (k in KIND ? KIND[k] : "of kind " k ",") " " ticks : "absent" }
 function same_bench(   i, saved, here, there) {
   split(bench, saved, " ")
-  for (i = 0; i < 8; i++) {
+  for (i = 0; i < SLOTS; i++) {
     here = slot_words(kind[i], size[i]); there = slot_words(saved[2 * i + 1] + 0, saved[2 * i + 2])
     if (here == there) continue
     NR = (i in named_at) ? named_at[i] : last_setup
@@ -62,7 +63,8 @@ function same_bench(   i, saved, here, there) {
   for (i = 1; i <= nline; i++) {
     nevents++
     answer = !arrow ? "?" : right == "nothing" ? "nothing" : due[i]
-    row("E\t" NR "\t" left "\t" told[i] "\t" answer (i == nline && note != "" ? "\t   " note : ""))
+    behind = i == nline && note != "" ? "   " note : ""
+    row("E\t" NR "\t" left "\t" told[i] "\t" answer "\t" behind "\t" record_of(code[i]))
   }
 }
 
@@ -70,6 +72,7 @@ END {
   if (wrong) exit
   if (!lines) { NR = NR ? NR : 1; bad("neither setup nor event in this file"); exit }
   if (bench != "" && form != "") same_bench()
-  printf "I\t%d\t%d\t%s\n", nevents, loose, (bench == "" ? setupbytes() : "") input
+  printf "I\t%d\t%d\t%s\nP\t", nevents, loose, (bench == "" ? setupbytes() : "") input
+  for (i = 0; i < SLOTS; i++) printf "%d %d%s", kind[i], size[i], i < SLOTS - 1 ? " " : "\n"
   for (i = 1; i <= nrows; i++) print rows[i]
 }

@@ -1,36 +1,30 @@
 # A saved bench (request P5, "Saving a bench overnight") read field by field, for ./plungerhen save, show and resume:
 # its bytes on standard input, as od -tu1 gives them.
 #
-#   mode  departs  the first place where it departs from the form, and why, in words; nothing if it does not
-#         setup    the sixteen numbers of its setup
+#   mode  departs  of a form that the program resume has refused: the first place where it departs, and why, in words
+#         setup    the numbers of its setup
 #         sum      how long it is and which slots there are, in words
 #         show     all of it in words
 #   size  how many bytes it has; what stands behind byte 65,535 is not read, since a form is shorter
 #
-# Of a form that departs only mode departs is asked.
+# What is accepted and what refused only the program says: the other modes tell the bytes as they stand. bench.awk is
+# read before this.
 
 function hex(v, digits) { return sprintf("%0" digits "Xh", v) }
 function place(at) { return hex(at, 4) " (" at ")" }
-function plural(n, word) { return n " " word (n == 1 ? "" : "s") }
-function listed(list, n,   i, text) {
-  for (i = 1; i <= n; i++) text = text (i == 1 ? "" : i < n ? ", " : " and ") list[i]
-  return text
-}
 # the bits of v that are not in mask
 function outside(v, mask,   bit, rest) {
   for (bit = 1; bit <= v; bit *= 2) if (int(v / bit) % 2 && !(int(mask / bit) % 2)) rest += bit
   return rest + 0
 }
 
-# ---- the form, byte by byte: `at` is the next place. Once it has departed nothing more is looked at.
+# ---- the form, byte by byte: `at` is the next place; `departure` is the first that departs.
 function depart(where, why) {
   if (departure == "") departure = (field ? "field " field " (" title[field] ")" : "behind field 4") ", byte " place(where) ": " why
 }
 function next_byte(what) {
-  if (departure != "") return 0
-  if (at < nbytes) return b[at++]
-  depart(at, "the form ends here, where " what " is to come")
-  return 0
+  if (at >= nbytes) depart(at, "the form ends here, where " what " is to come")
+  return b[at++] + 0
 }
 # What may stand at the place before `at`, and what stands there.
 function must(good, sentence) { if (!good) depart(at - 1, sentence) }
@@ -45,23 +39,25 @@ function head(tag, count, why,   v, most) {
   must(v == count % 256, "the length is " hex(256 * most + v, 4) " (" 256 * most + v "), and must be " hex(count, 4) " (" count "), " why)
 }
 
-function read_setup(   i) {
-  head(1, 16, "two for each of 8 slots")
-  for (i = 0; i < 8; i++) {
+function read_setup(   i, why) {
+  head(1, 2 * SLOTS, "two for each of " SLOTS " slots")
+  for (i = 0; i < SLOTS; i++) {
     kind[i] = next_byte("slot " i "'s kind")
-    must(kind[i] <= 2, "slot " i " is of kind " kind[i] ", which is not 0, 1 or 2 (absent, memory, memory with sensor)")
+    why = bad_pair(i, kind[i], 1); sub(/, not/, ", which is not", why)
+    must(why == "", why)
     ticks[i] = next_byte("slot " i "'s write-cycle length")
-    if (kind[i]) must(ticks[i] >= 1 && ticks[i] <= 5, "slot " i " has a write cycle of " plural(ticks[i], "tick") ", not of 1 to 5")
-    else must(ticks[i] == 0, "slot " i " is absent, and its write-cycle length is " ticks[i] ", not 0")
+    why = bad_pair(i, kind[i], ticks[i])
+    must(why == "", why)
+    must(kind[i] || !ticks[i], "slot " i " is absent, and its write-cycle length is " ticks[i] ", not 0")
     if (kind[i]) present++
-    if (kind[i] == 2) sensors++
+    if (has_sensor(kind[i])) sensors++
   }
 }
 function each(n, count, what) { return n " for each of " plural(count + 0, what) }
 
 function read_memory(   i, j) {
   head(2, 512 * present, each(512, present, "present slot"))
-  for (i = 0; i < 8; i++) {
+  for (i = 0; i < SLOTS; i++) {
     if (!kind[i]) continue
     memory[i] = at
     for (j = 0; j < 512; j++) next_byte("byte " j " of slot " i "'s memory")
@@ -70,7 +66,7 @@ function read_memory(   i, j) {
 
 function read_states(   i) {
   head(3, 4 * present, each(4, present, "present slot"))
-  for (i = 0; i < 8; i++) {
+  for (i = 0; i < SLOTS; i++) {
     if (!kind[i]) continue
     protection[i] = next_byte("slot " i "'s protection")
     must(protection[i] <= 15, "slot " i "'s protection is " hex(protection[i], 2) ", and there are four blocks, 00h to 0Fh")
@@ -92,8 +88,8 @@ function read_register(i, r,   what, high, low, mask) {
 }
 function read_sensors(   i, r) {
   head(4, 15 * sensors, each(15, sensors, "sensor"))
-  for (i = 0; i < 8; i++) {
-    if (kind[i] != 2) continue
+  for (i = 0; i < SLOTS; i++) {
+    if (!has_sensor(kind[i])) continue
     pointer[i] = next_byte("slot " i "'s pointer")
     must(pointer[i] <= 9, "slot " i "'s pointer is " hex(pointer[i], 2) ", not 00h to 09h")
     for (r = 1; r <= 7; r++) read_register(i, r)
@@ -107,15 +103,14 @@ function read_form() {
 }
 
 # ---- in words
-function kind_words(k) { return k == 2 ? "memory with sensor" : k ? "memory" : "absent" }
 function sum(   i, n, list) {
-  for (i = 0; i < 8; i++) if (kind[i]) list[++n] = i " (" kind_words(kind[i]) ")"
-  return plural(size, "byte") ", " (n ? (n == 1 ? "slot " : "slots ") listed(list, n) : "every slot absent")
+  for (i = 0; i < SLOTS; i++) if (kind[i]) list[++n] = i " (" kind_words(kind[i]) ")"
+  return plural(size, "byte") ", " (n ? (n == 1 ? "slot " : "slots ") joined(list, n) : "every slot absent")
 }
 
 function protection_words(v,   i, n, list) {
   for (i = 0; i < 4; i++) if (int(v / 2 ^ i) % 2) list[++n] = i
-  return n ? (n == 1 ? "block " : "blocks ") listed(list, n) " protected" : "no block protected"
+  return protected_words(list, n)
 }
 
 # Sixteenths of a degree: bits 12 to 0, two's complement.
@@ -171,13 +166,13 @@ function show_memory(i,   page, j, v, any, digits, text, shown) {
 function show_slot(i) {
   print "slot " i ": " kind_words(kind[i]) ", write cycle of " plural(ticks[i], "tick")
   print "  " protection_words(protection[i]) ", half " half[i] ", counter " hex(counter[i], 2) ", high voltage " (voltage[i] ? "on" : "off")
-  if (kind[i] == 2) show_sensor(i)
+  if (has_sensor(kind[i])) show_sensor(i)
   show_memory(i)
 }
 function show_slots(   i, last, which) {
-  for (i = 0; i < 8; i++) {
+  for (i = 0; i < SLOTS; i++) {
     if (kind[i]) { show_slot(i); continue }
-    for (last = i; last < 7 && !kind[last + 1]; last++) ;
+    for (last = i; last < SLOTS - 1 && !kind[last + 1]; last++) ;
     which = last > i ? "slots " i (last > i + 1 ? " to " : " and ") last : "slot " i
     print which ": absent"
     i = last
@@ -194,9 +189,8 @@ BEGIN {
 END {
   nbytes += 0; at = 0; size += 0; present = 0; sensors = 0
   read_form()
-  if (mode == "departs") { if (departure != "") print departure; exit }
-  if (departure != "") { print departure; exit 1 }
-  if (mode == "setup") for (i = 0; i < 8; i++) printf "%d %d%s", kind[i], ticks[i], i < 7 ? " " : "\n"
+  if (mode == "departs") print departure == "" ? "the place where it departs is not found here" : departure
+  if (mode == "setup") for (i = 0; i < SLOTS; i++) printf "%d %d%s", kind[i], ticks[i], i < SLOTS - 1 ? " " : "\n"
   if (mode == "sum") print sum()
   if (mode == "show") show_slots()
 }

@@ -21,14 +21,14 @@ words() {
 given() { if [ "$1" -eq 1 ]; then printf '1 file is'; else printf '%s files are' "$1"; fi; }
 
 # ---- a file that is said to hold a form: `saved FILE` sees that it does, by the word of the proved program `resume`
-# (./run resume), or of the command line that the environment variable RESUME names. That program's word counts; where
-# it refuses, the place is looked for here (saved.awk), and where the two do not agree one of them is wrong. Then
-# $work/form is the form with its length before it, as the program reads it.
-# telling MODE FILE: what saved.awk says of it
-telling() { od -An -v -tu1 -N65536 <"$2" | awk -f "$lib/saved.awk" -v mode="$1" -v size="$(wc -c <"$2")"; }
+# (./run resume), or of the command line that the environment variable RESUME names. That program's word alone counts;
+# where it refuses, the place is looked for here (saved.awk), so that it can be told. Then $work/form is the form with
+# its length before it, as the program reads it.
+# telling MODE FILE: what saved.awk tells of it
+telling() { od -An -v -tu1 -N65536 <"$2" | awk_by saved -v mode="$1" -v size="$(wc -c <"$2")"; }
 
 saved() {
-    local size said status departs
+    local size said status
     readable "$1"
     workplace
     size=$(wc -c <"$1")
@@ -37,12 +37,9 @@ saved() {
     { printf "$(printf '\\%03o' 0 $((size / 65536)) $((size / 256 % 256)) $((size % 256)))"; head -c "$size" <"$1"; } >"$work/form"
     said=$(program resume "${RESUME:-}" <"$work/form")
     status=$?
-    departs=$(telling departs "$1") || die "'$1' could not be read (awk failed)"
-    case $said,$status,$departs in
-    ,0,) ;;
-    R10,*,?*) say "'$1' is refused (10): $departs"; exit 1 ;;
-    ,0,*) die "THE TWO READERS DIFFER: the program resume accepts '$1', but it departs: $departs" ;;
-    R10,*) die "THE TWO READERS DIFFER: the program resume refuses '$1' (10), and no place is found where it departs" ;;
+    case $said,$status in
+    ,0) ;;
+    R10,*) say "'$1' is refused (10): $(telling departs "$1")"; exit 1 ;;
     ,*) die "the program resume could not be built or run" ;;
     *) die "the program resume gave something that is no verdict on '$1': $said" ;;
     esac

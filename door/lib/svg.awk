@@ -1,7 +1,7 @@
 # The story of a run (story.awk) as a picture for people, for ./plungerhen wave: plain SVG, no script, nothing from
 # outside.
 #
-# Reads the story's rows; CASE in the environment is the case's name. Writes the picture.
+# Reads the story's rows; CASE in the environment is the case's name. Writes the picture. bench.awk is read before this.
 #
 # The run flows in strips, one below the other, like staves of music. A strip has the case's comments on top, then the
 # bus, a lane for each present slot, and the time. A comment line of the case begins a new strip, and so does an
@@ -72,21 +72,12 @@ function in_words(a) {
   if (a ~ /^R/) return "refused " substr(a, 2)
   return a == "A" ? "ACK" : a == "N" ? "NACK" : a == "-" ? "nothing" : a == "short" ? "cut short" : a
 }
-# What the first byte after a start asks for, in two short lines.
-function asks(byte,   hex, i) {
-  if (byte >= 160 && byte < 176 || byte >= 48 && byte < 64)
-    return (byte % 2 ? "read" : "write") " slot " int(byte / 2) % 8 "|" (byte < 64 ? "sensor" : "memory")
-  hex = sprintf(" %02X", byte)
-  if (i = index(" 62 68 6A 60", hex)) return "protect|block " (i - 1) / 3
-  if (i = index(" 63 69 6B 61", hex)) return "is block " (i - 1) / 3 "|protected?"
-  return byte == 102 ? "clear|protection" : byte == 108 ? "select|half 0" : byte == 110 ? "select|half 1" : byte == 109 ? "which|half?" : ""
-}
 # The two short lines above an event.
 function words_above(n,   s) {
   s = words[n]
   if (kind[n] == REFUSED) { sub(/ /, "|", s); return s }
   if (kind[n] == POWER) return "power cycle" (value[n] ? "|keeps " value[n] : "")
-  return n in control ? asks(value[n]) : ""
+  return n in control ? called(value[n]) : ""
 }
 function width_of(n) {
   if (kind[n] == REFUSED) return max(FLAG, 5 * (length(words[n]) - index(words[n], " ")) + 8)
@@ -239,11 +230,7 @@ function blocks_of(bits, but_not,   b, list) {
   for (b = 1; b <= 4; b++) if (substr(bits, b, 1) == 1 && substr(but_not, b, 1) != 1) list = list " " b - 1
   return list
 }
-function in_a_row(list,   w, n, i, says) {
-  n = split(list, w, " ")
-  for (i = 1; i <= n; i++) says = says (i == 1 ? "" : i < n ? ", " : " and ") w[i]
-  return (n == 1 ? "block " : "blocks ") says
-}
+function in_a_row(list,   w) { return blocks_named(w, split(list, w, " ")) }
 function end_cycle(i, x,   y, w) {
   y = lane_y[i] + bar_y[i]; w = x - since_busy[i]
   if (busy[i] && w > 0)
@@ -272,12 +259,12 @@ function change(i, x, left, bits, on,   says) {
 }
 function draw_lanes(s, x_end,   i, p, w, k, j, f) {
   shades = marks = ""
-  for (i = 0; i < 8; i++) since_busy[i] = since_volts[i] = since_safe[i] = LEFT
+  for (i = 0; i < SLOTS; i++) since_busy[i] = since_volts[i] = since_safe[i] = LEFT
   for (p = strip_from[s]; p <= strip_to[s]; p++) {
     k = split(changes[last[p]], w, "\n")
     for (j = 1; j <= k; j++) { split(w[j], f, " "); change(f[1], kind[last[p]] == TICK ? at[p] + wide[p] : middle(p), f[2], f[3], f[4]) }
   }
-  for (i = 0; i < 8; i++) {
+  for (i = 0; i < SLOTS; i++) {
     if (!(i in module)) continue
     end_cycle(i, x_end); end_voltage(i, x_end); end_protection(i, x_end)
     marks = marks rect(LEFT, lane_y[i], x_end - LEFT, lane_high[i], "frame")
@@ -287,7 +274,7 @@ function draw_lanes(s, x_end,   i, p, w, k, j, f) {
 # At the left of the strip, before its lanes are drawn: what is protected here was so from its beginning.
 function draw_labels(n,   i, svg) {
   svg = text(6, bus_y + 13, "strong", "bus") (events ? text(6, bus_y + 23, "small", "line " line[n]) : text(LEFT, bus_y + 18, "small", "no events"))
-  for (i = 0; i < 8; i++) {
+  for (i = 0; i < SLOTS; i++) {
     if (!(i in module)) continue
     svg = svg text(6, lane_y[i] + 10, "strong", "slot " i) text(6, lane_y[i] + 20, "small", module[i])
     if (safe[i] ~ /1/) svg = svg text(6, lane_y[i] + 30, "small", "protected:" blocks_of(safe[i], ""))
@@ -334,7 +321,7 @@ function measure(s, y, notes,   p, i) {
   for (p = strip_from[s]; p <= strip_to[s]; p++) if (words_above(first[p]) != "") bus_y = words_y + 20
   y = bus_y + 31
   for (p = strip_from[s]; p <= strip_to[s]; p++) if (differs(first[p])) y = bus_y + 53
-  for (i = 0; i < 8; i++) if (i in module) { lane_y[i] = y; y += lane_high[i] + 3 }
+  for (i = 0; i < SLOTS; i++) if (i in module) { lane_y[i] = y; y += lane_high[i] + 3 }
   axis_y = y + 5
 }
 function draw_strip(s,   p, x_end, svg, notes) {
@@ -431,7 +418,7 @@ function print_pages(   b, y, page, n) {
   print "</svg>"
 }
 
-$1 == "P" { module[$2] = ($3 == 1 ? "memory, " : "sensor, ") $4 " ms" }
+$1 == "P" { module[$2] = KIND[$3] ", " $4 " ms" }
 $1 == "C" && $2 !~ /^ *#/ {
   setup = 1
   if (i = index($2, "#")) add_line(comments, events + 1, bare(substr($2, 1, i - 1)) ": " bare(substr($2, i)))
@@ -460,7 +447,7 @@ $1 == "S" {
 END {
   events += 0
   name = ENVIRON["CASE"] == "" ? "a case" : clean(ENVIRON["CASE"])
-  for (i = 0; i < 8; i++) {
+  for (i = 0; i < SLOTS; i++) {
     bar_y[i] = flagged[i] ? 14 : 6; lane_high[i] = bar_y[i] + (guarded[i] ? 30 : 13)
     if (lane_high[i] < 24) lane_high[i] = 24
   }

@@ -1,8 +1,9 @@
 # Places the ticks, which are not on the wires, among the events of a logic analyser's export, for ./plungerhen capture
 # --sigrok and --saleae (analyser).
 #
-# Reads the rows of beside.awk, then those of exports.awk; told.awk is read before this. Writes rows, fields parted by
-# tabs, times in nanoseconds; `-` where there is no number:
+# Reads what each told slot would do were it alone and ready (alone.awk), then the events (the rows W of exports.awk and
+# beside.awk, in order); bench.awk is read before this. Writes rows, fields parted by tabs, times in nanoseconds; `-`
+# where there is no number:
 #
 #   E  record's number from 0, time, line number, w (on the wires), b (beside) or t (a tick), kind, slot, value, answer,
 #      exchange (0 outside of any)
@@ -12,112 +13,97 @@
 #   U  slot, record and time of a command that it is taken not to have heard, the command, time of the stop that began
 #      its write cycle, a word for it
 #   O  what was left out, as exports.awk has it
+#   M  slot, event, and what alone.awk is to leave out of the slot's next run: the level, and whether it then stood
+#      otherwise than deaf; or `cut`, at a stop, for a cycle that power cuts
 #   N  exchanges, events on the wires, events beside them, ticks, time of the first event, time of the last
 #
 # and, behind these, F: slot, stop and end of one cycle, then slot, stop and last time at which it ran of another with
 # which no ticks fit, and the time of the stop with which the rows E then end.
 #
-# The rule. A stop may begin a cycle of a slot if it comes directly behind a write with data, or a protect or clear
-# command, of which every byte was acknowledged. The cycle is over (seen) before the start of the first exchange whose
-# control byte the slot acknowledged, or (clock) once as many milliseconds have passed as it has ticks; until then it
-# runs, if no power is lost. A tick counts for every slot: where a cycle is over, so is one that began no later and has
-# no more ticks (with). Whether a slot in a cycle heard a command that another could acknowledge, the wires do not show:
-# it is taken not to have, and its cycle to run there, but for the commands in `heard`, words of rows U (heard). Ticks
-# stand before gates only, which are the starts and the events beside the wires. With P(g) ticks up to gate g, a cycle
-# of n ticks from gate b on that ends before gate e asks for P(e) >= P(b) + n and P(e - 1) <= P(b) + n - 1. The least P
-# that do are taken. Where none do, a cycle need only run as long as it was seen to; where still none do, it is not
-# judged. What the model then says of it all is not known here.
+# The rule (docs/DECISIONS.md, 107 to 109 and 131). A cycle is over (seen) before the start of the first exchange whose
+# control byte the slot acknowledged, or (clock) once as many milliseconds have passed as it has ticks, or (with) where
+# one is that began no earlier and has no fewer ticks, unless power cuts it. A slot in a cycle is taken not to hear what
+# another acknowledges, but for the words of rows U in `heard` (heard). Ticks stand before gates only, which are the
+# starts and the events beside the wires. With P(g) ticks up to gate g, a cycle of n ticks from gate b on that ends
+# before gate e asks for P(e) >= P(b) + n and P(e - 1) <= P(b) + n - 1. The least P that do are taken.
 
-# ---- the events in order, those beside the wires before one on the wires of the same time
+# ---- the events
 function take(when, from, line, source, kind, slot, val, answer) {
-  row[++n] = from "\t" line "\t" source "\t" kind "\t" slot "\t" val "\t" answer
+  row[n] = from "\t" line "\t" source "\t" kind "\t" slot "\t" val "\t" answer
   if (n == 1) first_time = from
   last_time = from
+  if (source == "w") wires++
+  else besides++
   if (kind == 1) on_start(when)
   row[n] = row[n] "\t" (inside ? exchange : 0)
   if (kind == 2) on_byte(val, answer == "A")
   else if (kind == 3) spoiled = 1
   else if (kind == 4) on_stop(when)
-  else if (source == "b") on_beside(when, kind, slot, val)
-}
-function beside_until(when) {
-  while (next_beside <= nbeside && beside_at[next_beside] <= when) {
-    split(beside[next_beside++], b, "\t")
-    take(b[2] + 0, b[2], b[3], "b", b[4], b[5], b[6], "-")
-  }
+  else if (source == "b") on_beside(when, kind)
 }
 
 # ---- gates
 function new_gate(when,   s) {
   gate_at[++gates] = when; gate_row[n] = gates; row_of[gates] = n
-  for (s = 0; s < 8; s++) if ((s in open) && by_clock(open[s], gates)) ends(s, gates, "clock")
+  for (s = 0; s < SLOTS; s++) if ((s in open) && by_clock(open[s], gates)) ends(s, gates, "clock")
 }
-function on_start(when) {
+function on_start(when,   s) {
   if (!inside) exchange++
   inside = 1
-  control = -1; acked = behind = spoiled = 0
+  control = -1; spoiled = 0
+  for (s = 0; s < SLOTS; s++) delete deaf[s]
   new_gate(when)
   start_gate = gates
 }
-function on_beside(when, kind, slot, val,   s) {
+function on_beside(when, kind,   s) {
   new_gate(when)
-  if (kind == 7) { voltage[slot] = val; if (!val) delete armed[slot] }
-  for (s = 0; s < 8; s++) if (kind == 8 && (s in open)) { ends(s, gates, "power"); if (val) changes(s, order[latest[s]]) }
+  for (s = 0; s < SLOTS; s++) if (kind == 8 && (s in open)) { is_cut(s, open[s]); ends(s, gates, "power") }
   if (kind == 5 || kind == 8) { control = -2; inside = 0 }
 }
 
-# ---- bytes. `control` is -1 where a control byte is to come, -2 where none is; `behind` counts the bytes that follow
-# it.
+# ---- bytes. `control` is -1 where a control byte is to come, -2 where none is. deaf[] are the slots that did not hear
+# the last one since their cycles ran.
 function on_byte(val, ack) {
-  if (control == -1) { control = val; acked = ack; asked(val, ack) }
-  else if (ack) behind++
-  else spoiled = 1
+  if (control == -1) { control = val; asked(val, ack) }
+  if (!ack) spoiled = 1
 }
-function asked(val, ack,   s, upper) {
-  upper = int(val / 16)
-  if (upper == 10 || upper == 3) {
-    s = int(val / 2) % 8
-    if (ack) answers(s, val)
-    else if (upper == 10 || kind_of[s] == 2) declines(s)
-  }
-  else if (upper == 6 && ack) command(val)
-  else if (val == 108 || val == 110) for (s = 0; s < 8; s++) if (s in kind_of) declines(s)    # who is in no cycle acknowledges these
-}
-function command(val,   s) {
-  s = readiest(val)
+# A control byte shows that a slot that would acknowledge it is ready; or, if that takes no high voltage, that each that
+# would heed it is not.
+function asked(val, ack,   s) {
+  s = ack ? readiest(val) : -1
   if (s >= 0) answers(s, val)
-  for (s = 0; s < 8; s++) {
-    if (!(s in kind_of)) continue
-    if ((s in open) && ((n "," s) in forced)) { ended_by[open[s]] = val; ends(s, start_gate, "heard") }
-    hears(s, val)
+  for (s = 0; s < SLOTS; s++) {
+    if (!((n, s) in heeds)) continue
+    if (!ack && heeds[n, s] && ((val, s, 0) in could)) declines(s)
+    if ((s in open) && ack && ((n "," s) in forced)) { ended_by[open[s]] = val; ends(s, start_gate, "heard") }
+    if (!(s in open)) continue
+    deaf[s] = 1
+    unheard[open[s]] = unheard[open[s]] " " n
+    if (ack && heeds[n, s]) doubted(open[s], val)
+    if (out[n, s]) leave_out(s, n, out[n, s])
   }
 }
-# Whether a slot in no cycle acknowledges a command, by document 01's table: protect and clear want high voltage, and a
-# protected block says no.
-function may_ack(s, val) {
-  if (is_change(val)) return voltage[s] && !((s, val) in protected)
-  return val % 2 == 0 || val == 109 || !((s, val - 1) in protected)
+function leave_out(s, n, level) { left_out[s, n] = level "\t" heeds[n, s] }
+# The run of a slot whose cycle power cuts has no ticks behind the stop, so what it would have done were it ready is
+# kept from the run before.
+function is_cut(s, c,   m, w, i) {
+  left_out[s, stop_row[c]] = "cut\t0"
+  m = split(unheard[c], w, " ")
+  for (i = 1; i <= m; i++) leave_out(s, w[i], 2)
 }
-# Which slot it was that acknowledged a command, if none in no cycle could: the only told one, or of those that could
-# the one whose cycle has had the most of its time.
-function readiest(val,   s, part, most, best) {
+# Which slot it was that acknowledged a control byte: the only one that could; or, if all that would are in a cycle, the
+# one whose cycle has had the most of its time.
+function readiest(val,   s, many, part, most, best) {
+  for (s = 0; s < SLOTS; s++) if ((val, s, 1) in could) { best = s; many++ }
+  if (many == 1) return best
   best = -1
-  for (s = 0; s < 8; s++) {
-    if (!(s in kind_of)) continue
-    if (alone) return s
-    if (!may_ack(s, val)) continue
+  for (s = 0; s < SLOTS; s++) {
+    if (!((n, s) in heeds)) continue
     if (!(s in open)) return -1
     part = (gate_at[start_gate] - stop_at[open[s]]) / ticks_of[s]
     if (best < 0 || part > most) { most = part; best = s }
   }
   return best
-}
-# Some slot acknowledged a command. A half is for each that is in no cycle; so is a protect or clear, if its high
-# voltage is on and the block not protected already.
-function hears(s, val) {
-  if ((s in open) && (val == 108 || val == 110 || (is_change(val) && may_ack(s, val)))) doubted(open[s], val)
-  delete armed[s]
-  if (voltage[s] && !(s in open) && !((s, val) in protected)) armed[s] = 1
 }
 function doubted(c, val) {
   doubt[++doubts] = c; doubt_row[doubts] = n; doubt_at[doubts] = gate_at[start_gate]; doubt_byte[doubts] = val
@@ -141,33 +127,23 @@ function declines(s,   c) {
 }
 function by_clock(c, g) { return gate_at[g] - stop_at[c] >= 1e6 * ticks_of[slot_of[c]] }
 function on_stop(when,   s) {
-  if (control >= 0 && acked && !spoiled) {
-    s = int(control / 2) % 8
-    if (int(control / 16) == 10 && control % 2 == 0 && behind >= 2 && (s in kind_of)) begins(s, when)
-    if (is_change(control) && behind == 2) for (s = 0; s < 8; s++) if (s in armed) begins(s, when)
-  }
+  for (s = 0; s < SLOTS; s++)
+    if (control >= 0 && !spoiled && !(s in deaf) && ((n, s) in may_begin)) begins(s, when)
   control = -2; inside = 0
 }
 
 # ---- write cycles
-# 62h 68h 6Ah 60h protect a block, 66h clears all four.
-function is_change(val) { return val ~ /^(98|104|106|96|102)$/ }
-function changes(s, val) {
-  if (val == 102) { delete protected[s, 98]; delete protected[s, 104]; delete protected[s, 106]; delete protected[s, 96] }
-  else if (is_change(val)) protected[s, val] = 1
-}
 function begins(s, when) {
   open[s] = latest[s] = ++cycles
   slot_of[cycles] = s; stop_at[cycles] = when; stop_row[cycles] = n; from_gate[cycles] = busy_gate[cycles] = gates
-  how[cycles] = "open"; end_gate[cycles] = busy_at[cycles] = ""; order[cycles] = control
+  how[cycles] = "open"; end_gate[cycles] = busy_at[cycles] = ""
 }
 function ends(s, g, by,   c, d) {
   c = open[s]
   end_gate[c] = g; how[c] = by
   delete open[s]
   if (by == "power") return
-  changes(s, order[c])
-  for (d = 0; d < 8; d++) {
+  for (d = 0; d < SLOTS; d++) {
     if (!(d in open) || from_gate[open[d]] > from_gate[c] || ticks_of[d] > ticks_of[s]) continue
     with[open[d]] = c
     ends(d, g, by_clock(open[d], g) ? "clock" : "with")
@@ -283,8 +259,7 @@ function doubt_rows(last,   i, c) {
   }
 }
 function span(c, g) { return slot_of[c] "\t" time_or(stop_at[c]) "\t" (g == "" ? "-" : time_or(gate_at[g])) }
-function end_of_rows(   c, i, last) {
-  beside_until(1e17)
+function end_of_rows(   c, i, last, at) {
   place_ticks()
   last = loop ? stop_row[loop] : n
   for (c = 1; c <= cycles; c++) is_named[stop_row[c]] = 1
@@ -292,17 +267,20 @@ function end_of_rows(   c, i, last) {
   event_rows(last)
   cycle_rows(loop ? loop - 1 : cycles)
   doubt_rows(last)
-  for (i = 1; i <= left_out; i++) print omitted[i]
-  print "N\t" exchange + 0 "\t" wires + 0 "\t" nbeside + 0 "\t" P[loop ? from_gate[loop] : gates] + 0 "\t" first_time "\t" last_time
+  for (i = 1; i <= omissions; i++) print omitted[i]
+  for (i in left_out) { split(i, at, SUBSEP); print "M\t" at[1] "\t" at[2] "\t" left_out[i] }
+  print "N\t" exchange + 0 "\t" wires + 0 "\t" besides + 0 "\t" P[loop ? from_gate[loop] : gates] + 0 "\t" first_time "\t" last_time
   if (loop) print "F\t" span(inner, end_gate[inner]) "\t" span(outer, outer == unfit ? unfit_gate : busy_gate[outer]) "\t" time_or(stop_at[loop])
 }
 
 BEGIN {
-  FS = "\t"; alone = told_slots() == 1; next_beside = 1; control = -2
+  FS = "\t"; told_slots(); control = -2
   m = split(heard, word, " ")
   for (i = 1; i <= m; i++) forced[word[i]] = 1
 }
-$1 == "X" { beside[++nbeside] = $0; beside_at[nbeside] = $2 + 0 }
-$1 == "W" { beside_until($2 + 0); wires++; take($2 + 0, $3, $4, "w", $5, 0, $6, $7) }
-$1 == "O" { omitted[++left_out] = $0 }
+$1 == "Q" { heeds[$2, $3] = $4; out[$2, $3] = $5 }
+$1 == "C" { could[$2, $3, $4] = 1 }
+$1 == "B" { may_begin[$2, $3] = 1 }
+$1 == "W" { n++; take($2 + 0, $3, $4, $5, $6, $7, $8, $9) }
+$1 == "O" { omitted[++omissions] = $0 }
 END { end_of_rows() }

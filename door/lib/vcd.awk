@@ -1,5 +1,5 @@
 # The story of a run (story.awk) as a VCD file, for ./plungerhen wave: the two wires at 100 kHz, and what is beside
-# them. CASE in the environment is the case's name.
+# them. CASE in the environment is the case's name; bench.awk is read before this.
 #
 # SCL and SDA stand high at rest. SDA moves while SCL is low, two microseconds behind its fall, but for a start (it
 # falls while SCL is high) and a stop (it rises). Where nobody drives it, SDA goes up. Comments stand before the first
@@ -43,7 +43,7 @@ function header(   i, name) {
   print "$var wire 1 c SCL $end"
   print "$var wire 1 d SDA $end"
   print "$var wire 1 p power $end"
-  for (i = 0; i < 8; i++) {
+  for (i = 0; i < SLOTS; i++) {
     if (!(i in present)) continue
     print "$var wire 1 w" i " slot" i "_write_cycle $end"
     if (i in voltage_set) print "$var wire 1 v" i " slot" i "_voltage $end"
@@ -54,7 +54,7 @@ function header(   i, name) {
   print "#0"
   print "$dumpvars"
   print "1c"; print "1d"; print "1p"
-  for (i = 0; i < 8; i++) {
+  for (i = 0; i < SLOTS; i++) {
     if (i in present) print "0w" i
     if (i in voltage_set) print "0v" i
   }

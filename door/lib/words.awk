@@ -1,7 +1,7 @@
 # The words of the case files (examples/cases/README.md): setup lines, events and answers, read into the script's bytes,
 # and told from them. Shared by the commands of ./plungerhen that read a case (reading.awk), a capture or an export, and
 # by the examples of tests/plan, tests/save and tests/list, which put their own part behind this one; it does nothing by
-# itself.
+# itself. bench.awk is read before this.
 #
 #   parted()          the line in $0: `left` -> `right`, `arrow` where there is one, `note` the comment; 0 if it has
 #                     nothing else
@@ -23,7 +23,6 @@
 
 function bad(sentence) { if (!wrong) printf "B\t%d\t%s\n", NR, sentence; wrong = 1; exit }
 function trim(s) { sub(/^ +/, "", s); sub(/ +$/, "", s); return s }
-function octal(b) { return sprintf("\\%03o", b) }
 
 # A line: events, or what else stands on the left, then an arrow and what is answered, then a comment.
 function parted(   text, at) {
@@ -49,7 +48,7 @@ function number(s,   i, low) {
   for (i = 1; i < length(low); i++) value = value * 16 + index("0123456789abcdef", substr(low, i, 1)) - 1
   return 1
 }
-function from_hex(digits) { number(digits "h"); return value }
+function from_hex(digits) { return number(digits "h") ? value : 0 }
 function decimal(s, least, most, what) {
   if (s !~ /^-?[0-9]+$/ || !number(s) || value < least || value > most)
     bad("\"" s "\" is no " what " (a decimal number from " least " to " most ")")
@@ -60,6 +59,7 @@ function any(s, least, most, what) {
     bad("\"" s "\" is no " what " (a number from " least " to " most "; hex numbers end in h)")
   return value
 }
+function slot_number(s) { return decimal(s, 0, SLOTS - 1, "slot number") }
 function hex(s, most, what) {
   if (s !~ /h$/ || !number(s) || value > most)
     bad("\"" s "\" is no " what " (hex with an h at the end, 00h to " toupper(sprintf("%02x", most)) "h)")
@@ -83,22 +83,23 @@ function spread(w, at, n,   i, j, m, star, times, plain) {
 function add(kind, slot, val, sure) {
   if (cut) bad("a record was cut short before this event; nothing can follow it")
   told[++nline] = record_words(kind, slot, val); counted[nline] = sure
-  if (val < 0) val += 65536
-  input = input octal(kind) octal(slot) octal(int(val / 256)) octal(val % 256)
-  code[nline] = sprintf("%02X%02X%04X", kind, slot, val)
+  input = input record_octals(kind, slot, val)
+  code[nline] = sprintf("%02X%02X%04X", kind, slot, val < 0 ? val + 65536 : val)
 }
 function wants(n, least, most, form) {
   if (n < least || n > most) bad("the form is: " form)
 }
-function reads(count, sure,   i) {
-  for (i = 1; i <= count; i++) add(3, 0, i < count, sure)
-}
+function reads(count,   i) { for (i = 1; i <= count; i++) add(3, 0, i < count, "") }
+# The short forms: a write begins with a control byte and a byte, and a read back follows it.
+function writes(control, byte) { add(1, 0, 0, "-"); add(2, 0, control, "A"); add(2, 0, byte, "A") }
+function reads_back(control, count) { add(1, 0, 0, "-"); add(2, 0, control, "A"); reads(count); add(4, 0, 0, "-") }
 
 function event(part,   w, n, i, k, s, v, bytes, digits, words) {
   n = split(part, w, " ")
-  if (w[1] == "start") { wants(n, 1, 1, "start"); add(1, 0, 0, "") }
-  else if (w[1] == "stop") { wants(n, 1, 1, "stop"); add(4, 0, 0, "") }
-  else if (w[1] == "timeout") { wants(n, 1, 1, "timeout"); add(5, 0, 0, "") }
+  if (w[1] ~ /^(start|stop|timeout)$/) {
+    wants(n, 1, 1, w[1])
+    add(w[1] == "start" ? 1 : w[1] == "stop" ? 4 : 5, 0, 0, "")
+  }
   else if (w[1] == "power") {
     wants(n, 1, 2, "power, or power NUMBER")
     v = n == 2 ? decimal(w[2], -32768, 32767, "value that a record can hold") : 0
@@ -118,7 +119,7 @@ function event(part,   w, n, i, k, s, v, bytes, digits, words) {
     wants(n, 2, 2, "read ack, read nack, or read COUNT")
     if (w[2] == "ack") add(3, 0, 1, "")
     else if (w[2] == "nack") add(3, 0, 0, "")
-    else reads(decimal(w[2], 1, 10000, "count"), "")
+    else reads(decimal(w[2], 1, 10000, "count"))
   }
   else if (w[1] == "voltage") {
     wants(n, 3, 3, "voltage SLOT on, or voltage SLOT off")
@@ -154,38 +155,28 @@ function event(part,   w, n, i, k, s, v, bytes, digits, words) {
   else if (w[1] == "write") {
     wants(n, 4, 1000, "write SLOT COUNTER: BYTE..., as in: write 0 1Eh: 01h 02h")
     if (w[3] !~ /:$/) bad("the form is: write SLOT COUNTER: BYTE..., as in: write 0 1Eh: 01h 02h")
-    s = decimal(w[2], 0, 7, "slot number"); sub(/:$/, "", w[3]); v = hex(w[3], 255, "counter")
+    s = slot_number(w[2]); sub(/:$/, "", w[3]); v = hex(w[3], 255, "counter")
     n = spread(w, 4, n)
-    add(1, 0, 0, "-")
-    add(2, 0, 160 + 2 * s, "A"); add(2, 0, v, "A")
+    writes(memory_byte(s, 0), v)
     for (i = 4; i <= n; i++) { v = hex(w[i], 255, "byte"); add(2, 0, v, "") }
     add(4, 0, 0, "-")
   }
   else if (w[1] == "look") {
     wants(n, 4, 4, "look SLOT COUNTER COUNT, as in: look 0 1Eh 2")
-    s = decimal(w[2], 0, 7, "slot number"); v = hex(w[3], 255, "counter"); k = decimal(w[4], 1, 10000, "count")
-    add(1, 0, 0, "-")
-    add(2, 0, 160 + 2 * s, "A"); add(2, 0, v, "A")
-    add(1, 0, 0, "-")
-    add(2, 0, 161 + 2 * s, "A"); reads(k, "")
-    add(4, 0, 0, "-")
+    s = slot_number(w[2]); v = hex(w[3], 255, "counter"); k = decimal(w[4], 1, 10000, "count")
+    writes(memory_byte(s, 0), v); reads_back(memory_byte(s, 1), k)
   }
   else if (w[1] == "set") {
     wants(n, 4, 4, "set SLOT REGISTER WORD, as in: set 3 02h 0500h")
-    s = decimal(w[2], 0, 7, "slot number"); k = hex(w[3], 255, "register"); v = hex(w[4], 65535, "word")
-    add(1, 0, 0, "-")
-    add(2, 0, 48 + 2 * s, "A"); add(2, 0, k, "A")
+    s = slot_number(w[2]); k = hex(w[3], 255, "register"); v = hex(w[4], 65535, "word")
+    writes(sensor_byte(s, 0), k)
     add(2, 0, int(v / 256), ""); add(2, 0, v % 256, "")
     add(4, 0, 0, "-")
   }
   else if (w[1] == "get") {
     wants(n, 3, 3, "get SLOT REGISTER, as in: get 3 05h")
-    s = decimal(w[2], 0, 7, "slot number"); k = hex(w[3], 255, "register")
-    add(1, 0, 0, "-")
-    add(2, 0, 48 + 2 * s, "A"); add(2, 0, k, "A")
-    add(1, 0, 0, "-")
-    add(2, 0, 49 + 2 * s, "A"); reads(2, "")
-    add(4, 0, 0, "-")
+    s = slot_number(w[2]); k = hex(w[3], 255, "register")
+    writes(sensor_byte(s, 0), k); reads_back(sensor_byte(s, 1), 2)
   }
   else if (w[1] == "slot" || w[1] == "setup") bad("a setup line stands alone, without ;")
   else bad("\"" w[1] "\" is no event")
@@ -197,28 +188,26 @@ function setupwords(left,   w, n, i) {
   if (w[1] == "slot") {
     if (form == "setup") bad("either slot lines or one setup line, not both")
     wants(n, 3, 4, "slot NUMBER absent|memory|sensor LENGTH")
-    i = decimal(w[2], 0, 7, "slot number")
+    i = slot_number(w[2])
     if (i in kind) bad("slot " i " is named twice")
-    if (w[3] == "absent") kind[i] = 0
-    else if (w[3] == "memory") kind[i] = 1
-    else if (w[3] == "sensor") kind[i] = 2
-    else bad("a slot is absent, memory or sensor, not \"" w[3] "\"")
+    kind[i] = kind_named(w[3])
+    if (kind[i] < 0) bad("a slot is absent, memory or sensor, not \"" w[3] "\"")
     if (n == 3 && kind[i]) bad("the write-cycle length is missing: slot NUMBER " w[3] " LENGTH")
     size[i] = n == 4 ? decimal(w[4], 0, 255, "length that a setup can hold") : 0
   } else {
     if (form != "") bad(form == "slot" ? "either slot lines or one setup line, not both" : "a second setup line")
-    if (n > 17) bad("a setup has 16 numbers at most, here are " n - 1)
+    if (n > 2 * SLOTS + 1) bad("a setup has " 2 * SLOTS " numbers at most, here are " n - 1)
     for (i = 2; i <= n; i++) {
       setup = setup octal(any(w[i], 0, 255, "setup number"))
       if (i % 2) size[(i - 3) / 2] = value
       else kind[(i - 2) / 2] = value
     }
-    if (n < 17) cut = 1
+    if (n < 2 * SLOTS + 1) cut = 1
   }
   form = w[1]
 }
 function setupbytes(   i) {
-  if (form != "setup") for (i = 0; i < 8; i++) setup = setup octal(kind[i] + 0) octal(size[i] + 0)
+  if (form != "setup") for (i = 0; i < SLOTS; i++) setup = setup octal(kind[i] + 0) octal(size[i] + 0)
   return setup
 }
 
@@ -254,6 +243,11 @@ function match_list(   i, open, next_want) {
 }
 
 # ---- records and answers in words
+# kind, slot and value of a record in hex digits
+function record_of(digits,   val) {
+  val = from_hex(substr(digits, 5))
+  return from_hex(substr(digits, 1, 2)) "\t" from_hex(substr(digits, 3, 2)) "\t" (val < 32768 ? val : val - 65536)
+}
 function record_words(kind, slot, val,   plain) {
   if (val >= 32768) val -= 65536
   split("start - - stop timeout tick", plain, " ")
@@ -264,6 +258,12 @@ function record_words(kind, slot, val,   plain) {
   if (kind == 8) return val ? "power " val : "power"
   if (kind == 9) return "temperature " slot " " val
   return "event " kind " " slot " " val
+}
+# An answer as a capture has it: its code and its byte
+function answer_octals(a) {
+  if (a ~ /^D/) return octal(3) octal(from_hex(substr(a, 2)))
+  if (a ~ /^R/) return octal(4) octal(substr(a, 2))
+  return octal(index("-AN", a) - 1) octal(0)
 }
 function answer_words(a) {
   if (a == "A") return "ACK"

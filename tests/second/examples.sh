@@ -27,7 +27,7 @@ each_example() {
     for file; do
         name=${file#"$root"/}
         [ -f "$file" ] && [ -r "$file" ] || { printf '%s: no such file, or not readable\n' "$name" >&2; exit 2; }
-        awk "$(<"$root/door/lib/words.awk")$reading" <"$file" >"$work/rows"
+        awk "$(cat "$root"/door/lib/{bench,words}.awk)$reading" <"$file" >"$work/rows"
         IFS=$'\t' read -r row line why <"$work/rows"
         case $row in
         B) printf '%s, line %s: %s\n' "$name" "$line" "$why" >&2; exit 2 ;;
