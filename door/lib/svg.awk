@@ -230,7 +230,7 @@ function blocks_of(bits, but_not,   b, list) {
   for (b = 1; b <= 4; b++) if (substr(bits, b, 1) == 1 && substr(but_not, b, 1) != 1) list = list " " b - 1
   return list
 }
-function in_a_row(list,   w) { return blocks_named(w, split(list, w, " ")) }
+function in_a_row(list,   w, n) { n = split(list, w, " "); return blocks_named(w, n) }
 function end_cycle(i, x,   y, w) {
   y = lane_y[i] + bar_y[i]; w = x - since_busy[i]
   if (busy[i] && w > 0)
