@@ -1,14 +1,9 @@
-# A saved bench (request P5, "Saving a bench overnight") read field by field, for ./plungerhen save, show and resume:
-# its bytes on standard input, as od -tu1 gives them.
+# Where a saved bench (request P5, "Saving a bench overnight") that the program `show` has refused departs from the form,
+# and why, in words, for ./plungerhen show and resume: its bytes on standard input, as od -tu1 gives them.
 #
-#   mode  departs  of a form that the program resume has refused: the first place where it departs, and why, in words
-#         setup    the numbers of its setup
-#         sum      how long it is and which slots there are, in words
-#         show     all of it in words
 #   size  how many bytes it has; what stands behind byte 65,535 is not read, since a form is shorter
 #
-# What is accepted and what refused only the program says: the other modes tell the bytes as they stand. bench.awk is
-# read before this.
+# What is accepted and what refused only the program says. bench.awk is read before this.
 
 function hex(v, digits) { return sprintf("%0" digits "Xh", v) }
 function place(at) { return hex(at, 4) " (" at ")" }
@@ -102,83 +97,6 @@ function read_form() {
   if (at < size) depart(at, "the form ends before this byte, and " (size - at == 1 ? "1 byte follows" : sprintf("%.0f", size - at) " bytes follow"))
 }
 
-# ---- in words
-function sum(   i, n, list) {
-  for (i = 0; i < SLOTS; i++) if (kind[i]) list[++n] = i " (" kind_words(kind[i]) ")"
-  return plural(size, "byte") ", " (n ? (n == 1 ? "slot " : "slots ") joined(list, n) : "every slot absent")
-}
-
-function protection_words(v,   i, n, list) {
-  for (i = 0; i < 4; i++) if (int(v / 2 ^ i) % 2) list[++n] = i
-  return protected_words(list, n)
-}
-
-# Sixteenths of a degree: bits 12 to 0, two's complement.
-function degrees(v,   text) {
-  v %= 8192
-  if (v >= 4096) v -= 8192
-  text = sprintf("%.4f", v / 16)
-  sub(/\.?0+$/, "", text)
-  return text (text == "1" || text == "-1" ? " degree" : " degrees")
-}
-function configuration_words(v,   text) {
-  text = "hysteresis " substr("0  1.53  6  ", 3 * (int(v / 512) % 4) + 1, 3)
-  sub(/ +$/, "", text)
-  text = text " degrees, " (int(v / 256) % 2 ? "shut down" : "not shut down")
-  text = text (int(v / 128) % 2 ? ", critical limit locked" : "") (int(v / 64) % 2 ? ", high and low limit locked" : "")
-  return text (int(v / 64) % 4 ? "" : ", no lock") ", event bits " v % 16
-}
-function temperature_words(v,   text) {
-  text = (int(v / 32768) % 2 ? ", critical" : "") (int(v / 16384) % 2 ? ", above high" : "") (int(v / 8192) % 2 ? ", below low" : "")
-  return degrees(v) (text == "" ? ", no flag" : text)
-}
-function register_words(r, v) {
-  if (r == 1) return configuration_words(v)
-  if (r <= 4) return degrees(v)
-  if (r == 5) return temperature_words(v)
-  if (r == 6) return "steps of " substr("0.5   0.25  0.125 0.0625", 6 * v + 1, 6)
-  return v ? "on" : "off"
-}
-function show_sensor(i,   r, text) {
-  print "  pointer " hex(pointer[i], 2)
-  for (r = 1; r <= 7; r++) {
-    text = register_words(r, register[i, r]); sub(/ +$/, "", text)
-    printf "  %s %-13s  %s  %s\n", hex(number[r], 2), name[r], hex(register[i, r], 4), text (r == 6 ? " degrees" : "")
-  }
-}
-
-# The lines of sixteen bytes in which one is not FFh.
-function show_memory(i,   page, j, v, any, digits, text, shown) {
-  for (page = 0; page < 512; page += 16) {
-    digits = text = ""; any = 0
-    for (j = 0; j < 16; j++) {
-      v = b[memory[i] + page + j]
-      if (v != 255) any = 1
-      digits = digits (j == 8 ? "  " : " ") sprintf("%02X", v)
-      text = text (v >= 32 && v <= 126 ? sprintf("%c", v) : ".")
-    }
-    if (!any) continue
-    if (!shown++) print "  memory, but for lines of FFh"
-    printf "  %s %s   %s\n", hex(page, 3), digits, text
-  }
-  if (!shown) print "  memory: FFh in every byte"
-}
-function show_slot(i) {
-  print "slot " i ": " kind_words(kind[i]) ", write cycle of " plural(ticks[i], "tick")
-  print "  " protection_words(protection[i]) ", half " half[i] ", counter " hex(counter[i], 2) ", high voltage " (voltage[i] ? "on" : "off")
-  if (has_sensor(kind[i])) show_sensor(i)
-  show_memory(i)
-}
-function show_slots(   i, last, which) {
-  for (i = 0; i < SLOTS; i++) {
-    if (kind[i]) { show_slot(i); continue }
-    for (last = i; last < SLOTS - 1 && !kind[last + 1]; last++) ;
-    which = last > i ? "slots " i (last > i + 1 ? " to " : " and ") last : "slot " i
-    print which ": absent"
-    i = last
-  }
-}
-
 BEGIN {
   title[1] = "setup"; title[2] = "memory"; title[3] = "protection, half, counter, high voltage"; title[4] = "sensors"
   split("1 2 3 4 5 8 9", number, " ")
@@ -189,8 +107,5 @@ BEGIN {
 END {
   nbytes += 0; at = 0; size += 0; present = 0; sensors = 0
   read_form()
-  if (mode == "departs") print departure == "" ? "the place where it departs is not found here" : departure
-  if (mode == "setup") for (i = 0; i < SLOTS; i++) printf "%d %d%s", kind[i], ticks[i], i < SLOTS - 1 ? " " : "\n"
-  if (mode == "sum") print sum()
-  if (mode == "show") show_slots()
+  print departure == "" ? "the place where it departs is not found here" : departure
 }

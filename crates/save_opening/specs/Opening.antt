@@ -45,8 +45,8 @@ beginOf head form out =
     (cond (tooLong head) (stoppedBy badFormLine out)
     (cond (ltb (length form) (formBytes head)) (stoppedBy shortLine out) (begunBy (restoreOf emptyBus startingMemory form) out)))
 
--- "A length above 65,535 is `R10` at once; a form that is cut is `short`", and so is a length that is: what a program that begins so writes for all that
--- it reads, where `k` has what it writes for a form that came whole and for what stands behind it
+-- "A length above 65,535 is `R10` at once; a form that is cut is `short`", and so is a length that is: what a program that begins so writes for all
+-- that it reads, where `k` has what it writes for a form that came whole and for what stands behind it
 unfoldable pub openedBy : (List ℕ → List ℕ → List ℕ) → List ℕ → List ℕ
 openedBy k bs =
     cond (ltb (length bs) 4) shortLine

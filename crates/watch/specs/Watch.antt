@@ -28,7 +28,8 @@ recordTexts x bs (suc n) = recordText (recordAt bs 0) x ++ recordTexts (next (re
 unfoldable pub benchText : Bench → List ℕ → List ℕ
 benchText x bs = recordTexts x bs (recordsIn bs) ++ ending bs
 
--- "(for all of them behind the setup)": all that the program writes, for all that it reads; a cut setup and a bad one are told as the script tells them
+-- "(for all of them behind the setup)": all that the program writes, for all that it reads; a cut setup and a bad one are told as the script tells
+-- them
 unfoldable pub watchOf : List ℕ → List ℕ
 watchOf bs =
     cond (ltb (length bs) 16) shortLine
