@@ -12,6 +12,8 @@ BEGIN {
   name_bytes("clear", "66", "clear|protection")
   name_bytes("half", "6C 6E", "select|half %d")
   name_bytes("which half", "6D", "which|half?")
+  REGISTERS = split("1 2 3 4 5 8 9", REGISTER, " ")    # those that a form keeps, and their names
+  split("configuration high low critical temperature resolution timeout", REGISTER_NAME, " ")
 }
 function name_bytes(word, bytes, told,   w, n, i) {
   n = split(bytes, w, " ")
@@ -33,6 +35,7 @@ function called(byte) {
 
 # ---- words and escapes
 function fail(sentence) { print sentence; exit 1 }
+function hex(v, digits) { return sprintf("%0" digits "Xh", v) }
 function plural(n, word) { return n " " word (n == 1 ? "" : "s") }
 function joined(list, n,   i, text) {
   for (i = 1; i <= n; i++) text = text (i == 1 ? "" : i < n ? ", " : " and ") list[i]

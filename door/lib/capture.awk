@@ -42,7 +42,7 @@ function memory_line(   slot, rest, w, n, i, bytes) {
   n = split(substr(rest, 2), w, " ")
   n = spread(w, 1, n)
   if (n > 512) bad("a slot has 512 bytes, and here are " n)
-  for (i = 1; i <= n; i++) bytes = bytes octal(hex(w[i], 255, "byte"))
+  for (i = 1; i <= n; i++) bytes = bytes octal(hex_word(w[i], 255, "byte"))
   row("M\t" NR "\t" slot "\t" bytes)
 }
 

@@ -5,7 +5,6 @@
 #
 # What is accepted and what refused only the program says. bench.awk is read before this.
 
-function hex(v, digits) { return sprintf("%0" digits "Xh", v) }
 # the bits of v that are not in mask
 function outside(v, mask,   bit, rest) {
   for (bit = 1; bit <= v; bit *= 2) if (int(v / bit) % 2 && !(int(mask / bit) % 2)) rest += bit
@@ -60,7 +59,7 @@ function read_register(what, mask,   v) {
 }
 function read_sensor(of,   r) {
   bounded(of "pointer", 9, "%02Xh", "not 00h to 09h")
-  for (r = 1; r <= 7; r++) read_register(of "register " hex(number[r], 2) " (" name[r] ")", kept[r])
+  for (r = 1; r <= REGISTERS; r++) read_register(of "register " hex(REGISTER[r], 2) " (" REGISTER_NAME[r] ")", kept[r])
 }
 function read_form(   i, j) {
   head(1, 2, SLOTS, "slot")
@@ -77,8 +76,6 @@ function read_form(   i, j) {
 
 BEGIN {
   split("setup;memory;protection, half, counter, high voltage;sensors", title, ";")
-  split("1 2 3 4 5 8 9", number, " ")
-  split("configuration high low critical temperature resolution timeout", name, " ")
   split("1999 8188 8188 8188 65535 3 1", kept, " ")      # 07CFh, 1FFCh three times, FFFFh, 0003h, 0001h
 }
 { for (i = 1; i <= NF; i++) b[nbytes++] = $i + 0 }

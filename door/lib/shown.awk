@@ -8,7 +8,6 @@
 #
 # bench.awk is read before this.
 
-function hex(v, digits) { return sprintf("%0" digits "Xh", v) }
 # a number of a slot, by its name
 function of(i, name) { return (i in slot) ? number_of(slot[i], name) : 0 }
 
@@ -50,9 +49,9 @@ function register_words(r, v) {
 }
 function show_sensor(i,   r, text) {
   print "  pointer " hex(of(i, "pointer"), 2)
-  for (r = 1; r <= 7; r++) {
-    text = register_words(r, of(i, name[r])); sub(/ +$/, "", text)
-    printf "  %s %-13s  %s  %s\n", hex(number[r], 2), name[r], hex(of(i, name[r]), 4), text (r == 6 ? " degrees" : "")
+  for (r = 1; r <= REGISTERS; r++) {
+    text = register_words(r, of(i, REGISTER_NAME[r])); sub(/ +$/, "", text)
+    printf "  %s %-13s  %s  %s\n", hex(REGISTER[r], 2), REGISTER_NAME[r], hex(of(i, REGISTER_NAME[r]), 4), text (r == 6 ? " degrees" : "")
   }
 }
 
@@ -91,8 +90,6 @@ function show_slots(   i, last, which) {
 
 BEGIN {
   while ((getline line <lines) > 0) slot[line + 0] = line
-  split("1 2 3 4 5 8 9", number, " ")
-  split("configuration high low critical temperature resolution timeout", name, " ")
   memory = 3 + 2 * SLOTS + 3      # behind the field of the setup, and the tag and length of its own
 }
 { for (i = 1; i <= NF; i++) b[nbytes++] = $i + 0 }

@@ -60,7 +60,7 @@ function any(s, least, most, what) {
   return value
 }
 function slot_number(s) { return decimal(s, 0, SLOTS - 1, "slot number") }
-function hex(s, most, what) {
+function hex_word(s, most, what) {
   if (s !~ /h$/ || !number(s) || value > most)
     bad("\"" s "\" is no " what " (hex with an h at the end, 00h to " toupper(sprintf("%02x", most)) "h)")
   return value
@@ -113,7 +113,7 @@ function event(part,   w, n, i, k, s, v, bytes, digits, words) {
   else if (w[1] == "byte") {
     wants(n, 2, 1000, "byte HEX..., as in: byte A0h 00h")
     n = spread(w, 2, n)
-    for (i = 2; i <= n; i++) { v = hex(w[i], 255, "byte"); add(2, 0, v, "") }
+    for (i = 2; i <= n; i++) { v = hex_word(w[i], 255, "byte"); add(2, 0, v, "") }
   }
   else if (w[1] == "read") {
     wants(n, 2, 2, "read ack, read nack, or read COUNT")
@@ -155,27 +155,27 @@ function event(part,   w, n, i, k, s, v, bytes, digits, words) {
   else if (w[1] == "write") {
     wants(n, 4, 1000, "write SLOT COUNTER: BYTE..., as in: write 0 1Eh: 01h 02h")
     if (w[3] !~ /:$/) bad("the form is: write SLOT COUNTER: BYTE..., as in: write 0 1Eh: 01h 02h")
-    s = slot_number(w[2]); sub(/:$/, "", w[3]); v = hex(w[3], 255, "counter")
+    s = slot_number(w[2]); sub(/:$/, "", w[3]); v = hex_word(w[3], 255, "counter")
     n = spread(w, 4, n)
     writes(memory_byte(s, 0), v)
-    for (i = 4; i <= n; i++) { v = hex(w[i], 255, "byte"); add(2, 0, v, "") }
+    for (i = 4; i <= n; i++) { v = hex_word(w[i], 255, "byte"); add(2, 0, v, "") }
     add(4, 0, 0, "-")
   }
   else if (w[1] == "look") {
     wants(n, 4, 4, "look SLOT COUNTER COUNT, as in: look 0 1Eh 2")
-    s = slot_number(w[2]); v = hex(w[3], 255, "counter"); k = decimal(w[4], 1, 10000, "count")
+    s = slot_number(w[2]); v = hex_word(w[3], 255, "counter"); k = decimal(w[4], 1, 10000, "count")
     writes(memory_byte(s, 0), v); reads_back(memory_byte(s, 1), k)
   }
   else if (w[1] == "set") {
     wants(n, 4, 4, "set SLOT REGISTER WORD, as in: set 3 02h 0500h")
-    s = slot_number(w[2]); k = hex(w[3], 255, "register"); v = hex(w[4], 65535, "word")
+    s = slot_number(w[2]); k = hex_word(w[3], 255, "register"); v = hex_word(w[4], 65535, "word")
     writes(sensor_byte(s, 0), k)
     add(2, 0, int(v / 256), ""); add(2, 0, v % 256, "")
     add(4, 0, 0, "-")
   }
   else if (w[1] == "get") {
     wants(n, 3, 3, "get SLOT REGISTER, as in: get 3 05h")
-    s = slot_number(w[2]); k = hex(w[3], 255, "register")
+    s = slot_number(w[2]); k = hex_word(w[3], 255, "register")
     writes(sensor_byte(s, 0), k); reads_back(sensor_byte(s, 1), 2)
   }
   else if (w[1] == "slot" || w[1] == "setup") bad("a setup line stands alone, without ;")
