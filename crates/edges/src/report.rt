@@ -109,20 +109,11 @@ pub fn answer(a: Answer) {
     }
 }
 
-// Whether two slots hold the same, number by number.
-fn same(a: Slot, b: Slot) -> bool {
-    let mut all = true;
-    for k in 1..58usize {
-        all = all & (state::peek(a, k) == state::peek(b, k));
-    }
-    all
-}
-
 // Which slots are not the same: each is told by its number. Whether there is none.
 fn unlike(was: [Slot; 8], now: [Slot; 8]) -> bool {
     let mut none = true;
     for i in 0..8usize {
-        if !same(was[i], now[i]) {
+        if !watch_text::numbers::same_numbers(was[i], now[i]) {
             count(i);
             none = false;
         }

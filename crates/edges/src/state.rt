@@ -1,5 +1,5 @@
-// What the tries of `edges` hand in: a memory, and numbers of a slot. These are counted 1 to 57: kind, length,
-// ticks left, half, counter, place, voltage and phase, protection from 9, what is to come from 13, the latch from 17 and its marks from 33,
+// What the tries of `edges` hand in: a memory, and numbers of a slot. These are counted 1 to 57, in the order of `watch_text::numbers`: kind,
+// length, ticks left, half, counter, place, voltage and phase, protection from 9, what is to come from 13, the latch from 17 and its marks from 33,
 // and the sensor from 49.
 ghost use Prim.Native.Nat.{_≤_};
 use super::names::MISSING;
@@ -8,26 +8,6 @@ use super::names::WORD;
 use rules::Phase;
 use rules::Sensor;
 use rules::Slot;
-
-fn phase_number(p: Phase) -> u16 {
-    match p {
-        Phase::Idle => 0,
-        Phase::Control => 1,
-        Phase::Deaf => 2,
-        Phase::MemoryCounter => 3,
-        Phase::MemoryData => 4,
-        Phase::MemoryRead => 5,
-        Phase::HalfSelected => 6,
-        Phase::CommandAddress => 7,
-        Phase::CommandData => 8,
-        Phase::CommandStop => 9,
-        Phase::SensorPointer => 10,
-        Phase::SensorHigh => 11,
-        Phase::SensorLow => 12,
-        Phase::SensorReadHigh => 13,
-        Phase::SensorReadLow => 14,
-    }
-}
 
 fn phase(n: u16) -> Phase {
     match n {
@@ -57,60 +37,12 @@ pub fn wide(b: u8) -> u16 {
     b as u16
 }
 
-fn peek_number(s: Slot, k: usize) -> u16 {
-    match k {
-        1 => wide(s.kind),
-        2 => wide(s.length),
-        3 => wide(s.left),
-        4 => wide(s.half),
-        5 => wide(s.counter),
-        6 => wide(s.place),
-        _ => s.voltage as u16,
-    }
-}
-
-fn peek_blocks(s: Slot, k: usize) -> u16 {
-    let i = (k % 4 + 3) % 4;
-    if k < 13 {
-        return s.protection[i] as u16;
-    }
-    s.coming[i] as u16
-}
-
-fn peek_page(s: Slot, k: usize) -> u16 {
-    let i = (k % 16 + 15) % 16;
-    if k < 33 {
-        return wide(s.latch[i]);
-    }
-    s.marks[i] as u16
-}
-
-fn peek_sensor(x: Sensor, k: usize) -> u16 {
-    match k {
-        49 => wide(x.pointer),
-        50 => x.configuration,
-        51 => x.high,
-        52 => x.low,
-        53 => x.critical,
-        54 => x.temperature,
-        55 => wide(x.resolution),
-        56 => wide(x.timeout),
-        57 => x.word,
-        _ => 0,
-    }
-}
-
-// What a slot holds.
+// What a slot holds, by such a number; 0 where there is none.
 pub fn peek(s: Slot, k: usize) -> u16 {
-    let x = s.sensor;
-    let p = s.phase;
-    match k {
-        1..=7 => peek_number(s, k),
-        8 => phase_number(p),
-        9..=16 => peek_blocks(s, k),
-        17..=48 => peek_page(s, k),
-        _ => peek_sensor(x, k),
+    if k == 0 {
+        return 0;
     }
+    watch_text::numbers::number(s, k - 1)
 }
 
 fn poke_number(old: Slot, k: usize, v: u16) -> Slot {
