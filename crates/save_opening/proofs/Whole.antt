@@ -1,13 +1,13 @@
 -- What a program that begins so has written, in whatever reads its input comes: where nothing follows all of it, and where something may, that nothing is
 -- written yet, and what is begun with is what the form restores to.
 -- Assumes nothing.
-use mathlib.Core.Path.{_≡_, refl, sym, _∙_, ap, ap₂}
-use mathlib.Core.Bool.{Bool, true, false, false≢true, cond}
+use mathlib.Core.Path.{_≡_, sym, _∙_, ap, ap₂}
+use mathlib.Core.Bool.{true, false, false≢true}
 use mathlib.Core.List.{List, [], _++_, append-nil}
 use Prim.Native.Nat.{ℕ, _<_, _≤_}
 use native.Mathlib.Omega.{arith}
 use borrow.Author.Tests.{lt-ltb, le-ltb, ltb-true, ltb-false, eq-eqb}
-use lib.Dec.{eqb, ltb}
+use lib.Dec.{ltb}
 use lib.ListN.{length, take, drop, length-append, length-replicate, drop-of-length-le, List·getD-append}
 use lib.Seq.{sets, take-at, drop-at}
 use Rattle.proof_lists.specs.Tests.{by-test}
@@ -15,7 +15,6 @@ use Rattle.rules.specs.declared.Answer.the-variants.{Refused}
 use Rattle.rules.specs.declared.Refusal.the-variants.{WrongForm}
 use Rattle.rules.specs.Modelled.{memoryBytes}
 use Rattle.rules.specs.Refusals.{wrongLength, emptyBus}
-use Rattle.rules.specs.Runs.{Bench}
 use Rattle.script_text.specs.Letters.{shortLine, refusalLine}
 use Rattle.script_turns.specs.declared.frame.Begun.{Begun}
 use Rattle.script_turns.specs.Frame.{startingMemory}

@@ -6,11 +6,9 @@ use mathlib.Core.List.{List, [], _++_}
 use Prim.Native.Nat.{ℕ, _<_}
 use native.Mathlib.Omega.{arith}
 use lib.ListN.{length, take}
-use Rattle.rules.specs.declared.Bus.{Bus}
 use Rattle.rules.specs.Runs.{Bench}
 use Rattle.script_turns.specs.declared.frame.Begun.{Begun}
-use Rattle.script_turns.specs.Frame.{startingMemory}
-use Rattle.save_rules.specs.Reading.{accepted, restored, busIn}
+use Rattle.save_rules.specs.Reading.{restored, busIn}
 use Rattle.save_opening.specs.Opened.{Opened}
 use Rattle.save_opening.specs.Opening.{wantedBytes}
 use Rattle.save_opening.proofs.Whole as opening

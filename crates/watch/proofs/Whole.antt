@@ -1,15 +1,14 @@
 -- The program writes `watchOf` of its input: of what its steps are proved to do.
 -- Assumes nothing.
-use mathlib.Core.Path.{_≡_, refl, sym, _∙_, ap, ap₂}
-use mathlib.Core.Bool.{Bool, true, false, false≢true, cond}
+use mathlib.Core.Path.{_≡_, sym, _∙_, ap, ap₂}
+use mathlib.Core.Bool.{Bool, true, false, false≢true}
 use mathlib.Core.List.{List, [], _∷_, _++_, append-nil, append-assoc}
-use Prim.Native.Nat.{ℕ, zero, suc, _+_, _/_, _%_, _≤_, _<_}
-use native.Mathlib.Nat.{add-zero}
+use Prim.Native.Nat.{ℕ, suc, _+_, _/_, _%_, _<_}
 use native.Mathlib.Omega.{arith}
 use borrow.Author.Tests.{lt-ltb, le-ltb, ltb-true, ltb-false}
 use lib.Dec.{ltb}
 use lib.ListN.{length, take, drop, length-append}
-use lib.Seq.{drop-append-seam, take-append-seam, drop-append-add}
+use lib.Seq.{drop-append-seam}
 use Rattle.proof_lists.specs.Each.{allOf}
 use Rattle.proof_lists.specs.Tests.{by-test}
 use Rattle.rules.specs.declared.Bus.{Bus}

@@ -1,6 +1,5 @@
 -- What came is what the step is taken with.
 -- Assumes nothing.
-use native.Mathlib.Omega.{arith}
 use borrow.Author.Needs.{needs}
 use Rattle.watch.proofs.Laws.{went-by, step-in-range}
 use Rattle.watch.proofs.read_on.Statement.{statement}

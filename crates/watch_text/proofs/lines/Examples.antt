@@ -1,8 +1,8 @@
 -- A slot's line and the lines of changes, in full. Each theorem computes, but for the last, which is of every slot.
 -- Assumes nothing.
 use Prim.Native.Nat.{ℕ, zero, suc}
-use mathlib.Core.Path.{_≡_, refl, sym, _∙_}
-use mathlib.Core.Bool.{Bool, true, false, false≢true}
+use mathlib.Core.Path.{_≡_, refl, sym}
+use mathlib.Core.Bool.{true, false, false≢true}
 use mathlib.Core.List.{List, [], _∷_, _++_}
 use native.Mathlib.Omega.{arith}
 use borrow.Author.Tests.{ne-eqb}
@@ -16,7 +16,6 @@ use Rattle.rules.specs.Fields.{inPhase, withLeft}
 use Rattle.rules.specs.Fresh.{freshSlot, absentSlot}
 use Rattle.script_text.specs.Quoted.{quoted}
 use Rattle.watch_text.specs.Lines.{slotLine, changeLine, changeLines}
-use Rattle.watch_text.specs.Numbers.{numbersOf}
 use Rattle.watch_text.specs.Open.{open-lines}
 
 -- no two numbers here are the same where they could be mistaken for one another

@@ -1,7 +1,7 @@
 -- Names with a number behind each: a text put character by character, as the code does it, is that of the definition; and lines one behind the other.
 -- Assumes nothing.
 use mathlib.Core.Path.{_≡_, refl, sym, _∙_, ap, ap₂}
-use mathlib.Core.Bool.{Bool, true, false, false≢true, cond, not, _&&_, _||_}
+use mathlib.Core.Bool.{Bool, true, false, false≢true, cond, not, _||_}
 use mathlib.Core.List.{List, [], _∷_, _++_, append-assoc, append-nil}
 use Prim.Native.Nat.{ℕ, zero, suc, _+_, _≤_, _<_}
 use Prim.Native.String.{String}
@@ -10,11 +10,11 @@ use native.Mathlib.Numerals.{add-one}
 use native.Mathlib.Omega.{arith}
 use borrow.Author.Tests.{eq-eqb, ne-eqb}
 use lib.Dec.{eqb}
-use lib.ListN.{length, getD, drop, length-append}
-use lib.Seq.{sets, length-sets, drop-cons, drop-length, drop-drop, getD-drop}
+use lib.ListN.{length, getD, drop}
+use lib.Seq.{sets, drop-cons, drop-drop, getD-drop}
 use Rattle.proof_lists.specs.Each.{allOf, getD-any}
 use Rattle.proof_lists.specs.Same.{same}
-use Rattle.proof_lists.specs.Tests.{by-test, and-left, and-right}
+use Rattle.proof_lists.specs.Tests.{and-left, and-right}
 use Rattle.rules.specs.declared.Bus.{Bus}
 use Rattle.rules.specs.declared.Slot.{Slot}
 use Rattle.rules.specs.Modelled.{absent}

@@ -1,6 +1,5 @@
 -- The slots of a bus, where there was none.
 -- Assumes nothing.
-use native.Mathlib.Omega.{arith}
 use borrow.Author.Needs.{needs}
 use Rattle.watch_text.proofs.lines.Laws.{bench-by}
 use Rattle.watch_text.proofs.lines.put_bench.Statement.{statement}

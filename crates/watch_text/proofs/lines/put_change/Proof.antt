@@ -1,9 +1,6 @@
 -- A slot that is not told, and one that is.
 -- Assumes nothing.
-use mathlib.Core.Path.{_∙_, ap}
-use native.Mathlib.Omega.{arith}
 use borrow.Author.Needs.{needs}
-use Rattle.rules.specs.Modelled.{absent}
 use Rattle.watch_text.proofs.lines.Laws.{untold, told-so}
 use Rattle.watch_text.proofs.lines.put_change.Statement.{statement}
 use Rattle.watch_text.proofs.lines.put_change.Tie as tie

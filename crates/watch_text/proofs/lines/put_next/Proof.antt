@@ -1,6 +1,5 @@
 -- A sign and its number, or another character.
 -- Assumes nothing.
-use mathlib.Core.Path.{refl}
 use native.Mathlib.Omega.{arith}
 use borrow.Author.Needs.{needs}
 use Rattle.watch_text.proofs.lines.Laws.{sign-by, other-by, number-room}

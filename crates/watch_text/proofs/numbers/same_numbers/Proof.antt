@@ -1,11 +1,8 @@
 -- The numbers passed are the same, or some differ.
 -- Assumes nothing.
-use mathlib.Core.Path.{_≡_, refl, sym, _∙_, ap, ap₂}
-use mathlib.Core.Bool.{_&&_}
-use Prim.Native.Nat.{_-_, _≤_}
+use Prim.Native.Nat.{_-_}
 use native.Mathlib.Omega.{arith}
 use borrow.Author.Needs.{needs}
-use lib.ListN.{length, take, drop}
 use Rattle.proof_lists.specs.Same.{same}
 use Rattle.watch_text.specs.Numbers.{numbersOf}
 use Rattle.watch_text.proofs.numbers.Laws.{Alike, alike-none, alike-more, alike-all, numbers-length}
