@@ -9,6 +9,7 @@ use lib.ListN.{length}
 use lib.Seq.{sets}
 use Rattle.rules.specs.declared.Bus.{Bus}
 use Rattle.rules.specs.Runs.{Bench}
+use Rattle.script_streams.specs.Reading.{mostReads}
 use Rattle.watch_text.specs.Lines.{benchLines}
 use Rattle.watch.specs.declared.Going.{Going}
 use Rattle.watch.specs.Steps.{cut, readText, readNext}
@@ -50,10 +51,6 @@ unfoldable pub Exhausted : List (List ℕ) → Type 0
 Exhausted [] = ⊥
 Exhausted (c ∷ []) = cut c ≡ true
 Exhausted (c ∷ d ∷ cs) = (length c ≡ 4) × Exhausted (d ∷ cs)
-
--- more reads than any input has
-abbrev pub mostReads : ℕ
-mostReads = 18446744073709551615
 
 -- what the program leaves from the setup on. Where all that was put is told, the last read brought less than a record, unless that many were made
 pub record Watched (b : Bus) (m out : List ℕ) (told : Bool) (stored written : List ℕ) : Type 0 where

@@ -12,7 +12,7 @@ use Rattle.proof_lists.specs.Same.{same}
 use Rattle.rules.specs.declared.Phase.the-variants.{SensorReadHigh}
 use Rattle.rules.specs.declared.Slot.{Slot}
 use Rattle.rules.specs.Modelled.{absent}
-use Rattle.rules.specs.Fields.{inPhase, withLeft}
+use Rattle.rules.specs.Fields.{withLeft, holding}
 use Rattle.rules.specs.Fresh.{freshSlot, absentSlot}
 use Rattle.script_text.specs.Quoted.{quoted}
 use Rattle.watch_text.specs.Lines.{slotLine, changeLine, changeLines}
@@ -45,14 +45,15 @@ pub sample-line : slotLine 6 sample
 unfolding open-lines
 sample-line = refl
 
--- Of eight slots the second and the last changed, one of them in its last number; the third is as it was, the first and the others are absent
+-- Of eight slots the second and the last changed, the last in its last number alone; the third is as it was; the first, which is absent, changed too
+-- and has no line
 abbrev was : List Slot
-was = absentSlot ∷ freshSlot 1 3 ∷ freshSlot 2 4 ∷ replicate 4 absentSlot ++ freshSlot 1 1 ∷ []
+was = absentSlot ∷ freshSlot 1 3 ∷ freshSlot 2 4 ∷ replicate 4 absentSlot ++ freshSlot 2 1 ∷ []
 
 abbrev is : List Slot
-is = withLeft 2 absentSlot ∷ withLeft 2 (freshSlot 1 3) ∷ freshSlot 2 4 ∷ replicate 4 absentSlot ++ inPhase SensorReadHigh (freshSlot 1 1) ∷ []
+is = withLeft 2 absentSlot ∷ withLeft 2 (freshSlot 1 3) ∷ freshSlot 2 4 ∷ replicate 4 absentSlot ++ holding 1 (freshSlot 2 1) ∷ []
 
-pub changed-alone : changeLines was is ≡ slotLine 1 (withLeft 2 (freshSlot 1 3)) ++ slotLine 7 (inPhase SensorReadHigh (freshSlot 1 1))
+pub changed-alone : changeLines was is ≡ slotLine 1 (withLeft 2 (freshSlot 1 3)) ++ slotLine 7 (holding 1 (freshSlot 2 1))
 unfolding open-lines
 changed-alone = refl
 
