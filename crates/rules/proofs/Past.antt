@@ -22,7 +22,7 @@ noSlot =
       latch = [];
       marks = [];
       place = 0;
-      sensor = record { pointer = 0; configuration = 0; high = 0; low = 0; critical = 0; temperature = 0; resolution = 0; timeout = 0; word = 0 };
+      sensor = record { pointer = 0; configuration = 0; high = 0; low = 0; critical = 0; temperature = 0; resolution = 0; timeout = 0; word = 0; pending = false };
     }
 
 -- of pairs

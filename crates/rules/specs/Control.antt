@@ -13,7 +13,7 @@ use Rattle.rules.specs.declared.Slot.{Slot}
 use Rattle.rules.specs.Modelled.{sensing}
 use Rattle.rules.specs.Fields.{inPhase, inHalf, expecting, holding}
 use Rattle.rules.specs.Fresh.{noBlocks}
-use Rattle.rules.specs.Sensor.{registerOf}
+use Rattle.rules.specs.Pin.{readOf}
 
 abbrev pub block : ℕ → BlockNo
 block n = record { 0 = n }
@@ -88,7 +88,7 @@ obeyed (Memory k false) s = inPhase MemoryCounter s
 obeyed (Memory k true) s = inPhase MemoryRead s
 obeyed (Sensor k false) s = inPhase SensorPointer s
 -- "Read: both bytes are fixed at the control byte's ACK"
-obeyed (Sensor k true) s = inPhase SensorReadHigh (holding (registerOf (s .sensor) (s .sensor .pointer)) s)
+obeyed (Sensor k true) s = inPhase SensorReadHigh (holding (readOf (s .sensor) (s .sensor .pointer)) s)
 -- the protection that will stand when the command's cycle ends
 obeyed (Protect k) s = inPhase CommandAddress (expecting (set (s .protection) (k .0) true) s)
 obeyed ClearAll s = inPhase CommandAddress (expecting noBlocks s)

@@ -38,31 +38,34 @@ unfoldable pub withSensor : Sensor → Slot → Slot
 withSensor x s = record { kind = s .kind; length = s .length; left = s .left; half = s .half; counter = s .counter; protection = s .protection; coming = s .coming; voltage = s .voltage; phase = s .phase; latch = s .latch; marks = s .marks; place = s .place; sensor = x }
 
 unfoldable pub pointing : ℕ → Sensor → Sensor
-pointing n x = record { pointer = n; configuration = x .configuration; high = x .high; low = x .low; critical = x .critical; temperature = x .temperature; resolution = x .resolution; timeout = x .timeout; word = x .word }
+pointing n x = record { pointer = n; configuration = x .configuration; high = x .high; low = x .low; critical = x .critical; temperature = x .temperature; resolution = x .resolution; timeout = x .timeout; word = x .word; pending = x .pending }
 
 unfoldable pub withConfiguration : ℕ → Sensor → Sensor
-withConfiguration v x = record { pointer = x .pointer; configuration = v; high = x .high; low = x .low; critical = x .critical; temperature = x .temperature; resolution = x .resolution; timeout = x .timeout; word = x .word }
+withConfiguration v x = record { pointer = x .pointer; configuration = v; high = x .high; low = x .low; critical = x .critical; temperature = x .temperature; resolution = x .resolution; timeout = x .timeout; word = x .word; pending = x .pending }
 
 unfoldable pub withHigh : ℕ → Sensor → Sensor
-withHigh v x = record { pointer = x .pointer; configuration = x .configuration; high = v; low = x .low; critical = x .critical; temperature = x .temperature; resolution = x .resolution; timeout = x .timeout; word = x .word }
+withHigh v x = record { pointer = x .pointer; configuration = x .configuration; high = v; low = x .low; critical = x .critical; temperature = x .temperature; resolution = x .resolution; timeout = x .timeout; word = x .word; pending = x .pending }
 
 unfoldable pub withLow : ℕ → Sensor → Sensor
-withLow v x = record { pointer = x .pointer; configuration = x .configuration; high = x .high; low = v; critical = x .critical; temperature = x .temperature; resolution = x .resolution; timeout = x .timeout; word = x .word }
+withLow v x = record { pointer = x .pointer; configuration = x .configuration; high = x .high; low = v; critical = x .critical; temperature = x .temperature; resolution = x .resolution; timeout = x .timeout; word = x .word; pending = x .pending }
 
 unfoldable pub withCritical : ℕ → Sensor → Sensor
-withCritical v x = record { pointer = x .pointer; configuration = x .configuration; high = x .high; low = x .low; critical = v; temperature = x .temperature; resolution = x .resolution; timeout = x .timeout; word = x .word }
+withCritical v x = record { pointer = x .pointer; configuration = x .configuration; high = x .high; low = x .low; critical = v; temperature = x .temperature; resolution = x .resolution; timeout = x .timeout; word = x .word; pending = x .pending }
 
 unfoldable pub withTemperature : ℕ → Sensor → Sensor
-withTemperature v x = record { pointer = x .pointer; configuration = x .configuration; high = x .high; low = x .low; critical = x .critical; temperature = v; resolution = x .resolution; timeout = x .timeout; word = x .word }
+withTemperature v x = record { pointer = x .pointer; configuration = x .configuration; high = x .high; low = x .low; critical = x .critical; temperature = v; resolution = x .resolution; timeout = x .timeout; word = x .word; pending = x .pending }
 
 unfoldable pub withResolution : ℕ → Sensor → Sensor
-withResolution v x = record { pointer = x .pointer; configuration = x .configuration; high = x .high; low = x .low; critical = x .critical; temperature = x .temperature; resolution = v; timeout = x .timeout; word = x .word }
+withResolution v x = record { pointer = x .pointer; configuration = x .configuration; high = x .high; low = x .low; critical = x .critical; temperature = x .temperature; resolution = v; timeout = x .timeout; word = x .word; pending = x .pending }
 
 unfoldable pub withTimeout : ℕ → Sensor → Sensor
-withTimeout v x = record { pointer = x .pointer; configuration = x .configuration; high = x .high; low = x .low; critical = x .critical; temperature = x .temperature; resolution = x .resolution; timeout = v; word = x .word }
+withTimeout v x = record { pointer = x .pointer; configuration = x .configuration; high = x .high; low = x .low; critical = x .critical; temperature = x .temperature; resolution = x .resolution; timeout = v; word = x .word; pending = x .pending }
 
 unfoldable pub withWord : ℕ → Sensor → Sensor
-withWord v x = record { pointer = x .pointer; configuration = x .configuration; high = x .high; low = x .low; critical = x .critical; temperature = x .temperature; resolution = x .resolution; timeout = x .timeout; word = v }
+withWord v x = record { pointer = x .pointer; configuration = x .configuration; high = x .high; low = x .low; critical = x .critical; temperature = x .temperature; resolution = x .resolution; timeout = x .timeout; word = v; pending = x .pending }
+
+unfoldable pub withPending : Bool → Sensor → Sensor
+withPending on x = record { pointer = x .pointer; configuration = x .configuration; high = x .high; low = x .low; critical = x .critical; temperature = x .temperature; resolution = x .resolution; timeout = x .timeout; word = x .word; pending = on }
 
 -- what the slot's exchange with its sensor holds
 unfoldable pub holding : ℕ → Slot → Slot

@@ -24,6 +24,7 @@ freshSensor =
       resolution = 0x01;
       timeout = 0x01;
       word = 0x0000;
+      pending = false;
     }
 
 -- an empty page latch, and four blocks without protection

@@ -3,6 +3,7 @@ pub mod Fields
 pub mod Events
 pub mod Fresh
 pub mod Sensor
+pub mod Pin
 pub mod Control
 pub mod Memory
 pub mod Power
@@ -10,5 +11,6 @@ pub mod Slot
 pub mod Bus
 pub mod Refusals
 pub mod Reader
+pub mod Looked
 pub mod Runs
 pub mod Open

@@ -7,19 +7,21 @@ use Rattle.rules.specs.Fields
 use Rattle.rules.specs.Events
 use Rattle.rules.specs.Fresh
 use Rattle.rules.specs.Sensor
+use Rattle.rules.specs.Pin
 use Rattle.rules.specs.Control
 use Rattle.rules.specs.Memory
 use Rattle.rules.specs.Power
 use Rattle.rules.specs.Slot
 use Rattle.rules.specs.Bus
 use Rattle.rules.specs.Refusals
+use Rattle.rules.specs.Looked
 use Rattle.rules.specs.Runs
 
 -- fields replaced
 unfoldable pub open-fields : Unit {0}
 unfolding Fields.inPhase Fields.atCounter Fields.inHalf Fields.withLeft Fields.protecting Fields.expecting Fields.withVoltage Fields.latched
     Fields.placed Fields.withSensor Fields.holding Fields.pointing Fields.withConfiguration Fields.withHigh Fields.withLow Fields.withCritical
-    Fields.withTemperature Fields.withResolution Fields.withTimeout Fields.withWord
+    Fields.withTemperature Fields.withResolution Fields.withTimeout Fields.withWord Fields.withPending
 open-fields = tt
 
 -- the steps of memory exchanges and commands
@@ -40,6 +42,12 @@ unfolding Sensor.registerOf Sensor.shutDown Sensor.criticalLocked Sensor.limitsL
     Sensor.loweredOf Sensor.flagOf Sensor.criticalFlag Sensor.highFlag Sensor.lowFlag Sensor.reading Sensor.converted
 open-sensor = tt
 
+-- the pin
+unfoldable pub open-pin : Unit {0}
+unfolding Pin.pinEnabled Pin.criticalAlone Pin.activeHigh Pin.interrupting Pin.criticalSet Pin.highSet Pin.lowSet Pin.flagCounts Pin.asserted
+    Pin.levelOf Pin.pinOf Pin.canPend Pin.changes Pin.convertedWithPin Pin.clearing Pin.pendingAfter Pin.writtenWithPin Pin.readOf
+open-pin = tt
+
 -- the control byte
 unfoldable pub open-control : Unit {0}
 unfolding Control.selectOf Control.isRead Control.commandOf Control.heardOf Control.protects Control.acksHeard Control.acksControl Control.obeyed
@@ -49,21 +57,21 @@ open-control = tt
 -- the slot's step
 unfoldable pub open-slot : Unit {0}
 unfolding Slot.standing Slot.letGo Slot.lost Slot.pointer Slot.firstByte Slot.secondByte Slot.byteIn Slot.acksIn Slot.readIn Slot.drivenIn Slot.stopIn
-    Slot.switched Slot.presentNext Slot.slotNext Slot.acks Slot.drives Slot.driven
+    Slot.switched Slot.heated Slot.presentNext Slot.slotNext Slot.acks Slot.drives Slot.driven
 open-slot = tt
 
 -- the rows of refusals
 unfoldable pub open-refusals : Unit {0}
 unfolding Refusals.wrongLength Refusals.unknownKind Refusals.kindsOf Refusals.kindAt Refusals.wrongSlot Refusals.outside Refusals.wrongValue
-    Refusals.goodLength Refusals.goodPair Refusals.kindInRange Refusals.lengthInRange Refusals.keptIn Refusals.sensorInRange Refusals.slotInRange
+    Refusals.goodLength Refusals.goodPair Refusals.kindInRange Refusals.lengthInRange Refusals.keptIn Refusals.sensorInRange Refusals.pendingInRange Refusals.slotInRange
     Refusals.inRange Refusals.ruledFor Refusals.ruledBy Refusals.ruling Refusals.emptyBus Refusals.setupOf
 open-refusals = tt
 
 -- everything: a run on known values computes
 unfoldable pub open-all : Unit {0}
-unfolding open-fields open-memory open-power open-sensor open-control open-slot open-refusals Each.mapFrom Each.anyFrom Each.allOf Each.firstFrom
+unfolding open-fields open-memory open-power open-sensor open-pin open-control open-slot open-refusals Each.mapFrom Each.anyFrom Each.allOf Each.firstFrom
     Parts.part Parts.eachPart Modelled.absent Modelled.sensing Modelled.addressOf Modelled.blockOf Modelled.pageOf Events.isOne Events.actOf
     Fresh.freshSensor Fresh.freshSlot Fresh.setupSlot Fresh.absentSlot Fresh.powered Memory.guarded Memory.anyMark Memory.putUpTo Memory.stored
     Memory.tickedPart Bus.busNext Bus.memoryNext Bus.anyAck Bus.readByte Bus.shownFor Bus.shown Runs.taken Runs.given Runs.rulingOn Runs.ruledNext
-    Runs.ruledAnswer Runs.next Runs.answered Runs.after Runs.answers
+    Runs.ruledAnswer Runs.next Runs.answered Runs.after Runs.answers Looked.noPin Looked.lookOf
 open-all = tt

@@ -20,10 +20,11 @@ use Rattle.rules.specs.declared.Ruling.the-variants.{Taken, Refused}
 use Rattle.rules.specs.declared.Sensor.{Sensor}
 use Rattle.rules.specs.declared.Slot.{Slot}
 use Rattle.rules.specs.declared.SlotNo.{SlotNo}
-use Rattle.rules.specs.Modelled.{slotCount, memoryBytes}
+use Rattle.rules.specs.Modelled.{slotCount, memoryBytes, sensing}
 use Rattle.rules.specs.Events.{actOf}
 use Rattle.rules.specs.Fresh.{setupSlot, absentSlot}
 use Rattle.rules.specs.Sensor.{configurationBits, limitBits, resolutionBits, timeoutBits}
+use Rattle.rules.specs.Pin.{canPend}
 
 -- "1 | the memory is not 4,096 bytes long"
 unfoldable pub wrongLength : List ℕ → Bool
@@ -85,11 +86,16 @@ sensorInRange x =
     && keptIn resolutionBits (x .resolution)
     && keptIn timeoutBits (x .timeout)
 
+-- P8: "a 1 where no change can be pending falls under 6", in a slot without sensor too
+unfoldable pub pendingInRange : Slot → Bool
+pendingInRange s = not (s .sensor .pending) || sensing s && canPend (s .sensor .configuration)
+
 -- "ticks left 0 to length, half 0 or 1, counter 0..255, page offset 0..15"
 unfoldable pub slotInRange : Slot → Bool
 slotInRange s =
     kindInRange s && lengthInRange s && leb (s .left) (s .length) && leb (s .half) 1 && leb (s .counter) 255 && leb (s .place) 15
     && sensorInRange (s .sensor)
+    && pendingInRange s
 
 unfoldable pub inRange : Bus → Bool
 inRange b = allOf slotInRange (b .slots)

@@ -4,6 +4,7 @@ use Prim.Native.Nat.{ℕ, _+_, _*_, _/_, _%_}
 use mathlib.Core.Bool.{Bool, true, false, not, cond, _&&_, _||_}
 use mathlib.Core.List.{List}
 use lib.Dec.{eqb, leb}
+use lib.IntN.{ℤ}
 use lib.ListN.{getD}
 use Rattle.rules.specs.declared.Act.{Act}
 use Rattle.rules.specs.declared.Act.the-variants.{Start, Byte, Read, Stop, Timeout, Tick, Voltage, Power, Temperature}
@@ -13,7 +14,7 @@ use Rattle.rules.specs.declared.Slot.{Slot}
 use Rattle.rules.specs.declared.Traits.{Traits}
 use Rattle.rules.specs.Modelled.{absent, sensing, addressOf}
 use Rattle.rules.specs.Fields.{inPhase, withVoltage, withSensor, pointing, holding}
-use Rattle.rules.specs.Sensor.{written, converted}
+use Rattle.rules.specs.Pin.{writtenWithPin, convertedWithPin}
 use Rattle.rules.specs.Control.{acksControl, controlled}
 use Rattle.rules.specs.Memory.{abandoned, cancelled, loaded, guarded, dataByte, fetched, begun, dataStop, ticked, tickedPart}
 use Rattle.rules.specs.Power.{powerCut, cutPart}
@@ -73,7 +74,7 @@ unfoldable pub firstByte : ℕ → Slot → Slot
 firstByte b s = inPhase SensorLow (holding (b * 256) s)
 
 unfoldable pub secondByte : ℕ → Slot → Slot
-secondByte b s = lost SensorLow (withSensor (written (s .sensor) (s .sensor .pointer) (s .sensor .word / 256 * 256 + b)) s)
+secondByte b s = lost SensorLow (withSensor (writtenWithPin (s .sensor) (s .sensor .pointer) (s .sensor .word / 256 * 256 + b)) s)
 
 -- a byte from the master, to slot n
 unfoldable pub byteIn : Phase → ℕ → ℕ → Slot → Slot
@@ -179,6 +180,10 @@ stopIn SensorReadLow s = letGo SensorReadLow s
 unfoldable pub switched : Bool → Slot → Slot
 switched on s = withVoltage on (cond (commanding (standing s) && s .voltage && not on) (lost (standing s) s) s)
 
+-- a temperature; a slot without a sensor is given none (refusal 3)
+unfoldable pub heated : ℤ → Slot → Slot
+heated t s = cond (sensing s) (withSensor (convertedWithPin (s .sensor) t) s) s
+
 -- slot n, which is present, after an event; "Stop and timeout make a slot idle; neither shortens a write cycle."
 unfoldable pub presentNext : ℕ → Act → Slot → Slot
 presentNext n Start s = inPhase Control (letGo (standing s) s)
@@ -189,7 +194,7 @@ presentNext n Timeout s = inPhase Idle (letGo (standing s) s)
 presentNext n Tick s = ticked s
 presentNext n (Voltage k on) s = cond (eqb (k .0) n) (switched on s) s
 presentNext n (Power k) s = powerCut k s
-presentNext n (Temperature k t) s = cond (eqb (k .0) n) (withSensor (converted (s .sensor) t) s) s
+presentNext n (Temperature k t) s = cond (eqb (k .0) n) (heated t s) s
 
 -- slot n after an event: "absent slots [..] count as deaf", and no event touches one
 unfoldable pub slotNext : ℕ → Act → Slot → Slot

@@ -138,6 +138,8 @@ pub struct Sensor {
     pub timeout: u8,
     // In a read the register as it was at the control byte, in a write its high byte, which came first; else 0.
     pub word: u16,
+    // Of the EVENT pin: a change that nobody has cleared yet.
+    pub pending: bool,
 }
 
 impl Sensor {
@@ -155,6 +157,7 @@ impl Sensor {
             resolution: 1,
             timeout: 1,
             word: 0,
+            pending: false,
         }
     }
 }
@@ -224,6 +227,18 @@ impl Bus {
 pub struct Pair {
     pub kind: u8,
     pub length: u8,
+}
+
+// The EVENT pin of a slot: asserted or not, and the level of the wire, true for high.
+pub struct Pin {
+    pub asserted: bool,
+    pub level: bool,
+}
+
+// What looking at a slot's pin gives. The paper's number and values of each: specs/Looked.
+pub enum Looked {
+    Stands(Pin),
+    Refused(Refusal),
 }
 
 // What a public entry gives back beside the lent memory.

@@ -17,7 +17,7 @@ use Rattle.rules.specs.Modelled.{sensing}
 use Rattle.rules.specs.Open.{open-all}
 use Rattle.rules.specs.Fields.{inPhase, inHalf, withLeft, protecting, expecting, withVoltage, holding}
 use Rattle.rules.specs.Fresh.{freshSlot}
-use Rattle.rules.specs.Sensor.{registerOf}
+use Rattle.rules.specs.Pin.{readOf}
 use Rattle.rules.specs.Control.{selectOf, isRead, commandOf, heardOf, acksHeard, acksControl, obeyed, controlled}
 
 -- "1010: memory; select bits must equal the slot number." "0011: sensor; the same, kind 2 slots only." "others: no slot.", for every byte
@@ -181,7 +181,7 @@ module _ (n : ℕ) (s : Slot) (free : s .left ≡ 0) where
 -- what an ACK does: the phase, the protection to come, the half; "Read: both bytes are fixed at the control byte's ACK"
 pub obeys : (s : Slot)
     → map (λ b. obeyed (heardOf b) s) (0xA0 ∷ 0xA1 ∷ 0x30 ∷ 0x31 ∷ 0x62 ∷ 0x68 ∷ 0x6A ∷ 0x60 ∷ 0x66 ∷ 0x63 ∷ 0x69 ∷ 0x6B ∷ 0x61 ∷ 0x6C ∷ 0x6E ∷ 0x6D ∷ [])
-    ≡ inPhase MemoryCounter s ∷ inPhase MemoryRead s ∷ inPhase SensorPointer s ∷ inPhase SensorReadHigh (holding (registerOf (s .sensor) (s .sensor .pointer)) s)
+    ≡ inPhase MemoryCounter s ∷ inPhase MemoryRead s ∷ inPhase SensorPointer s ∷ inPhase SensorReadHigh (holding (readOf (s .sensor) (s .sensor .pointer)) s)
     ∷ inPhase CommandAddress (expecting (set (s .protection) 0 true) s)
     ∷ inPhase CommandAddress (expecting (set (s .protection) 1 true) s)
     ∷ inPhase CommandAddress (expecting (set (s .protection) 2 true) s)

@@ -18,16 +18,16 @@ use Rattle.rules.specs.declared.Phase.{Phase}
 use Rattle.rules.specs.declared.Phase.the-variants.{Idle, Control, Deaf, MemoryCounter, MemoryData, MemoryRead, HalfSelected, CommandAddress, CommandData, CommandStop, SensorPointer, SensorHigh, SensorLow, SensorReadHigh, SensorReadLow}
 use Rattle.rules.specs.declared.Slot.{Slot}
 use Rattle.rules.specs.declared.SlotNo.{SlotNo}
-use Rattle.rules.specs.Modelled.{absent, addressOf, blockOf}
+use Rattle.rules.specs.Modelled.{absent, sensing, addressOf, blockOf}
 use Rattle.rules.specs.Open.{open-fields, open-memory, open-slot}
 use Rattle.rules.specs.Fields.{inPhase, atCounter, withLeft, protecting, expecting, withVoltage, latched, placed, withSensor, holding, pointing}
 use Rattle.rules.specs.Fresh.{noBytes, noMarks, freshSlot, freshSensor, powered}
-use Rattle.rules.specs.Sensor.{written, converted}
+use Rattle.rules.specs.Pin.{writtenWithPin, convertedWithPin}
 use Rattle.rules.specs.Control.{protects}
 use Rattle.rules.specs.Memory.{upInPage, guarded, anyMark}
 use Rattle.rules.specs.Power.{running, broughtBy, cut, powerCut}
-use Rattle.rules.specs.Slot.{withSensorIn, commanding, taking, standing, letGo, lost, byteIn, acksIn, readIn, drivesIn, drivenIn, stopIn, switched, presentNext, slotNext, acks, drives, driven}
-use Rattle.rules.proofs.Run.Cases.{next-cases, present-next, byte-next, read-next}
+use Rattle.rules.specs.Slot.{withSensorIn, commanding, taking, standing, letGo, lost, byteIn, acksIn, readIn, drivesIn, drivenIn, stopIn, switched, heated, presentNext, slotNext, acks, drives, driven}
+use Rattle.rules.proofs.Run.Cases.{next-cases, present-next, byte-next, read-next, sensing-present}
 use Rattle.rules.proofs.Memory.Protection.{Cycle, asWas, pageBegins, commandBegins, goesOn, powerEnds, cycle-next}
 
 -- a slot that stands in another phase than deaf is there
@@ -160,7 +160,7 @@ power-cycle n k s a = present-next n (Power k) s a ∙ by-test (running s) (λ e
 
 pub fresh : (kind length : ℕ)
     → freshSlot kind length
-    ≡ record { kind = kind; length = length; left = 0; half = 0; counter = 0; protection = replicate 4 false; coming = replicate 4 false; voltage = false; phase = Idle; latch = replicate 16 0; marks = replicate 16 false; place = 0; sensor = record { pointer = 0x00; configuration = 0x0000; high = 0x0000; low = 0x0000; critical = 0x0000; temperature = 0x0000; resolution = 0x01; timeout = 0x01; word = 0x0000 } }
+    ≡ record { kind = kind; length = length; left = 0; half = 0; counter = 0; protection = replicate 4 false; coming = replicate 4 false; voltage = false; phase = Idle; latch = replicate 16 0; marks = replicate 16 false; place = 0; sensor = record { pointer = 0x00; configuration = 0x0000; high = 0x0000; low = 0x0000; critical = 0x0000; temperature = 0x0000; resolution = 0x01; timeout = 0x01; word = 0x0000; pending = false } }
 unfolding freshSlot freshSensor
 fresh kind length = refl
 
@@ -307,7 +307,7 @@ unfolding open-memory open-slot open-fields
 register-high n b s e = (ack-at n s SensorHigh e b, at-byte n s SensorHigh e b)
 
 pub register-low : (n b : ℕ) (s : Slot) → standing s ≡ SensorLow
-    → (acks n b s ≡ true) × (slotNext n (Byte b) s ≡ inPhase Deaf (holding 0x0000 (withSensor (written (s .sensor) (s .sensor .pointer) (s .sensor .word / 256 * 256 + b)) s)))
+    → (acks n b s ≡ true) × (slotNext n (Byte b) s ≡ inPhase Deaf (holding 0x0000 (withSensor (writtenWithPin (s .sensor) (s .sensor .pointer) (s .sensor .word / 256 * 256 + b)) s)))
 unfolding open-memory open-slot open-fields
 register-low n b s e = (ack-at n s SensorLow e b, at-byte n s SensorLow e b)
 
@@ -403,6 +403,12 @@ another-slot n k on t s ne = (
   next-cases (λ (r : Slot). r ≡ s) n (Temperature k t) s (λ a. refl) (λ a. rw (ne-eqb (k .0) n ne)),
 )
 
-pub own-temperature : (n : ℕ) (t : ℤ) (s : Slot) → absent s ≡ false → slotNext n (Temperature (record { 0 = n }) t) s ≡ withSensor (converted (s .sensor) t) s
-unfolding presentNext
-own-temperature n t s a = present-next n _ s a ∙ rw (eq-eqb n n refl)
+pub own-temperature : (n : ℕ) (t : ℤ) (s : Slot) → sensing s ≡ true → slotNext n (Temperature (record { 0 = n }) t) s ≡ withSensor (convertedWithPin (s .sensor) t) s
+unfolding presentNext heated
+own-temperature n t s h = present-next n _ s (sensing-present s h) ∙ rw (eq-eqb n n refl, h)
+
+-- "kind 9: slot without sensor" is refused, and would change nothing
+pub no-temperature : (n : ℕ) (k : SlotNo) (t : ℤ) (s : Slot) → sensing s ≡ false → slotNext n (Temperature k t) s ≡ s
+unfolding presentNext heated
+no-temperature n k t s h =
+    next-cases (λ (r : Slot). r ≡ s) n (Temperature k t) s (λ a. refl) (λ a. cond-cases (λ (r : Slot). r ≡ s) (eqb (k .0) n) (λ e. rw h) (λ e. refl))

@@ -15,7 +15,7 @@ use Rattle.rules.specs.Sensor.{registerOf, shutDown, criticalLocked, lim
 
 -- a sensor with a value of its own in every register that can change, unlocked
 abbrev full : Sensor
-full = record { pointer = 0x03; configuration = 0x0203; high = 0x0110; low = 0x0220; critical = 0x0330; temperature = 0x0440; resolution = 0x02; timeout = 0x00; word = 0x5555 }
+full = record { pointer = 0x03; configuration = 0x0203; high = 0x0110; low = 0x0220; critical = 0x0330; temperature = 0x0440; resolution = 0x02; timeout = 0x00; word = 0x5555; pending = false }
 
 abbrev pointers : List ℕ
 pointers = 0x00 ∷ 0x01 ∷ 0x02 ∷ 0x03 ∷ 0x04 ∷ 0x05 ∷ 0x06 ∷ 0x07 ∷ 0x08 ∷ 0x09 ∷ []

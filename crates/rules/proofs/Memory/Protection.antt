@@ -24,9 +24,9 @@ use Rattle.rules.specs.declared.Phase.the-variants.{Idle, Control, Deaf,
 use Rattle.rules.specs.declared.Slot.{Slot}
 use Rattle.rules.specs.Fields.{inPhase, withVoltage, withSensor}
 use Rattle.rules.specs.Fresh.{noBlocks, freshSlot, powered}
-use Rattle.rules.specs.Sensor.{written}
+use Rattle.rules.specs.Pin.{writtenWithPin}
 use Rattle.rules.specs.Control.{heardOf, acksControl, obeyed, controlled}
-use Rattle.rules.specs.Modelled.{absent}
+use Rattle.rules.specs.Modelled.{absent, sensing}
 use Rattle.rules.specs.Memory.{cancelled, guarded, anyMark, ticked}
 use Rattle.rules.specs.Slot.{standing, commanding, letGo, byteIn, readIn, stopIn, presentNext, slotNext, acksIn, acks}
 use Rattle.rules.specs.Bus.{busNext}
@@ -137,7 +137,7 @@ module _ (n b : ℕ) (s : Slot) where
   byte-step CommandStop p = quiet (gone CommandStop s)
   byte-step SensorPointer p = quiet (cond-cases (Calm s) (leb b 0x09) (λ e. kept s) (λ e. gone SensorPointer s))
   byte-step SensorHigh p = quiet (kept s)
-  byte-step SensorLow p = quiet (gone SensorLow (withSensor (written (s .sensor) (s .sensor .pointer) (s .sensor .word / 256 * 256 + b)) s))
+  byte-step SensorLow p = quiet (gone SensorLow (withSensor (writtenWithPin (s .sensor) (s .sensor .pointer) (s .sensor .word / 256 * 256 + b)) s))
   byte-step SensorReadHigh p = quiet (gone SensorReadHigh s)
   byte-step SensorReadLow p = quiet (gone SensorReadLow s)
 
@@ -192,7 +192,7 @@ present-step n Tick s h = tick-step n s h
 present-step n (Voltage k on) s h = calm (Voltage k on) refl (cond-cases (Calm s) (eqb (k .0) n)
     (λ e. cond-cases (λ (r : Slot). Calm s (withVoltage on r)) (commanding (standing s) && s .voltage && not on) (λ e. gone (standing s) s) (λ e. kept s)) (λ e. kept s))
 present-step n (Power k) s h = power-step n k s h
-present-step n (Temperature k t) s h = calm (Temperature k t) refl (cond-cases (Calm s) (eqb (k .0) n) (λ e. kept s) (λ e. kept s))
+present-step n (Temperature k t) s h = calm (Temperature k t) refl (cond-cases (Calm s) (eqb (k .0) n) (λ e. cond-cases (Calm s) (sensing s) (λ f. kept s) (λ f. kept s)) (λ e. kept s))
 
 untouched : (n : ℕ) (a : Act) (s : Slot) → absent s ≡ true → Step n a s s
 untouched n a s e = record { kind = refl; length = refl; protection = rw (e, and-false); coming = asBefore refl; cycle = asWas refl }

@@ -36,13 +36,16 @@ use Rattle.rules.specs.Events.{actOf, carried, refusalNumber}
 use Rattle.rules.specs.Fresh.{freshSlot, setupSlot, powered}
 use Rattle.rules.specs.Control.{commandOf, heardOf, acksControl, obeyed, controlled}
 use Rattle.rules.specs.Memory.{emptied, abandoned, cancelled, loaded, guarded, upInPage, latching, dataByte, fetched, anyMark, begun, dataStop, ended, ticked}
+use Rattle.rules.specs.Modelled.{sensing}
 use Rattle.rules.specs.Power.{running, cut, powerCut}
-use Rattle.rules.specs.Slot.{standing, commanding, letGo, lost, pointer, firstByte, secondByte, byteIn, readIn, stopIn, switched, presentNext, slotNext}
+use Rattle.rules.specs.Slot.{standing, commanding, letGo, lost, pointer, firstByte, secondByte, byteIn, readIn, stopIn, switched, heated, presentNext, slotNext}
 use Rattle.rules.specs.Bus.{busNext, shownFor, shown, anyAck}
-use Rattle.rules.specs.Refusals.{outside, wrongValue, goodLength, goodPair, kindInRange, lengthInRange, sensorInRange, slotInRange, inRange, setupOf}
+use Rattle.rules.specs.Refusals.{outside, wrongValue, goodLength, goodPair, kindInRange, lengthInRange, sensorInRange, pendingInRange, slotInRange, inRange, setupOf}
 use Rattle.rules.specs.Runs.{Bench, taken, given, rulingOn, ruledNext, ruledAnswer, next, answered, after, answers}
 use Rattle.rules.proofs.Run.Cases.{next-cases, let-go-cases}
 use Rattle.rules.proofs.Range.Judged.{Judged, row-1, row-6, row-2, row-3, row-4, no-row, judged}
+use Rattle.rules.proofs.Registers.Pending as Pending
+use Rattle.rules.proofs.Registers.Pending.{Pends, pends, fresh-pends, word-pends, pointing-pends, written-pends, converted-pends}
 use Rattle.rules.proofs.Registers.SensorKept.{fresh-kept, written-kept, converted-kept, word-kept, pointing-kept}
 
 -- the test as facts about the numbers
@@ -54,14 +57,15 @@ pub record Ranges (kind length left half counter place : ℕ) (x : sensor.Sensor
   pub counters : counter ≤ 255
   pub places : place ≤ 15
   pub sensors : sensorInRange x ≡ true
+  pub pins : Pends kind x
 
 abbrev pub InRange : Slot → Type 0
 InRange s = Ranges (s .kind) (s .length) (s .left) (s .half) (s .counter) (s .place) (s .sensor)
 
--- seven tests joined
-module _ (a b c d e f g : Bool) where
-  joined : a ≡ true → b ≡ true → c ≡ true → d ≡ true → e ≡ true → f ≡ true → g ≡ true → (a && b && c && d && e && f && g) ≡ true
-  joined ha hb hc hd he hf hg = rw (ha, hb, hc, hd, he, hf, hg)
+-- eight tests joined
+module _ (a b c d e f g h : Bool) where
+  joined : a ≡ true → b ≡ true → c ≡ true → d ≡ true → e ≡ true → f ≡ true → g ≡ true → h ≡ true → (a && b && c && d && e && f && g && h) ≡ true
+  joined ha hb hc hd he hf hg hh = rw (ha, hb, hc, hd, he, hf, hg, hh)
 
 pub facts : (s : Slot) → slotInRange s ≡ true → InRange s
 unfolding slotInRange kindInRange lengthInRange
@@ -73,7 +77,9 @@ facts s t =
     let c : Bool = leb (s .counter) 255 in
     let p : Bool = leb (s .place) 15 in
     let x : Bool = sensorInRange (s .sensor) in
-    let t₆ = and-left (k && l && f && h && c && p) x t in
+    let q : Bool = pendingInRange s in
+    let t₇ = and-left (k && l && f && h && c && p && x) q t in
+    let t₆ = and-left (k && l && f && h && c && p) x t₇ in
     let t₅ = and-left (k && l && f && h && c) p t₆ in
     let t₄ = and-left (k && l && f && h) c t₅ in
     let t₃ = and-left (k && l && f) h t₄ in
@@ -85,14 +91,16 @@ facts s t =
       halves = leb-true _ _ (and-right (k && l && f) h t₄);
       counters = leb-true _ _ (and-right (k && l && f && h) c t₅);
       places = leb-true _ _ (and-right (k && l && f && h && c) p t₆);
-      sensors = and-right (k && l && f && h && c && p) x t;
+      sensors = and-right (k && l && f && h && c && p) x t₇;
+      pins = pends s (and-right (k && l && f && h && c && p && x) q t);
     }
 
 pub test : (s : Slot) → InRange s → slotInRange s ≡ true
 unfolding slotInRange kindInRange lengthInRange
 test s v =
-    joined _ _ _ _ _ _ _
+    joined _ _ _ _ _ _ _ _
     (le-leb _ _ (v .kinds)) (v .lengths) (le-leb _ _ (v .lefts)) (le-leb _ _ (v .halves)) (le-leb _ _ (v .counters)) (le-leb _ _ (v .places)) (v .sensors)
+    (Pending.in-range s (v .pins))
 
 -- one field replaced: what moves no number of row 6 is kept as it stands
 counter-kept : (n : ℕ) (s : Slot) → n ≤ 255 → InRange s → InRange (Fields.atCounter n s)
@@ -111,9 +119,9 @@ place-kept : (n : ℕ) (s : Slot) → n ≤ 15 → InRange s → InRange (Fields
 unfolding open-fields
 place-kept n s h v = search
 
-sensor-kept : (x : sensor.Sensor) (s : Slot) → sensorInRange x ≡ true → InRange s → InRange (Fields.withSensor x s)
+sensor-kept : (x : sensor.Sensor) (s : Slot) → sensorInRange x ≡ true → Pends (s .kind) x → InRange s → InRange (Fields.withSensor x s)
 unfolding open-fields
-sensor-kept x s h v = search
+sensor-kept x s h p v = search
 
 phase-kept : (p : Phase) (s : Slot) → InRange s → InRange (inPhase p s)
 unfolding open-fields
@@ -133,7 +141,7 @@ cancelled-kept s v = v
 
 holding-kept : (w : ℕ) (s : Slot) → InRange s → InRange (Fields.holding w s)
 unfolding Fields.holding
-holding-kept w s v = sensor-kept _ s (word-kept w (s .sensor) (v .sensors)) v
+holding-kept w s v = sensor-kept _ s (word-kept w (s .sensor) (v .sensors)) (word-pends (s .kind) w (s .sensor) (v .pins)) v
 
 letGo-kept : (p : Phase) (s : Slot) → InRange s → InRange (letGo p s)
 letGo-kept p s v = let-go-cases InRange p s (holding-kept 0x0000 s v) (cancelled-kept s v) (abandoned-kept s v) v
@@ -215,11 +223,11 @@ data-kept b s v = cond-cases InRange (guarded s) (λ e. phase-kept Deaf _ (aband
 pointer-kept : (b : ℕ) (s : Slot) → InRange s → InRange (pointer b s)
 unfolding pointer
 pointer-kept b s v =
-    cond-cases InRange (leb b 0x09) (λ e. phase-kept SensorHigh _ (sensor-kept _ s (pointing-kept b (s .sensor) e (v .sensors)) v)) (λ e. lost-kept SensorPointer s v)
+    cond-cases InRange (leb b 0x09) (λ e. phase-kept SensorHigh _ (sensor-kept _ s (pointing-kept b (s .sensor) e (v .sensors)) (pointing-pends (s .kind) b (s .sensor) (v .pins)) v)) (λ e. lost-kept SensorPointer s v)
 
 second-kept : (b : ℕ) (s : Slot) → InRange s → InRange (secondByte b s)
 unfolding secondByte
-second-kept b s v = lost-kept SensorLow _ (sensor-kept _ s (written-kept (s .sensor) _ _ (v .sensors)) v)
+second-kept b s v = lost-kept SensorLow _ (sensor-kept _ s (written-kept (s .sensor) _ _ (v .sensors)) (written-pends (s .kind) (s .sensor) _ _ (v .pins)) v)
 
 byte-kept : (p : Phase) (n b : ℕ) (s : Slot) → b ≤ 255 → InRange s → InRange (byteIn p n b s)
 unfolding byteIn firstByte
@@ -299,9 +307,16 @@ switched-kept : (on : Bool) (s : Slot) → InRange s → InRange (switched on s)
 unfolding switched
 switched-kept on s v = voltage-kept on _ (cond-cases InRange (commanding (standing s) && s .voltage && not on) (λ e. lost-kept (standing s) s v) (λ e. v))
 
+-- a temperature reaches a slot with a sensor alone
+heated-kept : (t : ℤ) (s : Slot) → InRange s → InRange (heated t s)
+unfolding heated sensing
+heated-kept t s v =
+    cond-cases InRange (eqb (s .kind) 2)
+    (λ e. sensor-kept _ s (converted-kept (s .sensor) t (v .sensors)) (converted-pends (s .kind) (s .sensor) t e (v .pins)) v) (λ e. v)
+
 powered-kept : (s : Slot) → InRange s → InRange (powered s)
 unfolding powered freshSlot open-fields
-powered-kept s v = record { kinds = v .kinds; lengths = v .lengths; lefts = omega arith; halves = omega arith; counters = omega arith; places = omega arith; sensors = fresh-kept }
+powered-kept s v = record { kinds = v .kinds; lengths = v .lengths; lefts = omega arith; halves = omega arith; counters = omega arith; places = omega arith; sensors = fresh-kept; pins = fresh-pends (s .kind) }
 
 -- what is left of a cycle is not looked at
 power-kept : (k : Cut) (s : Slot) → InRange s → InRange (powerCut k s)
@@ -325,7 +340,7 @@ present-kept n Tick s f v = ticked-kept s v
 present-kept n (Voltage k on) s f v = cond-cases InRange (eqb (k .0) n) (λ e. switched-kept on s v) (λ e. v)
 present-kept n (Power k) s f v = power-kept k s v
 present-kept n (Temperature k t) s f v =
-    cond-cases InRange (eqb (k .0) n) (λ e. sensor-kept _ s (converted-kept (s .sensor) t (v .sensors)) v) (λ e. v)
+    cond-cases InRange (eqb (k .0) n) (λ e. heated-kept t s v) (λ e. v)
 
 pub slot-kept : (n : ℕ) (a : Act) (s : Slot) → byteFits (carried a) ≡ true → InRange s → InRange (slotNext n a s)
 slot-kept n a s f v = next-cases InRange n a s (λ e. v) (λ e. present-kept n a s f v)
@@ -397,6 +412,7 @@ pair-in-range p g =
       counters = omega arith;
       places = omega arith;
       sensors = fresh-kept;
+      pins = fresh-pends (p .kind);
     }
 
 pairs-in-range : (ps : List Pair) → allOf goodPair ps ≡ true → allOf slotInRange (map setupSlot ps) ≡ true

@@ -13,13 +13,13 @@ use Rattle.proof_lists.specs.Tests.{cond-cases, cond-true, or-cases}
 use Rattle.rules.specs.declared.Act.{Act}
 use Rattle.rules.specs.declared.Sensor.{Sensor}
 use Rattle.rules.specs.declared.Slot.{Slot}
-use Rattle.rules.specs.Fields.{withConfiguration}
+use Rattle.rules.specs.Fields.{withConfiguration, withPending}
 use Rattle.rules.specs.Open.{open-fields}
 use Rattle.rules.specs.Sensor.{configurationBits, shutDown, criticalLocked, limitsLocked, lockedWrite, configured, written, converted}
 use Rattle.rules.specs.Slot.{slotNext}
 use Rattle.rules.specs.Runs.{slotAfter}
 use Rattle.rules.proofs.Registers.Masks.{and-assoc, and-or, and-bit, or-bit, same-bit}
-use Rattle.rules.proofs.Registers.SensorSteps.{written-cases, Respected, isPower, withoutPower, step-without-power, run-without-power}
+use Rattle.rules.proofs.Registers.SensorSteps.{written-cases, wrote, sensed, Respected, isPower, withoutPower, step-without-power, run-without-power}
 
 -- a write under a lock, seen through a mask: at a literal mask the three masks compute
 locked-masked : (old v m : ℕ) → bitAnd (lockedWrite old v) m
@@ -119,13 +119,17 @@ joined x y z f g =
       shut = λ l h. f .shut l (g .shut (still-locked f l) h);
     }
 
+pinned : (on : Bool) (x : Sensor) → Holds x (withPending on x)
+unfolding open-fields shutDown
+pinned on x = search
+
 every : Respected Holds
 unfolding open-fields shutDown
-every = record { same = same; joined = joined; worded = λ v x. search; pointed = λ b x l. search; writes = written-holds }
+every = record { same = same; joined = joined; worded = λ v x. search; pointed = λ b x l. search; writes = λ x p v. wrote Holds joined pinned x p v (written-holds x p v) }
 
 -- a slot's step and its run
 pub step-holds : (n : ℕ) (a : Act) (s : Slot) → isPower a ≡ false → Holds (s .sensor) ((slotNext n a s) .sensor)
-step-holds = step-without-power Holds every converted-holds
+step-holds = step-without-power Holds every (λ x t. sensed Holds joined pinned x t (converted-holds x t))
 
 pub run-holds : (n : ℕ) (r : List Act) (s : Slot) → withoutPower r ≡ true → Holds (s .sensor) ((slotAfter n r s) .sensor)
-run-holds = run-without-power Holds every converted-holds
+run-holds = run-without-power Holds every (λ x t. sensed Holds joined pinned x t (converted-holds x t))

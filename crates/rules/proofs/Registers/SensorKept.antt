@@ -1,7 +1,7 @@
 -- Row 6 for the sensor: one whose numbers are in range stays so. The test is taken apart into named facts; a change keeps all of them, and masks what it puts in.
 -- Assumes nothing.
 use mathlib.Core.Path.{_≡_, refl}
-use mathlib.Core.Bool.{true}
+use mathlib.Core.Bool.{Bool, true}
 use Prim.Native.Nat.{ℕ}
 use borrow.Author.Tests.{eq-eqb}
 use lib.Bits.{bitAnd}
@@ -11,15 +11,16 @@ use Rattle.proof_lists.specs.Tests.{cond-cases, and-left, and-right}
 use Rattle.rules.specs.declared.Act.{Act}
 use Rattle.rules.specs.declared.Sensor.{Sensor}
 use Rattle.rules.specs.declared.Slot.{Slot}
-use Rattle.rules.specs.Fields.{withWord, pointing}
+use Rattle.rules.specs.Fields.{withWord, pointing, withPending}
 use Rattle.rules.specs.Fresh.{freshSensor}
 use Rattle.rules.specs.Open.{open-fields}
+use Rattle.rules.specs.Pin.{writtenWithPin, convertedWithPin}
 use Rattle.rules.specs.Refusals.{keptIn, sensorInRange}
 use Rattle.rules.specs.Sensor.{configurationBits, limitBits, resolutionBits, timeoutBits, configured, written, shutDown, converted}
 use Rattle.rules.specs.Slot.{slotNext}
 use Rattle.rules.proofs.Registers.Masks.{within}
 use Rattle.rules.proofs.Registers.Locks.{locked, locked-within}
-use Rattle.rules.proofs.Registers.SensorSteps.{written-cases, Respected, step-respects}
+use Rattle.rules.proofs.Registers.SensorSteps.{written-cases, wrote, sensed, Respected, step-respects}
 
 -- the seven tests by name
 record InRange (x : Sensor) : Type 0 where
@@ -63,25 +64,39 @@ pub pointing-kept : (b : ℕ) (x : Sensor) → leb b 9 ≡ true → sensorInRang
 unfolding pointing
 pointing-kept b x l h = let r = parts h in whole (search)
 
-pub written-kept : (x : Sensor) (p v : ℕ) → sensorInRange x ≡ true → sensorInRange (written x p v) ≡ true
+-- what is pending is no number of the sensor's own
+abbrev Kept : Sensor → Sensor → Type 0
+Kept x y = sensorInRange x ≡ true → sensorInRange y ≡ true
+
+after : (x y z : Sensor) → Kept x y → Kept y z → Kept x z
+after x y z f g h = g (f h)
+
+pin-kept : (on : Bool) (x : Sensor) → Kept x (withPending on x)
+unfolding sensorInRange withPending
+pin-kept on x h = h
+
+registers-kept : (x : Sensor) (p v : ℕ) → Kept x (written x p v)
 unfolding open-fields
-written-kept x p v h =
+registers-kept x p v h =
     let r = parts h in
     whole
     (written-cases InRange x p v r (search configured-kept) (λ e. search masked) (λ e. search masked) (λ e. search masked) (search masked) (search masked))
 
-pub converted-kept : (x : Sensor) (t : ℤ) → sensorInRange x ≡ true → sensorInRange (converted x t) ≡ true
-unfolding converted sensorInRange open-fields
-converted-kept x t h = cond-cases (λ (y : Sensor). sensorInRange y ≡ true) (shutDown x) (λ e. h) (λ e. h)
+pub written-kept : (x : Sensor) (p v : ℕ) → Kept x (writtenWithPin x p v)
+written-kept x p v = wrote Kept after pin-kept x p v (registers-kept x p v)
 
-abbrev Kept : Sensor → Sensor → Type 0
-Kept x y = sensorInRange x ≡ true → sensorInRange y ≡ true
+temperature-kept : (x : Sensor) (t : ℤ) → Kept x (converted x t)
+unfolding converted sensorInRange open-fields
+temperature-kept x t h = cond-cases (λ (y : Sensor). sensorInRange y ≡ true) (shutDown x) (λ e. h) (λ e. h)
+
+pub converted-kept : (x : Sensor) (t : ℤ) → Kept x (convertedWithPin x t)
+converted-kept x t = sensed Kept after pin-kept x t (temperature-kept x t)
 
 every : Respected Kept
 every =
     record {
       same = λ x h. h;
-      joined = λ x y z f g h. g (f h);
+      joined = after;
       worded = word-kept;
       pointed = pointing-kept;
       writes = written-kept;

@@ -19,14 +19,16 @@ use Rattle.rules.specs.declared.Phase.the-variants.{Idle, Control, Deaf,
 use Rattle.rules.specs.declared.Sensor.{Sensor}
 use Rattle.rules.specs.declared.Slot.{Slot}
 use Rattle.rules.specs.Control.{acksControl, heardOf, obeyed}
-use Rattle.rules.specs.Fields.{withSensor, pointing, withWord, withConfiguration, withHigh, withLow, withCritical, withResolution, withTimeout}
+use Rattle.rules.specs.Fields.{withSensor, pointing, withWord, withConfiguration, withHigh, withLow, withCritical, withResolution, withTimeout, withPending}
 use Rattle.rules.specs.Fresh.{freshSensor, freshSlot, powered}
 use Rattle.rules.specs.Memory.{guarded, anyMark}
+use Rattle.rules.specs.Modelled.{sensing}
 use Rattle.rules.specs.Open.{open-fields, open-memory, open-control, open-slot}
 use Rattle.rules.specs.Sensor.{limitBits, resolutionBits, timeoutBits, criticalLocked, limitsLocked, configured, written, converted}
+use Rattle.rules.specs.Pin.{writtenWithPin, convertedWithPin}
 use Rattle.rules.specs.Runs.{slotAfter}
 use Rattle.rules.specs.Power.{powerCut}
-use Rattle.rules.specs.Slot.{standing, commanding, letGo, lost, byteIn, readIn, stopIn, presentNext, slotNext, switched}
+use Rattle.rules.specs.Slot.{standing, commanding, letGo, lost, byteIn, readIn, stopIn, heated, presentNext, slotNext, switched}
 use Rattle.rules.proofs.Run.Cases.{next-cases, let-go-cases}
 
 -- a write replaces one register, no locked one, or changes nothing
@@ -49,13 +51,23 @@ written-cases P x p v same configuration high low critical resolution timeout =
     (λ e. cond-cases P (eqb p 0x09) (λ e. timeout)
     (λ e. same))))))
 
+-- a relation that does not look at what is pending goes by document 01's write and conversion alone
+module _ (R : Sensor → Sensor → Type 0) (joined : (x y z : Sensor) → R x y → R y z → R x z) (pinned : (on : Bool) (x : Sensor) → R x (withPending on x)) where
+  pub wrote : (x : Sensor) (p v : ℕ) → R x (written x p v) → R x (writtenWithPin x p v)
+  unfolding writtenWithPin
+  wrote x p v f = joined x (written x p v) _ f (pinned _ (written x p v))
+
+  pub sensed : (x : Sensor) (t : ℤ) → R x (converted x t) → R x (convertedWithPin x t)
+  unfolding convertedWithPin
+  sensed x t f = joined x (converted x t) _ f (pinned _ (converted x t))
+
 -- R x y relates the sensor x to the sensor y that it becomes: every change that an exchange makes respects it, also one after another
 pub record Respected (R : Sensor → Sensor → Type 0) : Type 0 where
   pub same : (x : Sensor) → R x x
   pub joined : (x y z : Sensor) → R x y → R y z → R x z
   pub worded : (v : ℕ) (x : Sensor) → R x (withWord v x)
   pub pointed : (b : ℕ) (x : Sensor) → leb b 0x09 ≡ true → R x (pointing b x)
-  pub writes : (x : Sensor) (p v : ℕ) → R x (written x p v)
+  pub writes : (x : Sensor) (p v : ℕ) → R x (writtenWithPin x p v)
 
 unfoldable pub isPower : Act → Bool
 isPower Start = false
@@ -126,7 +138,7 @@ module _ (R : Sensor → Sensor → Type 0) (every : Respected R) where
   byte-goes SensorLow n b s =
       let p = s .sensor .pointer in
       let v = s .sensor .word / 256 * 256 + b in
-      let x = written (s .sensor) p v in
+      let x = writtenWithPin (s .sensor) p v in
       every .joined (s .sensor) x _ (every .writes (s .sensor) p v) (gone SensorLow (withSensor x s))
   byte-goes SensorReadHigh n b s = gone SensorReadHigh s
   byte-goes SensorReadLow n b s = gone SensorReadLow s
@@ -167,9 +179,9 @@ module _ (R : Sensor → Sensor → Type 0) (every : Respected R) where
   stop-goes SensorReadHigh s = gone SensorReadHigh s
   stop-goes SensorReadLow s = gone SensorReadLow s
 
-  present-goes : (n : ℕ) (a : Act) (s : Slot) → (isPower a ≡ true → R (s .sensor) freshSensor) → ((t : ℤ) → isHeat a ≡ true → R (s .sensor) (converted (s .sensor) t))
+  present-goes : (n : ℕ) (a : Act) (s : Slot) → (isPower a ≡ true → R (s .sensor) freshSensor) → ((t : ℤ) → isHeat a ≡ true → R (s .sensor) (convertedWithPin (s .sensor) t))
       → Goes s (presentNext n a s)
-  unfolding isPower isHeat presentNext switched powerCut powered freshSlot lost open-fields open-memory
+  unfolding isPower isHeat presentNext heated switched powerCut powered freshSlot lost open-fields open-memory
   present-goes n Start s fresh hot = gone (standing s) s
   present-goes n (Byte b) s fresh hot = byte-goes (standing s) n b s
   present-goes n (Read more) s fresh hot = read-goes (standing s) more s
@@ -182,14 +194,14 @@ module _ (R : Sensor → Sensor → Type 0) (every : Respected R) where
       (λ e. still s)
   present-goes n (Power k) s fresh hot = fresh refl
   present-goes n (Temperature k t) s fresh hot =
-      cond-cases (Goes s) (eqb (k .0) n) (λ e. hot t refl) (λ e. still s)
+      cond-cases (Goes s) (eqb (k .0) n) (λ e. cond-cases (Goes s) (sensing s) (λ f. hot t refl) (λ f. still s)) (λ e. still s)
 
   -- power puts the sensor at its defaults, and a temperature converts: what these must respect is asked of the caller
-  pub step-respects : (n : ℕ) (a : Act) (s : Slot) → (isPower a ≡ true → R (s .sensor) freshSensor) → ((t : ℤ) → isHeat a ≡ true → R (s .sensor) (converted (s .sensor) t))
+  pub step-respects : (n : ℕ) (a : Act) (s : Slot) → (isPower a ≡ true → R (s .sensor) freshSensor) → ((t : ℤ) → isHeat a ≡ true → R (s .sensor) (convertedWithPin (s .sensor) t))
       → R (s .sensor) ((slotNext n a s) .sensor)
   step-respects n a s fresh hot = next-cases (Goes s) n a s (λ e. still s) (λ e. present-goes n a s fresh hot)
 
-  module _ (converts : (x : Sensor) (t : ℤ) → R x (converted x t)) where
+  module _ (converts : (x : Sensor) (t : ℤ) → R x (convertedWithPin x t)) where
     pub step-without-power : (n : ℕ) (a : Act) (s : Slot) → isPower a ≡ false → R (s .sensor) ((slotNext n a s) .sensor)
     step-without-power n a s h = step-respects n a s (λ e. absurd (false≢true (sym h ∙ e))) (λ t e. converts (s .sensor) t)
 
@@ -210,8 +222,8 @@ cool : Respected Cool
 unfolding open-fields
 cool = record { same = λ x. refl; joined = λ x y z f g. g ∙ f; worded = λ v x. refl; pointed = λ b x l. refl; writes = cool-writes }
   where
-    cool-writes : (x : Sensor) (p v : ℕ) → Cool x (written x p v)
-    cool-writes x p v = written-cases (Cool x) x p v refl refl (λ e. refl) (λ e. refl) (λ e. refl) refl refl
+    cool-writes : (x : Sensor) (p v : ℕ) → Cool x (writtenWithPin x p v)
+    cool-writes x p v = wrote Cool (λ x y z f g. g ∙ f) (λ on x. refl) x p v (written-cases (Cool x) x p v refl refl (λ e. refl) (λ e. refl) (λ e. refl) refl refl)
 
 pub only-heat-and-power : (n : ℕ) (a : Act) (s : Slot) → isPower a ≡ false → isHeat a ≡ false → (slotNext n a s) .sensor .temperature ≡ s .sensor .temperature
 only-heat-and-power n a s p h = step-respects Cool cool n a s (λ e. absurd (false≢true (sym p ∙ e))) (λ t e. absurd (false≢true (sym h ∙ e)))

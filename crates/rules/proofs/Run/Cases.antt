@@ -3,6 +3,8 @@
 use Prim.Native.Nat.{ℕ}
 use mathlib.Core.Path.{_≡_, refl, sym, ap}
 use mathlib.Core.Bool.{Bool, true, false, not, _&&_, _||_}
+use borrow.Author.Tests.{eqb-true}
+use lib.Dec.{eqb}
 use Rattle.proof_lists.specs.Tests.{cond-cases}
 use Rattle.rules.specs.declared.Act.{Act}
 use Rattle.rules.specs.declared.Act.the-variants.{Byte, Read}
@@ -26,6 +28,11 @@ absent-next n a s e = rw e
 pub present-next : (n : ℕ) (a : Act) (s : Slot) → absent s ≡ false → slotNext n a s ≡ presentNext n a s
 unfolding slotNext
 present-next n a s e = rw e
+
+-- a slot with a sensor is present
+pub sensing-present : (s : Slot) → sensing s ≡ true → absent s ≡ false
+unfolding sensing absent
+sensing-present s e = ap (λ (k : ℕ). eqb k 0) (eqb-true (s .kind) 2 e)
 
 -- what is let go is a register's bytes, a command, latched bytes, or nothing
 module _ (P : Slot → Type 0) (p : Phase) (s : Slot) where
