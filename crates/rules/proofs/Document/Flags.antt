@@ -19,10 +19,10 @@ use Rattle.rules.specs.Modelled.{absent, sensing, addressOf}
 use Rattle.rules.specs.Fields.{withSensor}
 use Rattle.rules.specs.Sensor.{signedOf, hysteresisOf, loweredOf, flagOf, criticalFlag, highFlag, lowFlag, converted}
 use Rattle.rules.specs.Pin.{convertedWithPin}
-use Rattle.rules.specs.Slot.{standing, drivenIn, heated, presentNext, slotNext, driven}
+use Rattle.rules.specs.Slot.{standing, drivenIn, presentNext, slotNext, driven}
 use Rattle.rules.proofs.Registers.Signed.{natural, less, le-to, le-from, lt-to, lt-from, holds, fails}
 use Rattle.rules.proofs.Registers.Words.{word-fixed}
-use Rattle.rules.proofs.Run.Cases.{next-cases}
+use Rattle.rules.proofs.Run.Cases.{next-cases, heated-cases}
 
 -- "both bytes are fixed at the control byte's ACK": no temperature changes what a slot drives
 driven-fixed : (p : Phase) (x : sensor.Sensor) (s : Slot) (m : List ℕ) → x .word ≡ s .sensor .word → drivenIn p (withSensor x s) m ≡ drivenIn p s m
@@ -44,12 +44,12 @@ driven-fixed SensorReadHigh x s m e = rw e
 driven-fixed SensorReadLow x s m e = rw e
 
 pub sensor-bytes-fixed : (n : ℕ) (k : SlotNo) (t : ℤ) (s : Slot) (m : List ℕ) → driven m (slotNext n (Temperature k t) s) ≡ driven m s
-unfolding driven presentNext heated standing absent sensing withSensor
+unfolding driven presentNext standing absent sensing withSensor
 sensor-bytes-fixed n k t s m =
     next-cases (λ (r : Slot). driven m r ≡ driven m s) n (Temperature k t) s (λ e. refl) λ e.
     cond-cases (λ (r : Slot). driven m r ≡ driven m s) (eqb (k .0) n)
-    (λ e. cond-cases (λ (r : Slot). driven m r ≡ driven m s) (sensing s)
-    (λ f. driven-fixed (standing s) (convertedWithPin (s .sensor) t) s m (word-fixed (s .sensor) t)) (λ f. refl)) (λ e. refl)
+    (λ e. heated-cases (λ (r : Slot). driven m r ≡ driven m s) t s (driven-fixed (standing s) (convertedWithPin (s .sensor) t) s m (word-fixed (s .sensor) t)) refl)
+    (λ e. refl)
 
 -- signed tests
 below : (a b : ℤ) → ltZ a b ≡ true → leZ b a ≡ false

@@ -26,7 +26,7 @@ use Rattle.rules.specs.Fields.{inPhase, withVoltage, withSensor}
 use Rattle.rules.specs.Fresh.{noBlocks, freshSlot, powered}
 use Rattle.rules.specs.Pin.{writtenWithPin}
 use Rattle.rules.specs.Control.{heardOf, acksControl, obeyed, controlled}
-use Rattle.rules.specs.Modelled.{absent, sensing}
+use Rattle.rules.specs.Modelled.{absent}
 use Rattle.rules.specs.Memory.{cancelled, guarded, anyMark, ticked}
 use Rattle.rules.specs.Slot.{standing, commanding, letGo, byteIn, readIn, stopIn, presentNext, slotNext, acksIn, acks}
 use Rattle.rules.specs.Bus.{busNext}
@@ -34,7 +34,7 @@ use Rattle.rules.specs.Refusals.{kindsOf}
 use Rattle.rules.specs.Runs.{Bench, taken, next, after}
 use Rattle.rules.specs.Power.{running, broughtBy, cut, powerCut}
 use Rattle.rules.specs.Open.{open-fields, open-memory, open-slot}
-use Rattle.rules.proofs.Run.Cases.{next-cases, let-go-cases}
+use Rattle.rules.proofs.Run.Cases.{next-cases, heated-cases, let-go-cases}
 use Rattle.rules.proofs.Run.Unchanged.{same-next, same-after}
 use Rattle.rules.proofs.Memory.Stored.{ends, storing, finishes}
 
@@ -192,7 +192,7 @@ present-step n Tick s h = tick-step n s h
 present-step n (Voltage k on) s h = calm (Voltage k on) refl (cond-cases (Calm s) (eqb (k .0) n)
     (λ e. cond-cases (λ (r : Slot). Calm s (withVoltage on r)) (commanding (standing s) && s .voltage && not on) (λ e. gone (standing s) s) (λ e. kept s)) (λ e. kept s))
 present-step n (Power k) s h = power-step n k s h
-present-step n (Temperature k t) s h = calm (Temperature k t) refl (cond-cases (Calm s) (eqb (k .0) n) (λ e. cond-cases (Calm s) (sensing s) (λ f. kept s) (λ f. kept s)) (λ e. kept s))
+present-step n (Temperature k t) s h = calm (Temperature k t) refl (cond-cases (Calm s) (eqb (k .0) n) (λ e. heated-cases (Calm s) t s (kept s) (kept s)) (λ e. kept s))
 
 untouched : (n : ℕ) (a : Act) (s : Slot) → absent s ≡ true → Step n a s s
 untouched n a s e = record { kind = refl; length = refl; protection = rw (e, and-false); coming = asBefore refl; cycle = asWas refl }

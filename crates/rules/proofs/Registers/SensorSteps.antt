@@ -22,14 +22,13 @@ use Rattle.rules.specs.Control.{acksControl, heardOf, obeyed}
 use Rattle.rules.specs.Fields.{withSensor, pointing, withWord, withConfiguration, withHigh, withLow, withCritical, withResolution, withTimeout, withPending}
 use Rattle.rules.specs.Fresh.{freshSensor, freshSlot, powered}
 use Rattle.rules.specs.Memory.{guarded, anyMark}
-use Rattle.rules.specs.Modelled.{sensing}
 use Rattle.rules.specs.Open.{open-fields, open-memory, open-control, open-slot}
 use Rattle.rules.specs.Sensor.{limitBits, resolutionBits, timeoutBits, criticalLocked, limitsLocked, configured, written, converted}
 use Rattle.rules.specs.Pin.{writtenWithPin, convertedWithPin}
 use Rattle.rules.specs.Runs.{slotAfter}
 use Rattle.rules.specs.Power.{powerCut}
-use Rattle.rules.specs.Slot.{standing, commanding, letGo, lost, byteIn, readIn, stopIn, heated, presentNext, slotNext, switched}
-use Rattle.rules.proofs.Run.Cases.{next-cases, let-go-cases}
+use Rattle.rules.specs.Slot.{standing, commanding, letGo, lost, byteIn, readIn, stopIn, presentNext, slotNext, switched}
+use Rattle.rules.proofs.Run.Cases.{next-cases, heated-cases, let-go-cases}
 
 -- a write replaces one register, no locked one, or changes nothing
 pub written-cases : (P : Sensor → Type 0) (x : Sensor) (p v : ℕ)
@@ -181,7 +180,7 @@ module _ (R : Sensor → Sensor → Type 0) (every : Respected R) where
 
   present-goes : (n : ℕ) (a : Act) (s : Slot) → (isPower a ≡ true → R (s .sensor) freshSensor) → ((t : ℤ) → isHeat a ≡ true → R (s .sensor) (convertedWithPin (s .sensor) t))
       → Goes s (presentNext n a s)
-  unfolding isPower isHeat presentNext heated switched powerCut powered freshSlot lost open-fields open-memory
+  unfolding isPower isHeat presentNext switched powerCut powered freshSlot lost open-fields open-memory
   present-goes n Start s fresh hot = gone (standing s) s
   present-goes n (Byte b) s fresh hot = byte-goes (standing s) n b s
   present-goes n (Read more) s fresh hot = read-goes (standing s) more s
@@ -194,7 +193,7 @@ module _ (R : Sensor → Sensor → Type 0) (every : Respected R) where
       (λ e. still s)
   present-goes n (Power k) s fresh hot = fresh refl
   present-goes n (Temperature k t) s fresh hot =
-      cond-cases (Goes s) (eqb (k .0) n) (λ e. cond-cases (Goes s) (sensing s) (λ f. hot t refl) (λ f. still s)) (λ e. still s)
+      cond-cases (Goes s) (eqb (k .0) n) (λ e. heated-cases (Goes s) t s (hot t refl) (still s)) (λ e. still s)
 
   -- power puts the sensor at its defaults, and a temperature converts: what these must respect is asked of the caller
   pub step-respects : (n : ℕ) (a : Act) (s : Slot) → (isPower a ≡ true → R (s .sensor) freshSensor) → ((t : ℤ) → isHeat a ≡ true → R (s .sensor) (convertedWithPin (s .sensor) t))

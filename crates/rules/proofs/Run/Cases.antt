@@ -5,6 +5,7 @@ use mathlib.Core.Path.{_≡_, refl, sym, ap}
 use mathlib.Core.Bool.{Bool, true, false, not, _&&_, _||_}
 use borrow.Author.Tests.{eqb-true}
 use lib.Dec.{eqb}
+use lib.IntN.{ℤ}
 use Rattle.proof_lists.specs.Tests.{cond-cases}
 use Rattle.rules.specs.declared.Act.{Act}
 use Rattle.rules.specs.declared.Act.the-variants.{Byte, Read}
@@ -12,9 +13,10 @@ use Rattle.rules.specs.declared.Phase.{Phase}
 use Rattle.rules.specs.declared.Phase.the-variants.{Deaf}
 use Rattle.rules.specs.declared.Slot.{Slot}
 use Rattle.rules.specs.Modelled.{absent, sensing}
-use Rattle.rules.specs.Fields.{holding}
+use Rattle.rules.specs.Fields.{holding, withSensor}
 use Rattle.rules.specs.Memory.{abandoned, cancelled}
-use Rattle.rules.specs.Slot.{withSensorIn, commanding, taking, standing, letGo, byteIn, readIn, presentNext, slotNext}
+use Rattle.rules.specs.Pin.{convertedWithPin}
+use Rattle.rules.specs.Slot.{withSensorIn, commanding, taking, standing, letGo, byteIn, readIn, heated, presentNext, slotNext}
 
 -- an absent slot stays as it is
 pub next-cases : (P : Slot → Type 0) (n : ℕ) (a : Act) (s : Slot) → (absent s ≡ true → P s) → (absent s ≡ false → P (presentNext n a s)) → P (slotNext n a s)
@@ -33,6 +35,11 @@ present-next n a s e = rw e
 pub sensing-present : (s : Slot) → sensing s ≡ true → absent s ≡ false
 unfolding sensing absent
 sensing-present s e = ap (λ (k : ℕ). eqb k 0) (eqb-true (s .kind) 2 e)
+
+-- a temperature reaches a slot with a sensor alone
+pub heated-cases : (P : Slot → Type 0) (t : ℤ) (s : Slot) → P (withSensor (convertedWithPin (s .sensor) t) s) → P s → P (heated t s)
+unfolding heated
+heated-cases P t s with without = cond-cases P (sensing s) (λ e. with) (λ e. without)
 
 -- what is let go is a register's bytes, a command, latched bytes, or nothing
 module _ (P : Slot → Type 0) (p : Phase) (s : Slot) where

@@ -24,7 +24,7 @@ use Rattle.rules.specs.Power.{powerCut}
 use Rattle.rules.specs.Slot.{commanding, standing, letGo, lost, pointer, firstByte, secondByte, byteIn, readIn, stopIn, switched, presentNext, slotNext}
 use Rattle.rules.specs.Refusals.{setupOf}
 use Rattle.rules.specs.Runs.{after}
-use Rattle.rules.proofs.Run.Cases.{next-cases, let-go-cases}
+use Rattle.rules.proofs.Run.Cases.{next-cases, heated-cases, let-go-cases}
 use Rattle.rules.proofs.Run.Everywhere.{Everywhere, after-everywhere, setup-everywhere}
 
 abbrev pub Sixteen : Slot → Type 0
@@ -114,7 +114,7 @@ module _ (n : ℕ) (s : Slot) (h : Sixteen s) where
   present-keeps (Voltage k on) = cond-cases Sixteen (eqb (k .0) n)
       (λ e. cond-cases Sixteen (commanding (standing s) && s .voltage && not on) (λ f. let-go-keeps (standing s)) (λ f. h)) (λ e. h)
   present-keeps (Power k) = (refl, refl)
-  present-keeps (Temperature k t) = cond-cases Sixteen (eqb (k .0) n) (λ e. h) (λ e. h)
+  present-keeps (Temperature k t) = cond-cases Sixteen (eqb (k .0) n) (λ e. heated-cases Sixteen t s h h) (λ e. h)
 
 pub slot-sixteen : (n : ℕ) (a : Act) (s : Slot) → Sixteen s → Sixteen (slotNext n a s)
 slot-sixteen n a s h = next-cases Sixteen n a s (λ e. h) (λ e. present-keeps n s h a)

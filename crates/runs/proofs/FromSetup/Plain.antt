@@ -1,5 +1,5 @@
 -- Two more things that hold of every slot after any run from setup: its protection speaks of four blocks, and without a sensor its registers are fresh.
--- The first is kept by every act, the second by every event: a temperature for a slot without a sensor is refused by row 3.
+-- Every act keeps both.
 -- Assumes nothing.
 use Prim.Native.Nat.{ℕ, suc, _≤_, _<_}
 use native.Mathlib.Omega.{arith}
@@ -32,7 +32,7 @@ use Rattle.rules.specs.Fresh.{freshSensor, freshSlot, setupSlot, absentSlot, po
 use Rattle.rules.specs.Control.{heardOf, acksHeard, acksControl, obeyed, controlled}
 use Rattle.rules.specs.Memory.{guarded, anyMark}
 use Rattle.rules.specs.Power.{powerCut}
-use Rattle.rules.specs.Slot.{withSensorIn, commanding, taking, standing, letGo, lost, byteIn, readIn, stopIn, switched, presentNext, slotNext}
+use Rattle.rules.specs.Slot.{withSensorIn, commanding, taking, standing, letGo, lost, byteIn, readIn, stopIn, switched, heated, presentNext, slotNext}
 use Rattle.rules.specs.Bus.{busNext}
 use Rattle.rules.specs.Refusals.{unknownKind, kindsOf, kindAt, wrongSlot, setupOf}
 use Rattle.rules.specs.Runs.{Bench, taken, rulingOn, ruledNext, next, after}
@@ -73,7 +73,7 @@ unfolding standing
 stands-without s e = cond-cases (λ (p : Phase). withSensorIn p ≡ false) (absent s || (withSensorIn (s .phase) && not (sensing s))) (λ h. refl)
     (λ h. by-test (withSensorIn (s .phase)) (λ g. absurd (false≢true (sym (or-right-false (absent s) (withSensorIn (s .phase) && not (sensing s)) h) ∙ rw (g, e)))) (λ g. g))
 
--- and every step leaves its registers, save power, and a temperature for this slot
+-- and every step leaves its registers, save power
 module _ (n : ℕ) (s : Slot) (none : sensing s ≡ false) where
   abbrev Keeps : Slot → Type 0
   Keeps r = r .sensor ≡ s .sensor
@@ -149,96 +149,26 @@ module _ (n : ℕ) (s : Slot) (none : sensing s ≡ false) where
   stop-keeps SensorReadHigh e = absurd (false≢true (sym e))
   stop-keeps SensorReadLow e = absurd (false≢true (sym e))
 
--- an act that is no temperature for slot n, if that has no sensor
-abbrev pub Fitting : ℕ → Slot → Act → Type 0
-Fitting n s Start = Unit {0}
-Fitting n s (Byte b) = Unit {0}
-Fitting n s (Read more) = Unit {0}
-Fitting n s Stop = Unit {0}
-Fitting n s Timeout = Unit {0}
-Fitting n s Tick = Unit {0}
-Fitting n s (Voltage k on) = Unit {0}
-Fitting n s (Power k) = Unit {0}
-Fitting n s (Temperature k t) = k .0 ≡ n → sensing s ≡ true
-
-present-plain : (n : ℕ) (a : Act) (s : Slot) → Fitting n s a → sensing s ≡ false → s .sensor ≡ freshSensor → (presentNext n a s) .sensor ≡ freshSensor
-unfolding presentNext switched powerCut powered freshSlot lost open-memory open-fields
-present-plain n Start s g e h = let-go-keeps n s e (standing s) (stands-without s e) ∙ h
-present-plain n (Byte b) s g e h = byte-keeps n s e (standing s) b (stands-without s e) ∙ h
-present-plain n (Read more) s g e h = read-keeps n s e (standing s) more (stands-without s e) ∙ h
-present-plain n Stop s g e h = stop-keeps n s e (standing s) (stands-without s e) ∙ h
-present-plain n Timeout s g e h = let-go-keeps n s e (standing s) (stands-without s e) ∙ h
-present-plain n Tick s g e h = cond-cases (λ (r : Slot). r .sensor ≡ freshSensor) (eqb (s .left) 1) (λ f. h) (λ f. h)
-present-plain n (Voltage k on) s g e h = cond-cases (λ (r : Slot). r .sensor ≡ freshSensor) (eqb (k .0) n)
+present-plain : (n : ℕ) (a : Act) (s : Slot) → sensing s ≡ false → s .sensor ≡ freshSensor → (presentNext n a s) .sensor ≡ freshSensor
+unfolding presentNext heated switched powerCut powered freshSlot lost open-memory open-fields
+present-plain n Start s e h = let-go-keeps n s e (standing s) (stands-without s e) ∙ h
+present-plain n (Byte b) s e h = byte-keeps n s e (standing s) b (stands-without s e) ∙ h
+present-plain n (Read more) s e h = read-keeps n s e (standing s) more (stands-without s e) ∙ h
+present-plain n Stop s e h = stop-keeps n s e (standing s) (stands-without s e) ∙ h
+present-plain n Timeout s e h = let-go-keeps n s e (standing s) (stands-without s e) ∙ h
+present-plain n Tick s e h = cond-cases (λ (r : Slot). r .sensor ≡ freshSensor) (eqb (s .left) 1) (λ f. h) (λ f. h)
+present-plain n (Voltage k on) s e h = cond-cases (λ (r : Slot). r .sensor ≡ freshSensor) (eqb (k .0) n)
     (λ f. cond-cases (λ (r : Slot). r .sensor ≡ freshSensor) (commanding (standing s) && s .voltage && not on)
     (λ f. let-go-keeps n s e (standing s) (stands-without s e) ∙ h) (λ f. h)) (λ f. h)
-present-plain n (Power k) s g e h = refl
-present-plain n (Temperature k t) s g e h = cond-cases (λ (r : Slot). r .sensor ≡ freshSensor) (eqb (k .0) n)
-    (λ f. absurd (false≢true (sym e ∙ g (eqb-true (k .0) n f)))) (λ f. h)
+present-plain n (Power k) s e h = refl
+present-plain n (Temperature k t) s e h = cond-cases (λ (r : Slot). r .sensor ≡ freshSensor) (eqb (k .0) n)
+    (λ f. rw e h) (λ f. h)
 
-pub slot-plain : (n : ℕ) (a : Act) (s : Slot) → Fitting n s a → Plain s → Plain (slotNext n a s)
+pub slot-plain : (n : ℕ) (a : Act) (s : Slot) → Plain s → Plain (slotNext n a s)
 unfolding sensing
-slot-plain n a s g h e =
+slot-plain n a s h e =
     let f : eqb (s .kind) 2 ≡ false = ap (λ (k : ℕ). eqb k 2) (sym (kind-next n a s)) ∙ e in
-    next-cases (λ (r : Slot). r .sensor ≡ freshSensor) n a s (λ i. h f) (λ i. present-plain n a s g f (h f))
-
--- "kind 9: slot without sensor": an event that rows 2 and 3 let pass is no temperature for a slot without one
-passes-fitting : (e : Event) (kind n : ℕ) (s : Slot) → unknownKind e ≡ false → wrongSlot kind e ≡ false → (e .slot .0 ≡ n → s .kind ≡ kind) → Fitting n s (actOf e)
-unfolding actOf unknownKind wrongSlot sensing
-passes-fitting e kind n s u w same =
-    cond-cases P (eqb (e .kind) 1) (λ h. tt) λ h₁.
-    cond-cases P (eqb (e .kind) 2) (λ h. tt) λ h₂.
-    cond-cases P (eqb (e .kind) 3) (λ h. tt) λ h₃.
-    cond-cases P (eqb (e .kind) 4) (λ h. tt) λ h₄.
-    cond-cases P (eqb (e .kind) 5) (λ h. tt) λ h₅.
-    cond-cases P (eqb (e .kind) 6) (λ h. tt) λ h₆.
-    cond-cases P (eqb (e .kind) 7) (λ h. tt) λ h₇.
-    cond-cases P (eqb (e .kind) 8) (λ h. tt) λ h₈ there.
-    let low : 1 ≤ e .kind = ltb-false (e .kind) 1 (or-left-false (ltb (e .kind) 1) (ltb 9 (e .kind)) u) in
-    let high : e .kind ≤ 9 = ltb-false 9 (e .kind) (or-right-false (ltb (e .kind) 1) (ltb 9 (e .kind)) u) in
-    let nine : eqb (e .kind) 9 ≡ true = eq-eqb (e .kind) 9 (le-antisymm high (up 8 (up 7 (up 6 (up 5 (up 4 (up 3 (up 2 (up 1 low h₁) h₂) h₃) h₄) h₅) h₆) h₇) h₈)) in
-    let v = or-right-false ((eqb (e .kind) 7 || eqb (e .kind) 9) && (ltb 7 (e .slot .0) || eqb kind 0)) (eqb (e .kind) 9 && not (eqb kind 2)) w in
-    let two : not (eqb kind 2) ≡ false = rw nine at v in
-    ap (λ (k : ℕ). eqb k 2) (same there) ∙ not-false (eqb kind 2) two
-  where
-    P : Act → Type 0
-    P a = Fitting n s a
-
-    up : (n : ℕ) → n ≤ e .kind → eqb (e .kind) n ≡ false → suc n ≤ e .kind
-    up n l h = omega (arith, eqb-false (e .kind) n h)
-
-kind-of : (b : Bus) (k : ℕ) → getD (kindsOf b) k 0 ≡ (getD (b .slots) k absentSlot) .kind
-unfolding kindsOf absentSlot freshSlot
-kind-of b k = List·getD-map (λ (s : Slot). s .kind) (b .slots) k absentSlot
-
--- so every event keeps it
-taken-plain : (e : Event) (x : Bench) → unknownKind e ≡ false → wrongSlot (kindAt (kindsOf (x .bus)) (e .slot)) e ≡ false → Everywhere Plain x → Everywhere Plain (taken (actOf e) x)
-unfolding taken busNext
-taken-plain e x u w h =
-    let a = actOf e in
-    let ss = x .bus .slots in
-    every-from Plain absentSlot (mapFrom (λ n s. slotNext n a s) 0 ss)
-    (λ k l.
-    let m : k < length ss = rw (length-mapFrom (λ n s. slotNext n a s) 0 ss) at l in
-    let s = getD ss k absentSlot in
-    let same : e .slot .0 ≡ k → s .kind ≡ kindAt (kindsOf (x .bus)) (e .slot)
-    = λ i. sym (kind-of (x .bus) k) ∙ ap (λ (j : ℕ). getD (kindsOf (x .bus)) j 0) (sym i) ∙ unfold kindAt in refl in
-    subst Plain (sym (mapFrom-at (λ n s. slotNext n a s) 0 ss k absentSlot m ∙ ap (λ (j : ℕ). slotNext j a s) (zero-add k)))
-    (slot-plain k a s (passes-fitting e _ k s u w same) (every-at Plain k ss absentSlot m h)))
-
-ruled-plain : (e : Event) (x : Bench) (r : Ruling) → Judged (x .bus) (x .memory) e r → Everywhere Plain x → Everywhere Plain (ruledNext r x)
-unfolding ruledNext
-ruled-plain e x (Refused r) j h = h
-ruled-plain e x (Taken a) (no-row l i j k v) h = taken-plain e x j k h
-
-pub next-plain : (e : Event) (x : Bench) → Everywhere Plain x → Everywhere Plain (next e x)
-unfolding next rulingOn
-next-plain e x h = ruled-plain e x (rulingOn e x) (judged (x .bus) (x .memory) e) h
-
-pub after-plain : (es : List Event) (x : Bench) → Everywhere Plain x → Everywhere Plain (after es x)
-unfolding after
-after-plain [] x h = h
-after-plain (e ∷ es) x h = after-plain es (next e x) (next-plain e x h)
+    next-cases (λ (r : Slot). r .sensor ≡ freshSensor) n a s (λ i. h f) (λ i. present-plain n a s f (h f))
 
 -- setup begins with both
 fresh-plain : (kind long : ℕ) → Plain (freshSlot kind long)
@@ -253,7 +183,7 @@ setup-blocks ps = setup-everywhere FourBlocks (λ p g. unfold setupSlot in fresh
 
 -- Every slot, after any run of events from setup.
 pub plain : (ps : List Pair) (m : List ℕ) (es : List Event) → Everywhere Plain (after es (record { bus = setupOf ps .bus; memory = m }))
-plain ps m es = after-plain es _ (setup-plain ps)
+plain ps m es = after-everywhere Plain slot-plain es _ (setup-plain ps)
 
 pub four-blocks : (ps : List Pair) (m : List ℕ) (es : List Event) → Everywhere FourBlocks (after es (record { bus = setupOf ps .bus; memory = m }))
 four-blocks ps m es = after-everywhere FourBlocks slot-blocks es _ (setup-blocks ps)

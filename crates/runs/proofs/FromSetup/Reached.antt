@@ -24,7 +24,7 @@ use Rattle.rules.specs.Modelled.{absent, sensing}
 use Rattle.rules.specs.Open.{open-fields, open-memory}
 use Rattle.rules.specs.Fields.{inPhase, atCounter, withVoltage, withSensor, holding}
 use Rattle.rules.specs.Fresh.{noBytes, noMarks, freshSlot, setupSlot, absentSlot, powered, freshSensor}
-use Rattle.rules.specs.Sensor.{converted}
+use Rattle.rules.specs.Pin.{convertedWithPin}
 use Rattle.rules.specs.Control.{acksHeard, acksControl, heardOf, obeyed, controlled, protects}
 use Rattle.rules.specs.Memory.{emptied, ended, cancelled, guarded, latching, fetched, anyMark, ticked}
 use Rattle.rules.specs.Power.{powerCut}
@@ -32,7 +32,7 @@ use Rattle.rules.specs.Slot.{withSensorIn, commanding, taking, standing, letGo,
 use Rattle.rules.specs.Refusals.{goodLength, goodPair, setupOf}
 use Rattle.rules.specs.Runs.{after}
 use Rattle.rules.proofs.Document.Cycle.{idle-ticked}
-use Rattle.rules.proofs.Run.Cases.{absent-next, present-next}
+use Rattle.rules.proofs.Run.Cases.{absent-next, present-next, heated-cases}
 use Rattle.rules.proofs.Memory.Protection.{kind-next, length-next}
 use Rattle.rules.proofs.Registers.Words.{word-fixed}
 use Rattle.rules.proofs.Run.Everywhere.{Everywhere, after-everywhere, setup-everywhere}
@@ -371,7 +371,7 @@ present-holds n Tick s e l h = tick-held s (tick-holds (s .phase) s h)
 present-holds n (Voltage k on) s e l h = cond-cases Held (eqb (k .0) n)
     (λ f. subst (λ (p : Phase). Held (withVoltage on (cond (commanding p && s .voltage && not on) (lost p s) s))) (sym e) (switched-holds (s .phase) on s refl h)) (λ f. h)
 present-holds n (Power k) s e l h = rests (record { no-ticks = refl; no-bytes = refl; no-marks = refl; steady = refl; no-place = refl; no-word = refl })
-present-holds n (Temperature k t) s e l h = cond-cases Held (eqb (k .0) n) (λ f. worded-holds (s .phase) (converted (s .sensor) t) s (word-fixed (s .sensor) t) h) (λ f. h)
+present-holds n (Temperature k t) s e l h = cond-cases Held (eqb (k .0) n) (λ f. heated-cases Held t s (worded-holds (s .phase) (convertedWithPin (s .sensor) t) s (word-fixed (s .sensor) t) h) h) (λ f. h)
 
 -- every act keeps what is reached
 pub slot-reach : (n : ℕ) (a : Act) (s : Slot) → Reach s → Reach (slotNext n a s)

@@ -30,7 +30,7 @@ use Rattle.rules.specs.Memory.{anyMark}
 use Rattle.rules.specs.Power.{firstOf, powerCut}
 use Rattle.rules.specs.Slot.{commanding, standing, letGo, lost, byteIn, readIn, stopIn, acksIn, acks, presentNext, slotNext, partNext}
 use Rattle.rules.specs.Runs.{slotAfter}
-use Rattle.rules.proofs.Run.Cases.{next-cases, stands}
+use Rattle.rules.proofs.Run.Cases.{next-cases, heated-cases, stands}
 use Rattle.rules.proofs.Run.Joined.{slots-joined}
 use Rattle.rules.proofs.Memory.First.{first-at}
 use Rattle.rules.proofs.Memory.Stored.{pageStart, storing, finishes, finishes-runs, part-stored, part-still, put-none}
@@ -121,7 +121,7 @@ module _ (n : ℕ) (s : Slot) (o : Outside (standing s)) (l : Cycling s) where
   present-runs (Voltage k on) = inr (cond-cases (RunsOn s) (eqb (k .0) n)
       (λ e. by-outside (λ p. RunsOn s (withVoltage on (cond (commanding p && s .voltage && not on) (lost p s) s))) (standing s) same same same o) (λ e. same))
   present-runs (Power k) = inl (refl, refl)
-  present-runs (Temperature k t) = inr (cond-cases (RunsOn s) (eqb (k .0) n) (λ e. same) (λ e. same))
+  present-runs (Temperature k t) = inr (cond-cases (RunsOn s) (eqb (k .0) n) (λ e. heated-cases (RunsOn s) t s same same) (λ e. same))
 
 running : (n : ℕ) (a : Act) (s : Slot) → Outside (s .phase) → Cycling s → Runs s (slotNext n a s)
 running n a s o l = next-cases (Runs s) n a s (λ e. inr (l, (refl, refl, refl, refl))) (λ e. present-runs n s (stands-outside s o) l a)

@@ -26,7 +26,7 @@ use Rattle.runs.specs.Exchanges.{toldAlone, strayByte, strayRead, strayS
 use Rattle.runs.proofs.TwoClerks.Classes.{struck-not-own}
 use Rattle.runs.proofs.TwoClerks.Foreign.{struck-unheard, started-waits, absent-after, as-it-was, same-part, ends-idle}
 use Rattle.rules.proofs.Memory.Protection.{still-present}
-use Rattle.rules.proofs.Run.Cases.{next-cases, present-next}
+use Rattle.rules.proofs.Run.Cases.{next-cases, present-next, heated-cases}
 
 -- between exchanges a slot is idle
 abbrev pub Idles : Slot → Type 0
@@ -84,7 +84,7 @@ idle-item n (between timeout) s e = idle-next n Timeout s e refl
 idle-item n (between tick) s e = idle-next n Tick s e (idle-ticked s e)
 idle-item n (between (voltage k on)) s e = idle-next n (Voltage k on) s e (cond-cases Idles (eqb (k .0) n) (λ f. idle-switched on s e) (λ f. e))
 idle-item n (between (power k)) s e = idle-next n (Power k) s e refl
-idle-item n (between (temperature k t)) s e = idle-next n (Temperature k t) s e (cond-cases Idles (eqb (k .0) n) (λ f. e) (λ f. e))
+idle-item n (between (temperature k t)) s e = idle-next n (Temperature k t) s e (cond-cases Idles (eqb (k .0) n) (λ f. heated-cases Idles t s e e) (λ f. e))
 
 -- what is struck out leaves an idle slot and its bytes as they are
 struck-slot : (n : ℕ) (i : Item) (s : Slot) → Idles s → struck n i ≡ true → itemSlot n i s ≡ s
