@@ -11,3 +11,4 @@ pub mod Joined
 pub mod Flags
 pub mod Reader
 pub mod Looking
+pub mod Pins
