@@ -9,3 +9,4 @@ pub mod SensorSteps
 pub mod Locks
 pub mod SensorKept
 pub mod Pinned
+pub mod PinRead

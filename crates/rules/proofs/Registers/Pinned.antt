@@ -4,7 +4,7 @@
 use Prim.Native.Nat.{ℕ, _+_, _*_, _/_, _%_}
 use native.Mathlib.Omega.{arith}
 use mathlib.Core.Path.{_≡_, refl, sym, _∙_, ap}
-use mathlib.Core.Bool.{Bool, true, false, not, cond, _&&_, _||_, and-false, or-true}
+use mathlib.Core.Bool.{Bool, true, false, false≢true, not, cond, _&&_, _||_, and-false, or-true}
 use mathlib.Core.List.{List, [], _∷_, _++_}
 use mathlib.Core.Logic.{_⊎_, inl, inr, ⊎-elim}
 use borrow.Author.Tests.{eqb-true, eq-eqb}
@@ -14,6 +14,7 @@ use lib.IntN.{ℤ}
 use Rattle.proof_lists.specs.Tests.{cond-cases, by-test, and-left, and-right, both, or-cases}
 use Rattle.rules.specs.declared.Act.{Act}
 use Rattle.rules.specs.declared.Act.the-variants.{Start, Byte, Read, Stop, Timeout, Tick, Voltage, Power, Temperature}
+use Rattle.rules.specs.declared.Cut.{Cut}
 use Rattle.rules.specs.declared.Heard.{Heard}
 use Rattle.rules.specs.declared.Heard.the-variants as heard
 use Rattle.rules.specs.declared.Phase.{Phase}
@@ -311,3 +312,57 @@ mode-locked c v l =
 pub under-lock : (x : Sensor) (v : ℕ) → locked (x .configuration) ≡ true → Can x → x .pending ≡ true → pendingAfter x 0x01 v ≡ not (clearing v)
 unfolding pendingAfter
 under-lock x v l f p = rw (p, mode-locked (x .configuration) v l, f p)
+
+-- The byte b is the second of a write to 01h, with bit 5 set in its word.
+pub record Bit5 (b : ℕ) (s : Slot) : Type 0 where
+  pub phase : standing s ≡ SensorLow
+  pub pointer : s .sensor .pointer ≡ 0x01
+  pub set : clearing (wordOf b s) ≡ true
+
+-- so under a lock only that and power release a pin that a change has asserted
+pub data Released (s : Slot) : Act → Type 0 where
+  byBit5 : (b : ℕ) → Bit5 b s → Released s (Byte b)
+  byPower : (k : Cut) → Released s (Power k)
+
+twice : (b : Bool) → not (true && not b) ≡ true → b ≡ true
+twice true e = refl
+twice false e = e
+
+module _ (s : Slot) (l : locked (s .sensor .configuration) ≡ true) (can : canPend (s .sensor .configuration) ≡ true) where
+  cleared : (p : Phase) (b : ℕ) → standing s ≡ p → clears p b s ≡ true → Bit5 b s
+  unfolding clears
+  cleared Idle b e h = absurd (false≢true h)
+  cleared Control b e h = absurd (false≢true h)
+  cleared Deaf b e h = absurd (false≢true h)
+  cleared MemoryCounter b e h = absurd (false≢true h)
+  cleared MemoryData b e h = absurd (false≢true h)
+  cleared MemoryRead b e h = absurd (false≢true h)
+  cleared HalfSelected b e h = absurd (false≢true h)
+  cleared CommandAddress b e h = absurd (false≢true h)
+  cleared CommandData b e h = absurd (false≢true h)
+  cleared CommandStop b e h = absurd (false≢true h)
+  cleared SensorPointer b e h = absurd (false≢true h)
+  cleared SensorHigh b e h = absurd (false≢true h)
+  cleared SensorLow b e h =
+      let c = s .sensor .configuration in
+      let v = wordOf b s in
+      let k = and-right (eqb (s .sensor .pointer) 0x01) (not (canPend (configured c v) && not (clearing v))) h in
+      record {
+        phase = e;
+        pointer = eqb-true _ _ (and-left (eqb (s .sensor .pointer) 0x01) (not (canPend (configured c v) && not (clearing v))) h);
+        set = twice (clearing v) (rw (mode-locked c v l, can) at k);
+      }
+  cleared SensorReadHigh b e h = absurd (false≢true h)
+  cleared SensorReadLow b e h = absurd (false≢true h)
+
+  pub released-locked : (a : Act) → drops a s ≡ true → Released s a
+  unfolding drops
+  released-locked Start h = absurd (false≢true h)
+  released-locked (Byte b) h = byBit5 b (cleared (standing s) b refl h)
+  released-locked (Read more) h = absurd (false≢true h)
+  released-locked Stop h = absurd (false≢true h)
+  released-locked Timeout h = absurd (false≢true h)
+  released-locked Tick h = absurd (false≢true h)
+  released-locked (Voltage k on) h = absurd (false≢true h)
+  released-locked (Power k) h = byPower k
+  released-locked (Temperature k t) h = absurd (false≢true h)
