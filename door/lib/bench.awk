@@ -60,6 +60,11 @@ function number_of(line, name,   at) {
   at = index(line, " " name "=")
   return at ? substr(line, at + length(name) + 2) + 0 : 0
 }
+# the pin of a sensor
+function tells_pin(line) { return line ~ / asserted=[01]( |$)/ && line ~ / level=[01]( |$)/ }
+function pin_words(line) {
+  return (number_of(line, "asserted") ? "asserted" : "released") " " (number_of(line, "level") ? "high" : "low")
+}
 
 # ---- kinds
 function has_sensor(kind) { return kind == 2 }
