@@ -394,7 +394,7 @@ function legend(   svg, i) {
   svg = svg rect(408, 52, 45, 15, "voltage") text(459, 62, "small", "high voltage on SA0")
   for (i = 0; i < 4; i++) svg = svg rect(580, 52 + 4 * i, 45, 3, i ? "open" : "safe")
   svg = svg text(631, 62, "small", "blocks 0 to 3 of a slot, block 0 protected") path("M872 50v18", "power") text(880, 62, "small", "power cycle")
-  if (pins) svg = svg rect(6, 76, 45, PIN, "asserted") path("M6 79h20v8h25", "axis") text(57, 86, "small", "EVENT pin: its level, and where it is asserted")
+  if (pins) svg = svg rect(26, 76, 25, PIN, "asserted") path("M6 79h20v8h25", "axis") text(57, 86, "small", "EVENT pin, its level, asserted")
   block(svg, pins ? 96 : 72)
 }
 
