@@ -65,7 +65,7 @@ function tells_pin(line) { return line ~ / asserted=[01]( |$)/ && line ~ / level
 function pin_words(line) {
   return (number_of(line, "asserted") ? "asserted" : "released") " " (number_of(line, "level") ? "high" : "low")
 }
-function uses_pin(asserted, level, first) { return asserted == 1 || level != first }
+function uses_pin(is_asserted, is_high, first) { return is_asserted == 1 || is_high != first }
 
 # ---- kinds
 function has_sensor(kind) { return kind == 2 }

@@ -260,7 +260,7 @@ function change(i, x, left, bits, on,   says) {
 }
 # The EVENT pin, in a row of its own at the lane's foot: a line for its level, a shade where it is asserted.
 function pin_y(i) { return lane_y[i] + lane_high[i] - PIN }
-function level_y(i) { return pin_y(i) + (high[i] ? 3 : PIN - 3) }
+function level_y(i) { return pin_y(i) + (up[i] ? 3 : PIN - 3) }
 function end_asserted(i, x,   w) {
   w = x - since_asserted[i]
   if (asserted[i] && w > 0)
@@ -271,8 +271,8 @@ function end_asserted(i, x,   w) {
 function change_pin(i, x, is_asserted, is_high) {
   if (!pinned[i]) return
   if (is_asserted != asserted[i]) { end_asserted(i, x); asserted[i] = is_asserted }
-  if (is_high == high[i]) return
-  high[i] = is_high
+  if (is_high == up[i]) return
+  up[i] = is_high
   trace[i] = trace[i] "H" x "V" level_y(i)
 }
 function draw_lanes(s, x_end,   i, p, w, k, j, f, x) {
@@ -304,7 +304,7 @@ function draw_labels(n,   i, svg) {
     if (!(i in module)) continue
     svg = svg text(6, lane_y[i] + 10, "strong", "slot " i) text(6, lane_y[i] + 20, "small", module[i])
     if (safe[i] ~ /1/) svg = svg text(6, lane_y[i] + 30, "small", "protected:" blocks_of(safe[i], ""))
-    if (pinned[i]) svg = svg text(6, pin_y(i) + 11, "small", "EVENT pin, " (high[i] ? "high" : "low"))
+    if (pinned[i]) svg = svg text(6, pin_y(i) + 11, "small", "EVENT pin, " (up[i] ? "high" : "low"))
   }
   return svg
 }
@@ -467,9 +467,9 @@ $1 == "E" {
 }
 $1 == "S" {
   shown = ($4 > 0) " " $5 " " $6 " " $7 " " $8
-  if (!events) { busy[$3] = $4 > 0; volts[$3] = $6; safe[$3] = protection[$3] = $5; asserted[$3] = $7; high[$3] = $8 }
+  if (!events) { busy[$3] = $4 > 0; volts[$3] = $6; safe[$3] = protection[$3] = $5; asserted[$3] = $7; up[$3] = $8 }
   else if (shown != was[$3]) add_line(changes, events, $3 " " $4 " " $5 " " $6 " " $7 " " $8)
-  if (uses_pin($7, $8, high[$3])) pins = pinned[$3] = 1
+  if (uses_pin($7, $8, up[$3])) pins = pinned[$3] = 1
   if ($5 != protection[$3]) tells[events] = 1
   if ($5 ~ /1/) guarded[$3] = 1
   was[$3] = shown; protection[$3] = $5

@@ -58,7 +58,7 @@ function header(   i, name) {
   for (i = 0; i < SLOTS; i++) {
     if (i in present) print "0w" i
     if (i in voltage_set) print "0v" i
-    if (i in pin_used) print level[i] "e" i
+    if (i in pin_used) print pin_is[i] "e" i
   }
   print "$end"
   scl_is = sda_is = 1; clock = 0
@@ -89,15 +89,15 @@ function event(   t, kind) {
 function state() {
   if (($4 > 0) != cycle[$3]) { cycle[$3] = $4 > 0; at($2, cycle[$3] "w" $3) }
   if (($3 in voltage_set) && $6 != voltage[$3]) { voltage[$3] = $6; at($2, $6 "v" $3) }
-  if (($3 in pin_used) && $8 != level[$3]) { level[$3] = $8; at($2, $8 "e" $3) }
+  if (($3 in pin_used) && $8 != pin_is[$3]) { pin_is[$3] = $8; at($2, $8 "e" $3) }
 }
 
 { row[++rows] = $0 }
 $1 == "P" { present[$2] = 1; cycle[$2] = voltage[$2] = 0 }
 $1 == "E" { remark() }
 $1 == "S" {
-  if (!($3 in level)) level[$3] = $8
-  if (uses_pin($7, $8, level[$3])) pin_used[$3] = 1
+  if (!($3 in pin_is)) pin_is[$3] = $8
+  if (uses_pin($7, $8, pin_is[$3])) pin_used[$3] = 1
 }
 END {
   header()
