@@ -4,9 +4,9 @@
 # Reads the story's rows; CASE in the environment is the case's name. Writes the picture. bench.awk is read before this.
 #
 # The run flows in strips, one below the other, like staves of music. A strip has the case's comments on top, then the
-# bus, a lane for each present slot, and the time. A comment line of the case begins a new strip, and so does an
-# exchange that no longer fits. Strips stand on pages: a unit is a pixel of CSS, WIDE by PAGE of them are a sheet of A4
-# on its side, and no strip lies across the edge of a sheet.
+# bus, a lane for each present slot, with its pin where the run uses it, and the time. A comment line of the case begins
+# a new strip, and so does an exchange that no longer fits. Strips stand on pages: a unit is a pixel of CSS, WIDE by
+# PAGE of them are a sheet of A4 on its side, and no strip lies across the edge of a sheet.
 #
 # The part of a strip's width that an event takes is its piece. On the wires time is linear, half a unit a microsecond.
 # Ticks in a row are one piece, a fold, but for a tick that changes what a lane shows: the fold ends there. What is not
