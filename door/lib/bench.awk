@@ -60,6 +60,12 @@ function number_of(line, name,   at) {
   at = index(line, " " name "=")
   return at ? substr(line, at + length(name) + 2) + 0 : 0
 }
+# the pin of a sensor. A run uses it where it is asserted, or has another level than at first.
+function tells_pin(line) { return line ~ / asserted=[01]( |$)/ && line ~ / level=[01]( |$)/ }
+function pin_words(line) {
+  return (number_of(line, "asserted") ? "asserted" : "released") " " (number_of(line, "level") ? "high" : "low")
+}
+function uses_pin(is_asserted, is_high, first) { return is_asserted == 1 || is_high != first }
 
 # ---- kinds
 function has_sensor(kind) { return kind == 2 }

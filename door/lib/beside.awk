@@ -23,7 +23,7 @@ function allowed(word) {
   if (word ~ /^(start|stop|byte|read|write|look|set|get)$/)
     bad("\"" word "\" is on the wires: only what is not on them stands here (voltage, temperature, power, timeout)")
   if (word == "tick") bad("ticks are not told: they are placed where the wires show that a write cycle has ended")
-  if (word == "event" || word == "raw") bad("\"" word "\" can't stand here: say voltage, temperature, power or timeout")
+  if (word ~ /^(event|raw|pin)$/) bad("\"" word "\" can't stand here: say voltage, temperature, power or timeout")
 }
 function one(i,   r, kind, slot, v) {
   split(record_of(code[i]), r, "\t"); kind = r[1]; slot = r[2] + 0; v = r[3]

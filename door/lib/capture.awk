@@ -118,6 +118,7 @@ mode == "read" {
   lines++
   if (left ~ /^(slot|setup)( |$)/) setup_line()
   else if (left ~ /^memory( |$)/) memory_line()
+  else if (left ~ /^pin( |$)/) bad("a capture has events and their answers alone; a pin is looked at in a case (./plungerhen case)")
   else event_line()
 }
 mode == "bytes" { n = split($0, word, " "); for (i = 1; i <= n; i++) b[nbytes++] = from_hex(word[i]) }

@@ -2,12 +2,14 @@
 # those of words.awk, which is read before this.
 #
 # One row a line, fields parted by tabs:
-#   I  number of events, number of events not compared, all bytes for the program as octal escapes
-#   P  the numbers of the setup
+#   I  number of events, number of events and pins not compared, all bytes for the program as octal escapes
+#   P  the numbers of the setup, or of the saved bench's
 #   C  0, a line to show as it is (comment or setup)
 #   S  line number, its text, "setup", the setup's answer
 #   E  line number, its text, the event in words, the answer (? not compared, "nothing" no line at all), the comment
 #      that stands behind it, where it is a line's last event, and its record: kind, slot and value
+#   L  line number, its text, the same in words, the pin that is expected (? not compared), the comment that stands
+#      behind it, and the slot whose pin it is
 # or, alone, B: line number, what is wrong there.
 #
 #   strict  1: every line wants its answers
@@ -17,7 +19,7 @@
 function row(text) { rows[++nrows] = text }
 
 function setupline(left,   i) {
-  if (nevents) bad("setup comes before the first event")
+  if (nevents || looked) bad("setup comes before the first " (nevents ? "event" : "look at a pin"))
   setupwords(left)
   for (i = 0; i < SLOTS; i++) if ((i in kind) && !(i in named_at)) named_at[i] = NR
   last_setup = NR
@@ -32,6 +34,10 @@ function setupline(left,   i) {
   }
 }
 
+function setup_numbers(   i, list) {
+  for (i = 0; i < SLOTS; i++) list = list (i ? " " : "") kind[i] + 0 " " size[i] + 0
+  return list
+}
 # The setup that the case tells against that of the bench it is played from.
 function slot_words(k, ticks) { return k ? (k in KIND ? KIND[k] : "of kind " k ",") " " ticks : "absent" }
 function same_bench(   i, saved, here, there) {
@@ -44,9 +50,20 @@ function same_bench(   i, saved, here, there) {
   }
 }
 
+# A look at a pin. The rows of events go on behind it as if it were not there.
+function pin_row(   slot) {
+  slot = pin_line()
+  if (setupanswer != "") bad("the setup is refused or cut short; there is no pin to look at")
+  if (strict && !arrow) bad("no expected answer: -> is missing")
+  if (!arrow) loose++
+  looked = 1
+  row("L\t" NR "\t" left "\tpin " slot "\t" (arrow ? right : "?") "\t" (note == "" ? "" : "   " note) "\t" slot)
+}
+
 {
   if (!parted()) { if ($0 ~ /[^ ]/) row("C\t0\t" $0); next }
   if (arrow && right == "") bad("nothing stands after the arrow (if no line is to come, write: nothing)")
+  if (left ~ /^pin( |$)/) { lines++; pin_row(); next }
   if (right != "nothing") answer_list(right, "^(R[1-6]|short)$", "R2 to R5, short, nothing")
   lines++
   if (left ~ /^(slot|setup)( |$)/) { setupline(left); next }
@@ -72,7 +89,7 @@ END {
   if (wrong) exit
   if (!lines) { NR = NR ? NR : 1; bad("neither setup nor event in this file"); exit }
   if (bench != "" && form != "") same_bench()
-  printf "I\t%d\t%d\t%s\nP\t", nevents, loose, (bench == "" ? setupbytes() : "") input
-  for (i = 0; i < SLOTS; i++) printf "%d %d%s", kind[i], size[i], i < SLOTS - 1 ? " " : "\n"
+  printf "I\t%d\t%d\t%s\n", nevents, loose, (bench == "" ? setupbytes() : "") input
+  print "P\t" (bench == "" ? setup_numbers() : bench)
   for (i = 1; i <= nrows; i++) print rows[i]
 }

@@ -1,5 +1,5 @@
-# Where a saved bench (request P5, "Saving a bench overnight") that the program `show` has refused departs from the form,
-# and why, in words, for ./plungerhen show and resume: its bytes on standard input, as od -tu1 gives them.
+# Where a saved bench (request P5, "Saving a bench overnight", with P8's pins) that the program `show` has refused departs
+# from the form, and why, in words, for ./plungerhen show and resume: its bytes on standard input, as od -tu1 gives them.
 #
 #   size  how many bytes it has; what stands behind byte 65,535 is not read, since a form is shorter
 #
@@ -14,7 +14,7 @@ function outside(v, mask,   bit, rest) {
 # ---- the form, byte by byte: `at` is the next place; `departure` is the first that departs.
 function depart(where, why) {
   if (departure == "")
-    departure = (field ? "field " field " (" title[field] ")" : "behind field 4") ", byte " hex(where, 4) " (" where "): " why
+    departure = (over ? "behind field " field : "field " field " (" title[field] ")") ", byte " hex(where, 4) " (" where "): " why
 }
 function next_byte(what) {
   if (at >= nbytes) depart(at, "the form ends here, where " what " is to come")
@@ -57,9 +57,24 @@ function read_register(what, mask,   v) {
   v = next_byte("the low byte of " what)
   must(!outside(v, mask % 256), what " has " hex(v, 2) " as its low byte, and holds no bit outside " hex(mask, 4))
 }
-function read_sensor(of,   r) {
+function read_sensor(i, of,   r) {
   bounded(of "pointer", 9, "%02Xh", "not 00h to 09h")
   for (r = 1; r <= REGISTERS; r++) read_register(of "register " hex(REGISTER[r], 2) " (" REGISTER_NAME[r] ")", kept[r])
+  bits[i] = b[at - 13] % 16      # 3 to 0 of register 01h
+}
+# The last field is there only where one of its bytes is 1.
+function read_pending(   i, from, any, v) {
+  from = at
+  head(5, 1, sensors, "sensor")
+  for (i = 0; i < SLOTS; i++) {
+    if (!has_sensor(kind[i])) continue
+    v = next_byte("slot " i "'s pending change")
+    must(v <= 1, "slot " i "'s pending change is " v ", not 0 or 1")
+    must(!v || bits[i] == 9 || bits[i] == 11, "slot " i " has a pending change, and none can pend by its register 01h: " \
+      "bits 3 and 0 must be 1 there, and bit 2 must be 0")
+    any += v
+  }
+  if (!any) depart(from, "no change is pending, and then this field is left out")
 }
 function read_form(   i, j) {
   head(1, 2, SLOTS, "slot")
@@ -69,13 +84,16 @@ function read_form(   i, j) {
   head(3, 4, present, "present slot")
   for (i = 0; i < SLOTS; i++) if (kind[i]) read_state("slot " i "'s ")
   head(4, 15, sensors, "sensor")
-  for (i = 0; i < SLOTS; i++) if (has_sensor(kind[i])) read_sensor("slot " i "'s ")
-  field = 0
-  if (at < size) depart(at, "the form ends before this byte, and " (size - at == 1 ? "1 byte follows" : sprintf("%.0f", size - at) " bytes follow"))
+  for (i = 0; i < SLOTS; i++) if (has_sensor(kind[i])) read_sensor(i, "slot " i "'s ")
+  if (b[at] == 5) read_pending()
+  over = 1
+  if (at < size)
+    depart(at, "the form ends before this byte" (field == 4 ? ", or has the tag 5 here" : "") ", and " \
+      (size - at == 1 ? "1 byte follows" : sprintf("%.0f", size - at) " bytes follow"))
 }
 
 BEGIN {
-  split("setup;memory;protection, half, counter, high voltage;sensors", title, ";")
+  split("setup;memory;protection, half, counter, high voltage;sensors;pending changes", title, ";")
   split("1999 8188 8188 8188 65535 3 1", kept, " ")      # 07CFh, 1FFCh three times, FFFFh, 0003h, 0001h
 }
 { for (i = 1; i <= NF; i++) b[nbytes++] = $i + 0 }

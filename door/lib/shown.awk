@@ -29,15 +29,25 @@ function degrees(v,   text) {
   sub(/\.?0+$/, "", text)
   return text (text == "1" || text == "-1" ? " degree" : " degrees")
 }
+function bit_of(v, weight) { return int(v / weight) % 2 }
 function configuration_words(v,   text) {
   text = "hysteresis " substr("0  1.53  6  ", 3 * (int(v / 512) % 4) + 1, 3)
   sub(/ +$/, "", text)
-  text = text " degrees, " (int(v / 256) % 2 ? "shut down" : "not shut down")
-  text = text (int(v / 128) % 2 ? ", critical limit locked" : "") (int(v / 64) % 2 ? ", high and low limit locked" : "")
-  return text (int(v / 64) % 4 ? "" : ", no lock") ", event bits " v % 16
+  text = text " degrees, " (bit_of(v, 256) ? "shut down" : "not shut down")
+  text = text (bit_of(v, 128) ? ", critical limit locked" : "") (bit_of(v, 64) ? ", high and low limit locked" : "")
+  return text (int(v / 64) % 4 ? "" : ", no lock")
+}
+# The pin as the program tells it, and behind a semicolon what bits 3 to 0 of the configuration are called.
+function pin_settings(v) {
+  return (bit_of(v, 8) ? "enabled" : "disabled") ", active " (bit_of(v, 2) ? "high" : "low") ", " \
+    (bit_of(v, 1) ? "interrupt" : "comparator") " mode" (bit_of(v, 4) ? ", critical flag alone" : "")
+}
+function show_pin(i,   w) {
+  split(pin_words(slot[i]), w, " ")
+  printf "  %-17s  %-5s  %s\n", "EVENT pin", w[2], w[1] (of(i, "pending") ? ", a change is pending" : "") "; " pin_settings(of(i, "configuration"))
 }
 function temperature_words(v,   text) {
-  text = (int(v / 32768) % 2 ? ", critical" : "") (int(v / 16384) % 2 ? ", above high" : "") (int(v / 8192) % 2 ? ", below low" : "")
+  text = (bit_of(v, 32768) ? ", critical" : "") (bit_of(v, 16384) ? ", above high" : "") (bit_of(v, 8192) ? ", below low" : "")
   return degrees(v) (text == "" ? ", no flag" : text)
 }
 function register_words(r, v) {
@@ -53,6 +63,7 @@ function show_sensor(i,   r, text) {
     text = register_words(r, of(i, REGISTER_NAME[r])); sub(/ +$/, "", text)
     printf "  %s %-13s  %s  %s\n", hex(REGISTER[r], 2), REGISTER_NAME[r], hex(of(i, REGISTER_NAME[r]), 4), text (r == 6 ? " degrees" : "")
   }
+  show_pin(i)
 }
 
 # The lines of sixteen bytes in which one is not FFh.

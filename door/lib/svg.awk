@@ -4,9 +4,9 @@
 # Reads the story's rows; CASE in the environment is the case's name. Writes the picture. bench.awk is read before this.
 #
 # The run flows in strips, one below the other, like staves of music. A strip has the case's comments on top, then the
-# bus, a lane for each present slot, and the time. A comment line of the case begins a new strip, and so does an
-# exchange that no longer fits. Strips stand on pages: a unit is a pixel of CSS, WIDE by PAGE of them are a sheet of A4
-# on its side, and no strip lies across the edge of a sheet.
+# bus, a lane for each present slot, with its pin where the run uses it, and the time. A comment line of the case begins
+# a new strip, and so does an exchange that no longer fits. Strips stand on pages: a unit is a pixel of CSS, WIDE by
+# PAGE of them are a sheet of A4 on its side, and no strip lies across the edge of a sheet.
 #
 # The part of a strip's width that an event takes is its piece. On the wires time is linear, half a unit a microsecond.
 # Ticks in a row are one piece, a fold, but for a tick that changes what a lane shows: the fold ends there. What is not
@@ -21,6 +21,7 @@ BEGIN {
   LEFT = 95; RIGHT = 1040     # between them are the pieces
   FLAG = 60                   # the width of what is not to scale
   NOTE = 56                   # the bytes in a line of a note
+  PIN = 14                    # the height of a pin's row
 }
 
 # ---- texts
@@ -257,16 +258,41 @@ function change(i, x, left, bits, on,   says) {
   marks = marks text(x + 4, lane_y[i] + bar_y[i] + 9, "small", says)
   safe[i] = bits
 }
-function draw_lanes(s, x_end,   i, p, w, k, j, f) {
+# The EVENT pin, in a row of its own at the lane's foot: a line for its level, a shade where it is asserted.
+function pin_y(i) { return lane_y[i] + lane_high[i] - PIN }
+function level_y(i) { return pin_y(i) + (up[i] ? 3 : PIN - 3) }
+function end_asserted(i, x,   w) {
+  w = x - since_asserted[i]
+  if (asserted[i] && w > 0)
+    marks = marks rect(since_asserted[i], pin_y(i), w, PIN, "asserted") \
+      (w >= 50 ? text(since_asserted[i] + 4, pin_y(i) + 10, "small", "asserted") : "")
+  since_asserted[i] = x
+}
+function change_pin(i, x, is_asserted, is_high) {
+  if (!pinned[i]) return
+  if (is_asserted != asserted[i]) { end_asserted(i, x); asserted[i] = is_asserted }
+  if (is_high == up[i]) return
+  up[i] = is_high
+  trace[i] = trace[i] "H" x "V" level_y(i)
+}
+function draw_lanes(s, x_end,   i, p, w, k, j, f, x) {
   shades = marks = ""
-  for (i = 0; i < SLOTS; i++) since_busy[i] = since_volts[i] = since_safe[i] = LEFT
+  for (i = 0; i < SLOTS; i++) {
+    since_busy[i] = since_volts[i] = since_safe[i] = since_asserted[i] = LEFT
+    trace[i] = "M" LEFT " " level_y(i)
+  }
   for (p = strip_from[s]; p <= strip_to[s]; p++) {
     k = split(changes[last[p]], w, "\n")
-    for (j = 1; j <= k; j++) { split(w[j], f, " "); change(f[1], kind[last[p]] == TICK ? at[p] + wide[p] : middle(p), f[2], f[3], f[4]) }
+    for (j = 1; j <= k; j++) {
+      split(w[j], f, " ")
+      x = kind[last[p]] == TICK || kind[last[p]] == BYTE ? at[p] + wide[p] : middle(p)
+      change(f[1], x, f[2], f[3], f[4]); change_pin(f[1], x, f[5], f[6])
+    }
   }
   for (i = 0; i < SLOTS; i++) {
     if (!(i in module)) continue
     end_cycle(i, x_end); end_voltage(i, x_end); end_protection(i, x_end)
+    if (pinned[i]) { end_asserted(i, x_end); marks = marks path(trace[i] "H" x_end, "axis") }
     marks = marks rect(LEFT, lane_y[i], x_end - LEFT, lane_high[i], "frame")
   }
   return shades marks
@@ -278,6 +304,7 @@ function draw_labels(n,   i, svg) {
     if (!(i in module)) continue
     svg = svg text(6, lane_y[i] + 10, "strong", "slot " i) text(6, lane_y[i] + 20, "small", module[i])
     if (safe[i] ~ /1/) svg = svg text(6, lane_y[i] + 30, "small", "protected:" blocks_of(safe[i], ""))
+    if (pinned[i]) svg = svg text(6, pin_y(i) + 11, "small", "EVENT pin, " (up[i] ? "high" : "low"))
   }
   return svg
 }
@@ -367,7 +394,8 @@ function legend(   svg, i) {
   svg = svg rect(408, 52, 45, 15, "voltage") text(459, 62, "small", "high voltage on SA0")
   for (i = 0; i < 4; i++) svg = svg rect(580, 52 + 4 * i, 45, 3, i ? "open" : "safe")
   svg = svg text(631, 62, "small", "blocks 0 to 3 of a slot, block 0 protected") path("M872 50v18", "power") text(880, 62, "small", "power cycle")
-  block(svg, 72)
+  if (pins) svg = svg rect(26, 76, 25, PIN, "asserted") path("M6 79h20v8h25", "axis") text(57, 86, "small", "EVENT pin, its level, asserted")
+  block(svg, pins ? 96 : 72)
 }
 
 function define_byte(id, d, y) { print "<g id=\"" id "\"><path d=\"" d "\"/><text x=\"38\" y=\"" y "\" class=\"bit\">" substr(id, 2) "</text></g>" }
@@ -397,6 +425,7 @@ function head(high) {
   print ".power { fill: none; stroke: #222; stroke-width: 2; stroke-dasharray: 6 2 } .frame { fill: none; stroke: #bbb }"
   print ".timeout { fill: #fff; stroke: #222 } .fold { fill: #f1f1f1 } .cycle { fill: #33628f }"
   print ".voltage { fill: #ffe680; fill-opacity: .8 } .safe { fill: #5b2a86 } .open { fill: #d8d8d8 }"
+  if (pins) print ".asserted { fill: #bfe3ea }"
   print "</style>"
   print "<defs>"
   define_byte("wA", "M.5 .5h44v23l-22 5l-22 -5z", 15); define_byte("wN", "M.5 .5h44v23l-22 5l-22 -5z", 15)
@@ -437,9 +466,10 @@ $1 == "E" {
   if (kind[n] == VOLTAGE || kind[n] == TEMPERATURE) flagged[$7] = 1
 }
 $1 == "S" {
-  shown = ($4 > 0) " " $5 " " $6
-  if (!events) { busy[$3] = $4 > 0; volts[$3] = $6; safe[$3] = protection[$3] = $5 }
-  else if (shown != was[$3]) add_line(changes, events, $3 " " $4 " " $5 " " $6)
+  shown = ($4 > 0) " " $5 " " $6 " " $7 " " $8
+  if (!events) { busy[$3] = $4 > 0; volts[$3] = $6; safe[$3] = protection[$3] = $5; asserted[$3] = $7; up[$3] = $8 }
+  else if (shown != was[$3]) add_line(changes, events, $3 " " $4 " " $5 " " $6 " " $7 " " $8)
+  if (uses_pin($7, $8, up[$3])) pins = pinned[$3] = 1
   if ($5 != protection[$3]) tells[events] = 1
   if ($5 ~ /1/) guarded[$3] = 1
   was[$3] = shown; protection[$3] = $5
@@ -450,6 +480,7 @@ END {
   for (i = 0; i < SLOTS; i++) {
     bar_y[i] = flagged[i] ? 14 : 6; lane_high[i] = bar_y[i] + (guarded[i] ? 30 : 13)
     if (lane_high[i] < 24) lane_high[i] = 24
+    if (pinned[i]) lane_high[i] += PIN + 2
   }
   build_pieces()
   build_strips()

@@ -15,6 +15,7 @@
 #   answer_list(right, others, names)   the answers of a line, in want[1..nwant]; `others`, a pattern, are those besides
 #                     - A N and bytes
 #   match_list()      the answer to each event of the line, in due[1..nline]
+#   pin_line()        a line `pin SLOT`, which is no event: the slot's number; the pin that is expected is `right`
 #   record_words(kind, slot, val)   what a record is taken for; cells that are ignored are not told
 #   answer_words(a)   an answer, as the programs write it, in words
 #
@@ -179,6 +180,7 @@ function event(part,   w, n, i, k, s, v, bytes, digits, words) {
     writes(sensor_byte(s, 0), k); reads_back(sensor_byte(s, 1), 2)
   }
   else if (w[1] == "slot" || w[1] == "setup") bad("a setup line stands alone, without ;")
+  else if (w[1] == "pin") bad("a pin is no event: a line pin SLOT stands alone, without ;, in a case")
   else bad("\"" w[1] "\" is no event")
 }
 
@@ -240,6 +242,17 @@ function match_list(   i, open, next_want) {
     bad(nwant (nwant == 1 ? " answer for " : " answers for ") open + 0 (open == 1 ? " event" : " events") \
         (open < nline ? " (write, look, set and get: only their data is answered here)" : ""))
   for (i = 1; i <= nline; i++) due[i] = counted[i] != "" ? counted[i] : want[++next_want]
+}
+
+# ---- a look at a pin
+function pin_line(   w, n) {
+  n = split(left, w, " ")
+  if (index(left, ";")) bad("a line pin SLOT stands alone, without ;")
+  wants(n, 2, 2, "pin SLOT, as in: pin 2 -> asserted low")
+  gsub(/ +/, " ", right)
+  if (arrow && right !~ /^((asserted|released) (low|high)|none)$/)
+    bad("\"" right "\" is no pin (asserted low, asserted high, released low, released high; none where there is no sensor)")
+  return slot_number(w[2])
 }
 
 # ---- records and answers in words
