@@ -388,12 +388,17 @@ static void approach(int n)
     sensor_read(n, 5);
 }
 
-static void set_register(int n, int which, int value)
+static void send_register(int n, int which, int value)
 {
     remember(n, which, value);
     point(n, which);
     add(BYTE, value >> 8);
     add(BYTE, value & 255);
+}
+
+static void set_register(int n, int which, int value)
+{
+    send_register(n, which, value);
     add(STOP, 0);
     play_as_is();
 }
@@ -487,24 +492,25 @@ static void part_limits(int n)
 {
     int low = between(-60, 40) * 4;
     int high = low + between(25, 55) * 4;
-    int critical = one_in(3) ? high + between(-10, 30) * 4 : 0x0FFC;
+    int critical = one_in(2) ? high + between(-10, 30) * 4 : 0x0FFC;
 
     set_register(n, 4, critical & 0xFFFF);
     set_register(n, 3, low & 0xFFFF);
     set_register(n, 2, high & 0xFFFF);
 }
 
-/* To where the high or the low flag is sure, or neither, or the critical one;
- * or to any limit. */
+/* To where the high or the low flag is sure, or neither, or the critical one
+ * alone changes; or to any limit. */
 static int a_move(int n)
 {
     int far = hysteresis(n) + between(8, 40);
 
-    switch (below(7)) {
+    switch (below(8)) {
     case 0: case 1: return within(limit[n][0] + far);
     case 2: case 3: return within(limit[n][1] - far);
     case 4: return within((limit[n][0] - hysteresis(n) + limit[n][1]) / 2);
-    case 5: return within(limit[n][2] + (one_in(2) ? far : -far));
+    case 5: return within((limit[n][2] - hysteresis(n) + limit[n][0]) / 2);
+    case 6: return within(limit[n][2] + (one_in(2) ? far : -far));
     default: return a_temperature(n);
     }
 }
@@ -537,20 +543,24 @@ static void configure(int n, int bits, int more)
 
     if (one_in(3))
         value |= below(65536) & 0xF810;
-    set_register(n, 1, value);
+    send_register(n, 1, value);
+    if (below(6))                        /* else it is open still */
+        add(STOP, 0);
+    play_as_is();
 }
 
-/* To a mode in which nothing pends, and back; with a change between them, or
- * power, or none. */
+/* To a mode in which nothing pends, mostly by one bit alone, or by power; and
+ * back, with a change between them or none. */
 static void leave_and_return(int n)
 {
+    static const int leaving[] = { 0x0001, 0x0004, 0x0008 };
     int back = one_in(2) ? 0x0009 : bits_now(n);
 
     if (one_in(4))
         record(POWER, 0, 0);
     else
-        configure(n, one_in(2) ? below(16) : back ^ 1 << below(4), 0);
-    if (one_in(3))
+        configure(n, one_in(3) ? below(16) : back ^ ONE_OF(leaving), 0);
+    if (one_in(2))
         move(n);
     if (one_in(3))
         look_at_pin(n);
@@ -581,15 +591,15 @@ static void configure_badly(int n)
  * side of the temperature, or to any. */
 static void clear_elsewhere(int n)
 {
-    static const int others[] = { 0, 5, 6, 7, 8, 9 };
+    static const int others[] = { 0, 5, 5, 6, 7, 8, 9 };
     int which = one_in(2) ? between(2, 3) : one_in(4) ? 4 : ONE_OF(others);
     int value = below(65536);
 
-    if (which == 4)
-        value = limit[n][2];
-    else if (which == 2 || which == 3)
-        value = limit[n][which - 2] + (one_in(2) ? 0 : between(-20, 20) * 4);
+    if (which >= 2 && which <= 4)
+        value = limit[n][which - 2] + (which == 4 || one_in(3) ? 0 : between(-40, 40) * 4);
     set_register(n, which, (value | 0x0020) & 0xFFFF);
+    if (one_in(3))
+        sensor_read(n, which);
 }
 
 /* A page is being written: the slot hears nothing, and converts. */
@@ -616,7 +626,21 @@ static void shut_down(int n)
     for (int k = below(3); k > 0; k--)
         move(n);
     look_at_pin(n);
+    if (one_in(2)) {
+        configure(n, bits_now(n), 0x0120);
+        look_at_pin(n);
+    }
     configure(n, bits_now(n), one_in(4) ? 0x0020 : 0);
+}
+
+/* Power or a temperature that is refused, or a timeout. */
+static void leave_alone(int n)
+{
+    switch (below(3)) {
+    case 0: record(POWER, 0, a_wrong_number()); break;
+    case 1: record(TIMEOUT, 0, 0); break;
+    default: record(TEMPERATURE, n, one_in(2) ? -641 : 2001); break;
+    }
 }
 
 /* One thing that may change the pin, or should not. */
@@ -624,15 +648,16 @@ static void touch_pin(int n)
 {
     int bits = pin_bits(), clear = one_in(3) ? 0x0020 : 0, lock = between(1, 3) << 6;
 
-    switch (below(16)) {
+    switch (below(18)) {
     case 0: case 1: case 2: case 3: case 4: move(n); break;
     case 5: case 6: configure(n, bits_now(n), 0x0020); break;
     case 7: case 8: configure(n, bits, clear); break;
     case 9: case 10: leave_and_return(n); break;
     case 11: configure_badly(n); break;
-    case 12: clear_elsewhere(n); break;
-    case 13: shut_down(n); break;
-    case 14: configure(n, bits, lock | clear); break;
+    case 12: case 13: clear_elsewhere(n); break;
+    case 14: shut_down(n); break;
+    case 15: configure(n, bits, lock | clear); break;
+    case 16: leave_alone(n); break;
     default: move_while_busy(n); break;
     }
 }
@@ -956,9 +981,9 @@ static void exchange(int leaning)
 {
     static const int shares[4][14] = {
         /* write read current sensor-w sensor-r measure half protect ask unknown between cut-pages cut-order pin */
-        [MIXED] = { 21, 8, 6, 16, 4, 10, 6, 9, 3, 2, 4, 4, 2, 2 },
+        [MIXED] = { 21, 8, 6, 15, 4, 10, 6, 9, 3, 2, 4, 4, 2, 3 },
         [MEMORY] = { 41, 14, 10, 2, 1, 2, 9, 3, 2, 2, 3, 7, 1, 0 },
-        [SENSOR] = { 1, 1, 1, 54, 4, 20, 1, 2, 1, 1, 4, 1, 0, 6 },
+        [SENSOR] = { 1, 1, 1, 50, 4, 20, 1, 2, 1, 1, 4, 1, 0, 10 },
         [PROTECTION] = { 24, 5, 4, 2, 1, 2, 8, 29, 9, 2, 4, 2, 5, 0 },
     };
     int chosen = below(100);             /* beyond the shares: rubbish */

@@ -83,7 +83,7 @@ static void make_fresh(struct slot *s)
     s->counter = 0;
     s->ticks_left = 0;            /* no write cycle */
     s->pointer = 0;
-    s->pending = 0;
+    s->pending = 0;               /* nothing is */
     memset(s->latched, 0, sizeof s->latched);
     memset(s->reg, 0, sizeof s->reg);
     s->reg[0] = 0x00EF;           /* capability */
@@ -209,24 +209,22 @@ static int can_pend(int configuration)
     return (configuration & (ENABLED | CRITICAL_ALONE | INTERRUPT)) == (ENABLED | INTERRUPT);
 }
 
-/* Which flags are set, as one number; 0 if none is. */
-static int set_flags(const struct slot *s, int flags) { return s->reg[5] & flags; }
-
 /* Whether the pin is asserted, whatever its level then is.  "The critical flag
  * keeps comparator behaviour" in interrupt mode. */
 static int is_asserted(const struct slot *s)
 {
     int configuration = s->reg[1];
+    int flags = s->reg[5];
 
     if (!(configuration & ENABLED))
         return 0;
-    if (set_flags(s, ABOVE_CRITICAL))
+    if (flags & ABOVE_CRITICAL)
         return 1;
     if (configuration & INTERRUPT)
         return s->pending;
     if (configuration & CRITICAL_ALONE)
         return 0;
-    return set_flags(s, ABOVE_HIGH | BELOW_LOW) != 0;
+    return (flags & (ABOVE_HIGH | BELOW_LOW)) != 0;
 }
 
 /* After a write to 01h with this word: one with bit 5 set clears, under a lock
@@ -462,10 +460,12 @@ static void convert(struct slot *s, int given)
  * is a change, and pends where one can (request P8). */
 static void temperature(struct slot *s, int given)
 {
-    int before = set_flags(s, ABOVE_HIGH | BELOW_LOW);
+    int before = s->reg[5];
+    int changed;
 
     convert(s, given);
-    if (set_flags(s, ABOVE_HIGH | BELOW_LOW) != before && can_pend(s->reg[1]))
+    changed = (s->reg[5] ^ before) & (ABOVE_HIGH | BELOW_LOW);
+    if (changed && can_pend(s->reg[1]))
         s->pending = 1;           /* until it is cleared, or dropped */
 }
 
