@@ -492,7 +492,7 @@ static void part_limits(int n)
 {
     int low = between(-60, 40) * 4;
     int high = low + between(25, 55) * 4;
-    int critical = one_in(2) ? high + between(-10, 30) * 4 : 0x0FFC;
+    int critical = one_in(2) ? high + between(-5, 40) * 4 : 0x0FFC;
 
     set_register(n, 4, critical & 0xFFFF);
     set_register(n, 3, low & 0xFFFF);
@@ -633,6 +633,17 @@ static void shut_down(int n)
     configure(n, bits_now(n), one_in(4) ? 0x0020 : 0);
 }
 
+/* Above the critical limit, perhaps cleared there, and below it again, where
+ * the high flag may stay. */
+static void over_critical(int n)
+{
+    record(TEMPERATURE, n, within(limit[n][2] + below(20)));
+    if (one_in(2))
+        configure(n, bits_now(n), one_in(3) ? 0 : 0x0020);
+    record(TEMPERATURE, n, within((limit[n][2] - hysteresis(n) + limit[n][0]) / 2));
+    look_at_pin(n);
+}
+
 /* Power or a temperature that is refused, or a timeout. */
 static void leave_alone(int n)
 {
@@ -646,9 +657,9 @@ static void leave_alone(int n)
 /* One thing that may change the pin, or should not. */
 static void touch_pin(int n)
 {
-    int bits = pin_bits(), clear = one_in(3) ? 0x0020 : 0, lock = between(1, 3) << 6;
+    int bits = pin_bits(), clear = one_in(2) ? 0x0020 : 0, lock = between(1, 3) << 6;
 
-    switch (below(18)) {
+    switch (below(19)) {
     case 0: case 1: case 2: case 3: case 4: move(n); break;
     case 5: case 6: configure(n, bits_now(n), 0x0020); break;
     case 7: case 8: configure(n, bits, clear); break;
@@ -657,7 +668,8 @@ static void touch_pin(int n)
     case 12: case 13: clear_elsewhere(n); break;
     case 14: shut_down(n); break;
     case 15: configure(n, bits, lock | clear); break;
-    case 16: leave_alone(n); break;
+    case 16: over_critical(n); break;
+    case 17: leave_alone(n); break;
     default: move_while_busy(n); break;
     }
 }
@@ -981,9 +993,9 @@ static void exchange(int leaning)
 {
     static const int shares[4][14] = {
         /* write read current sensor-w sensor-r measure half protect ask unknown between cut-pages cut-order pin */
-        [MIXED] = { 21, 8, 6, 15, 4, 10, 6, 9, 3, 2, 4, 4, 2, 3 },
+        [MIXED] = { 21, 8, 6, 14, 4, 10, 6, 9, 3, 2, 4, 4, 2, 4 },
         [MEMORY] = { 41, 14, 10, 2, 1, 2, 9, 3, 2, 2, 3, 7, 1, 0 },
-        [SENSOR] = { 1, 1, 1, 50, 4, 20, 1, 2, 1, 1, 4, 1, 0, 10 },
+        [SENSOR] = { 1, 1, 1, 46, 4, 20, 1, 2, 1, 1, 4, 1, 0, 14 },
         [PROTECTION] = { 24, 5, 4, 2, 1, 2, 8, 29, 9, 2, 4, 2, 5, 0 },
     };
     int chosen = below(100);             /* beyond the shares: rubbish */
