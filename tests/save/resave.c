@@ -443,9 +443,15 @@ static const char *const endings[] = {
     "", "s", "sFF", "sn", "sp", "so", "sc", "sw", "sw00", "sw005A", "sw00p", "sw005Ao", "sw005Ap", "sw005Apt", "sw005Aptt",
     "sw005Apc", "sw005As", "sm", "smr", "smn", "smnp", "sm00", "s6C", "s6E", "s6E00", "s6Ep", "s6D", "s63", "s66",
     "vs62", "vs6200", "vs620000", "vs62000000", "vs62u", "vs6200p", "vs620000p", "vs620000pt", "vs620000pst", "vs620000ptt",
-    "vs660000ptt", "sg", "sg0A", "sg01", "sg0107", "sg010700", "sg010700p", "sg01070000", "sk", "skr", "skrr", "skrrp", "sw005Apstt",
-    "sg010009ph", "sg01000Bph", "sg010008ph", "sg010001ph", "sg01000Dph", "sg010109ph", "hsg010009p", "sg010009phsg010020", "sg010009phsg010029p",
-    "sg010009phsg010008psg010009p", "sg010009phsg0100p", "sg0100C9phsg010000p", "sg0100C9phsg010020p", "sg010009phc", "sg010009psw005Aphtt" };
+    "vs660000ptt", "sg", "sg0A", "sg01", "sg0107", "sg010700", "sg010700p", "sg01070000", "sk", "skr", "skrr", "skrrp", "sw005Apstt" };
+
+/* Of those with which a pin has to do; q is the control byte of a sensor write
+ * of the next slot, i is h of that slot. */
+static const char *const pin_endings[] = {
+    "sg010009ph", "sg01000Bph", "sg010008ph", "sg010001ph", "sg01000Dph", "sg010109ph", "hsg010009p", "sg010009phsg010020",
+    "sg010009phsg010029p", "sg010009phsg010008psg010009p", "sg010009phsg0100p", "sg0100C9phsg010000p", "sg0100C9phsg010020p",
+    "sg010009phc", "sg010009psw005Aphtt", "sg010009psq010009ph", "sg010009psq010009pi", "sg010009psq010009phi",
+    "sg010009psq010008phi", "sg010008psq010009phi" };
 
 static void add_letter(char letter, int n)
 {
@@ -464,6 +470,8 @@ static void add_letter(char letter, int n)
     case 'm': add(BYTE, 0, 0xA1 + 2 * n); break;
     case 'g': add(BYTE, 0, 0x30 + 2 * n); break;
     case 'k': add(BYTE, 0, 0x31 + 2 * n); break;
+    case 'q': add(BYTE, 0, 0x30 + 2 * ((n + 1) % SLOTS)); break;
+    case 'i': add(TEMPERATURE, (n + 1) % SLOTS, 100); break;
     }
 }
 
@@ -509,6 +517,8 @@ static void sweep_phases(void)
         if (every == 1 || one_in(8))
             try_ending(endings[i], -1);
     }
+    for (int i = 0; i < (int)(sizeof pin_endings / sizeof pin_endings[0]); i++)
+        try_ending(pin_endings[i], 1);
 }
 
 /* ---- Every byte of small forms --------------------------------------------------- */
@@ -626,8 +636,8 @@ static void sweep_ends(int n)
 }
 
 /* Tag 5, of as many sensors as there are: of every sort of numbers, one too long
- * or too short, left out, with something behind it, before tag 4; and with the
- * bits by which a change can pend turned over. */
+ * or too short, left out, twice, with something behind it, before tag 4; and
+ * with the bits by which a change can pend turned over. */
 static void sweep_pending(void)
 {
     static const unsigned char ones[][3] = { { 0, 0 }, { 1, 0 }, { 0, 1 }, { 1, 1 }, { 2, 0 }, { 0, 2 }, { 2, 1 }, { 1, 2 }, { 255, 1 } };
@@ -652,6 +662,9 @@ static void sweep_pending(void)
     }
     begin("a small form without its field 5");
     bad_length = five;
+    try_small(1);
+    begin("a small form, its field 5 twice");
+    splice(bad_length, 0, good + five, good_length - five);
     try_small(1);
     begin("a small form, its field 5 before field 4");
     bad_length = field_at(3);
@@ -681,13 +694,29 @@ static void sweep_announced(void)
     try_longest();
 }
 
+/* Sensors in which a change is pending, and those in which one could, and that
+ * are not asserted. */
+static int count_pins(int *others)
+{
+    int many = 0;
+
+    *others = 0;
+    for (int n = 0; n < SLOTS; n++) {
+        many += bus[n].pending;
+        *others += can_pend(bus[n].reg[1]) && !is_asserted(&bus[n]);
+    }
+    return many;
+}
+
 /* A bench of this setup, whose form is the good one, and a look at it.  What was
  * tried has gone over the bench. */
 static void set_up_small(const unsigned char pairs[SETUP], int whole)
 {
+    int others;
+
     do
         stir(pairs);
-    while (slots_from(MEMORY_WITH_SENSOR) == 2 && !any_pending());
+    while (slots_from(MEMORY_WITH_SENSOR) == 2 && (count_pins(&others) != 1 || others != 1));
     keep_form();
     tail_length = 0;
     look(whole);
@@ -706,8 +735,8 @@ static void sweep_small(const unsigned char pairs[SETUP], int first)
     sweep_lengths();
 }
 
-/* No slot; a sensor; a memory and a sensor; two sensors, one of which at least
- * has a change pending. */
+/* No slot; a sensor; a memory and a sensor; two sensors, one of which has a
+ * change pending. */
 static void sweep(long wanted)
 {
     unsigned char pairs[4][SETUP] = { { 0 } };

@@ -667,7 +667,7 @@ static void touch_pin(int n)
     case 11: configure_badly(n); break;
     case 12: case 13: clear_elsewhere(n); break;
     case 14: shut_down(n); break;
-    case 15: configure(n, bits, lock | clear); break;
+    case 15: configure(n, clear ? bits_now(n) : bits, lock | clear); break;
     case 16: over_critical(n); break;
     case 17: leave_alone(n); break;
     default: move_while_busy(n); break;
