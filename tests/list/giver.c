@@ -65,6 +65,8 @@ static int in_range(void)
             return 0;
         if (s->ticks_left > s->length || s->half > 1 || s->pointer >= REGISTERS)
             return 0;
+        if (s->pending && !(s->kind == MEMORY_WITH_SENSOR && can_pend(s->reg[1])))
+            return 0;             /* where no change can be */
     }
     return 1;
 }
@@ -166,31 +168,38 @@ static void begin_anew(void)
         memory[i] = (unsigned char)(i / 512 * 16 + i / 128 % 4 + (i % 128 == 127 ? 8 : i % 128 > 0 ? 4 : 0));
 }
 
-/* The numbers behind a command's name; those in hex end in h. */
+static size_t size_of_word(const char *text) { return strcspn(text, " ,"); }
+
+/* One in hex ends in h. */
+static int number_at(const char *text) { return (int)strtol(text, NULL, text[size_of_word(text) - 1] == 'h' ? 16 : 10); }
+
+static const char *next_word(const char *text)
+{
+    text += size_of_word(text);
+    return text + (*text != 0);
+}
+
+/* The numbers behind a command's name. */
 static int numbers_of(const char *text, int *to)
 {
     int many = 0;
 
-    while (*text != 0) {
-        size_t size = strcspn(text, " ,");
-
-        if (size > 0 && text[0] >= '0' && text[0] <= 'F')
-            to[many++] = (int)strtol(text, NULL, text[size - 1] == 'h' ? 16 : 10);
-        text += size + (text[size] != 0);
-    }
+    for (; *text != 0; text = next_word(text))
+        if (size_of_word(text) > 0 && text[0] >= '0' && text[0] <= 'F')
+            to[many++] = number_at(text);
     return many;
 }
 
-/* A number of a slot by its name. */
-static void hand_in(struct slot *s, char initial, int value)
+/* Numbers of a slot by their names, a value behind each. */
+static void hand_in(struct slot *s, const char *text)
 {
-    switch (initial) {
-    case 'k': s->kind = value; break;
-    case 'h': s->half = value; break;
-    case 'p': s->pointer = value; break;
-    case 'l': s->ticks_left = value; break;
-    case 'L': s->length = value; break;
-    }
+    static const char *const names[] = { "kind ", "length ", "left ", "half ", "pointer ", "configuration ", "pending " };
+    int *const numbers[] = { &s->kind, &s->length, &s->ticks_left, &s->half, &s->pointer, &s->reg[1], &s->pending };
+
+    for (; *text != 0; text = next_word(text))
+        for (int i = 0; i < 7; i++)
+            if (memcmp(text, names[i], strlen(names[i])) == 0)
+                *numbers[i] = number_at(next_word(text));
 }
 
 /* A list, the answers, and what it changed. */
@@ -236,7 +245,7 @@ static void one_try(const char *command)
     } else if (memcmp(command, "memory", 6) == 0) {
         lent = (size_t)numbers[0];
     } else if (memcmp(command, "slot", 4) == 0) {
-        hand_in(&bus[numbers[0]], memcmp(command + 7, "length", 6) == 0 ? 'L' : command[7], numbers[1]);
+        hand_in(&bus[numbers[0]], command + 7);
     } else if (memcmp(command, "list", 4) == 0) {
         try_list(numbers, many);
     } else if (memcmp(command, "at", 2) == 0) {

@@ -4,8 +4,6 @@
  */
 /* ---- A form, and its fields ----------------------------------------------------- */
 
-enum { FIELDS = 4 };
-
 static unsigned char good[MOST];  /* the form that was saved */
 static size_t good_length;
 static unsigned char bad[1 << 16];         /* the same, damaged */
@@ -33,6 +31,16 @@ static size_t field_at(int which)
     while (which-- > 0)
         at += HEAD + (size_t)word_at(good + at + 1);
     return at;
+}
+
+/* Four, or five where a change is pending. */
+static int fields(void)
+{
+    int many = 0;
+
+    while (field_at(many) < good_length)
+        many++;
+    return many;
 }
 
 static size_t field_length(int which) { return field_at(which + 1) - field_at(which) - HEAD; }
@@ -95,11 +103,13 @@ static void change_slot(void)
         change_at(field_at(2) + HEAD + (size_t)(OF_SLOT * below(slots) + which), ONE_OF(ends[which]));
 }
 
+static int sensors_in_form(void) { return (int)field_length(3) / OF_SENSOR; }
+
 /* The pointer, or one bit of a register. */
 static void change_sensor(void)
 {
     static const int pointers[] = { 0, 9, 9, 10, 10, 11, 16, 255 };
-    int sensors = (int)field_length(3) / OF_SENSOR;
+    int sensors = sensors_in_form();
     size_t at = field_at(3) + HEAD;
 
     if (sensors == 0)
@@ -113,12 +123,75 @@ static void change_sensor(void)
     }
 }
 
+/* One of the bits by which a change can pend: 3, 2 or 0 of a configuration. */
+static void change_mode(int sensor, int bit)
+{
+    size_t at = field_at(3) + HEAD + (size_t)(OF_SENSOR * sensor) + 2;
+
+    change_at(at, bad[at] ^ 1 << bit);
+}
+
+/* ---- Tag 5, which is there only where a change is pending ----------------------- */
+
+/* The form with this field 5, whatever it had. */
+static void put_ones(const unsigned char *ones, int many)
+{
+    const unsigned char head[HEAD] = { 5, 0, (unsigned char)many };
+
+    bad_length = field_at(4);
+    splice(bad_length, 0, head, HEAD);
+    splice(bad_length, 0, ones, (size_t)many);
+    ADD_WHAT(", field 5 of %d bytes", many);
+    for (int i = 0; i < many; i++)
+        ADD_WHAT(" %d", ones[i]);
+}
+
+/* Any ones and zeros, mostly one for each sensor, and seldom another number. */
+static void change_ones(void)
+{
+    static const int numbers[] = { 2, 2, 3, 128, 255 };
+    unsigned char ones[SLOTS + 2] = { 0 };
+    int sensors = sensors_in_form();
+    int many = sensors + (one_in(6) ? 1 : sensors > 0 && one_in(6) ? -1 : 0);
+
+    for (int i = 0; i < many; i++)
+        ones[i] = (unsigned char)below(2);
+    if (many > 0 && one_in(4))
+        ones[below(many)] = (unsigned char)ONE_OF(numbers);
+    put_ones(ones, many);
+}
+
+/* Something behind the last field: a byte, or a field without contents. */
+static void put_behind(int tag, int bytes)
+{
+    const unsigned char more[HEAD] = { (unsigned char)tag, 0, 0 };
+
+    splice(bad_length, 0, more, (size_t)bytes);
+    ADD_WHAT(", %d bytes behind it, from %02Xh on", bytes, tag);
+}
+
+static void damage_pending(void)
+{
+    static const unsigned char none[SLOTS];
+    static const int bits[] = { 0, 2, 3 };
+    int sensors = sensors_in_form(), bit = ONE_OF(bits);
+
+    begin("what is pending");
+    switch (below(6)) {
+    case 0: put_ones(none, sensors); break;
+    case 1: bad_length = field_at(4); ADD_WHAT(", left out"); break;
+    case 2: if (sensors > 0) change_mode(below(sensors), bit); break;
+    case 3: put_behind(between(4, 6), one_in(2) ? 1 : HEAD); break;
+    default: change_ones(); break;
+    }
+}
+
 /* ---- Fields that are not as they should be ------------------------------------- */
 
 static void exchange_fields(void)
 {
     static unsigned char first[MOST];
-    int which = below(FIELDS - 1);
+    int which = below(fields() - 1);
     size_t at = field_at(which), middle = field_at(which + 1), behind = field_at(which + 2);
 
     memcpy(first, bad + at, middle - at);
@@ -127,13 +200,13 @@ static void exchange_fields(void)
 }
 
 /* Another field somewhere between the fields: one of a tag that is not known,
- * or one of the four once more. */
+ * or one of them once more. */
 static void add_field(void)
 {
-    static const int tags[] = { 0, 5, 5, 6, 17, 255 };
+    static const int tags[] = { 0, 5, 6, 6, 17, 255 };
     unsigned char other[HEAD + 1] = { (unsigned char)ONE_OF(tags), 0, 0, 0 };
-    size_t at = field_at(below(FIELDS + 1));
-    int which = below(FIELDS);
+    size_t at = field_at(below(fields() + 1));
+    int which = below(fields());
 
     if (one_in(2)) {
         splice(at, 0, good + field_at(which), HEAD + field_length(which));
@@ -145,7 +218,7 @@ static void add_field(void)
 
 static void drop_field(void)
 {
-    int which = below(FIELDS);
+    int which = below(fields());
 
     splice(field_at(which), field_at(which + 1) - field_at(which), NULL, 0);
 }
@@ -155,7 +228,7 @@ static void resize_field(void)
 {
     static const int steps[] = { 1, 1, 2, 4, 15, 16, 256, 512 };
     static const unsigned char more[512];
-    int which = below(FIELDS), step = ONE_OF(steps);
+    int which = below(fields()), step = ONE_OF(steps);
     int now = (int)field_length(which), grows = one_in(2) || now < step;
     size_t at = field_at(which);
 
@@ -168,7 +241,7 @@ static void resize_field(void)
 
 static void turn_length(void)     /* the low byte first */
 {
-    size_t at = field_at(below(FIELDS));
+    size_t at = field_at(below(fields()));
     unsigned char high = bad[at + 1];
 
     bad[at + 1] = bad[at + 2];

@@ -1,16 +1,16 @@
 /*
- * Saved forms (request P5, "Saving a bench overnight"): when a bench may be
- * saved, a writer and a reader, over the second opinion's own model.  Written
- * from the sentences of the request; no line of it comes from the crates.
- * Included by keeper.c and resave.c.  The file planted.txt replaces single lines
- * of it: keep the two in step.
+ * Saved forms (request P5, "Saving a bench overnight", with tag 5 of request P8,
+ * "The EVENT pin"): when a bench may be saved, a writer and a reader, over the
+ * second opinion's own model.  Written from the sentences of the requests; no
+ * line of it comes from the crates.  Included by keeper.c and resave.c.  The file
+ * planted.txt replaces single lines of it: keep the two in step.
  */
 #ifndef FORMS_H
 #define FORMS_H
 #include "model.h"
 
 enum { HEAD = 3, OF_SLOT = 4, OF_SENSOR = 15 };  /* bytes: tag and length; in tag 3; in tag 4 */
-enum { MOST = 4 * HEAD + SETUP + SLOTS * (SLOT_BYTES + OF_SLOT + OF_SENSOR) };
+enum { MOST = 5 * HEAD + SETUP + SLOTS * (SLOT_BYTES + OF_SLOT + OF_SENSOR + 1) };
 enum { SAVED = 7 };               /* registers of a sensor that are saved */
 
 static const int saved[SAVED] = { 1, 2, 3, 4, 5, 8, 9 };
@@ -62,11 +62,20 @@ static void put_slot(const struct slot *s)
     put(s->high_voltage);
 }
 
+/* Bit 4 of 01h is "saved as 0": it is no bit of the register. */
 static void put_sensor(const struct slot *s)
 {
     put(s->pointer);
     for (int i = 0; i < SAVED; i++)
         put_word(s->reg[saved[i]]);
+}
+
+static int any_pending(void)
+{
+    for (int n = 0; n < SLOTS; n++)
+        if (bus[n].kind == MEMORY_WITH_SENSOR && bus[n].pending)
+            return 1;
+    return 0;
 }
 
 /* Slots of this kind, or a greater one. */
@@ -77,6 +86,18 @@ static int slots_from(int kind)
     for (int n = 0; n < SLOTS; n++)
         many += bus[n].kind >= kind;
     return many;
+}
+
+/* Tag 5, "a byte for each sensor, 1 if a change is pending, present only when
+ * one is 1". */
+static void put_pending(void)
+{
+    if (!any_pending())
+        return;
+    put_head(5, slots_from(MEMORY_WITH_SENSOR));
+    for (int n = 0; n < SLOTS; n++)
+        if (bus[n].kind >= MEMORY_WITH_SENSOR)
+            put(bus[n].pending);  /* of a sensor */
 }
 
 static void write_form(void)
@@ -99,6 +120,7 @@ static void write_form(void)
     for (int n = 0; n < SLOTS; n++)
         if (bus[n].kind >= MEMORY_WITH_SENSOR)
             put_sensor(&bus[n]);
+    put_pending();
 }
 
 /* ---- Reading -------------------------------------------------------------- */
@@ -144,6 +166,24 @@ static int sensor_in_range(const unsigned char *fifteen)
     return 1;
 }
 
+/* Tag 5, where it is there: "a 1 where no change can be pending falls under 10",
+ * and so does any other number than 0, and a field without a 1. */
+static int pending_in_range(const unsigned char *ones, const unsigned char *fifteens, int sensors)
+{
+    int many = 0;
+
+    for (int i = 0; i < sensors; i++) {
+        int configuration = word_at(fifteens + OF_SENSOR * i + 1);
+
+        if (ones[i] > 1)
+            return 0;
+        if (ones[i] == 1 && !can_pend(configuration))
+            return 0;
+        many += ones[i];
+    }
+    return many > 0;              /* else the field is not there */
+}
+
 static void take_slot(struct slot *s, const unsigned char *four)
 {
     for (int b = 0; b < BLOCKS; b++)
@@ -160,14 +200,22 @@ static void take_sensor(struct slot *s, const unsigned char *fifteen)
         s->reg[saved[i]] = word_at(fifteen + 1 + 2 * i);
 }
 
+/* The contents of the fields of a form. */
+struct contents {
+    const unsigned char *pairs, *bytes, *fours, *fifteens;
+    const unsigned char *ones;    /* NULL where there is no tag 5 */
+    int present, sensors;         /* slots of the setup */
+};
+
 /* "What was saved reads back the same, the rest as fresh, absent slots' bytes
- * untouched." */
-static void restore(const unsigned char *pairs, const unsigned char *bytes, const unsigned char *fours, const unsigned char *fifteens)
+ * untouched."  Without tag 5 nothing is pending. */
+static void restore(const struct contents *c)
 {
+    const unsigned char *bytes = c->bytes, *fours = c->fours, *fifteens = c->fifteens, *ones = c->ones;
     unsigned char before[sizeof memory];
 
     memcpy(before, memory, sizeof memory);
-    setup(pairs);                 /* all fresh, but it fills the memory */
+    setup(c->pairs);              /* all fresh, but it fills the memory */
     memcpy(memory, before, sizeof memory);
     for (int n = 0; n < SLOTS; n++) {
         if (bus[n].kind == ABSENT)
@@ -179,43 +227,57 @@ static void restore(const unsigned char *pairs, const unsigned char *bytes, cons
         if (bus[n].kind == MEMORY_WITH_SENSOR) {
             take_sensor(&bus[n], fifteens);
             fifteens += OF_SENSOR;
+            if (ones != NULL)
+                bus[n].pending = *ones++;
         }
     }
+}
+
+/* Finds the fields; 0 if one is missing, has another length or has something
+ * behind it that is none. */
+static int find_fields(struct contents *c)
+{
+    c->present = c->sensors = 0;
+    c->pairs = field(1, SETUP);
+    if (c->pairs == NULL)
+        return 0;
+    for (int n = 0; n < SLOTS; n++) {
+        if (!pair_in_range(c->pairs[2 * n], c->pairs[2 * n + 1]))
+            return 0;
+        c->present += c->pairs[2 * n] != ABSENT;
+        c->sensors += c->pairs[2 * n] == MEMORY_WITH_SENSOR;
+    }
+    if ((c->bytes = field(2, SLOT_BYTES * c->present)) == NULL)
+        return 0;
+    if ((c->fours = field(3, OF_SLOT * c->present)) == NULL)
+        return 0;
+    if ((c->fifteens = field(4, OF_SENSOR * c->sensors)) == NULL)
+        return 0;
+    c->ones = NULL;
+    if (rest != end && (c->ones = field(5, c->sensors)) == NULL)
+        return 0;
+    return rest == end;           /* no bytes behind the end */
 }
 
 /* 1 if the form is accepted; the bench is then as it says.  Else 0, and the
  * bench stays. */
 static int read_form(const unsigned char *bytes, size_t length)
 {
-    const unsigned char *pairs, *stored, *fours, *fifteens;
-    int present = 0, sensors = 0;
+    struct contents c;
 
     rest = bytes;
     end = bytes + length;
-    pairs = field(1, SETUP);
-    if (pairs == NULL)
+    if (!find_fields(&c))
         return 0;
-    for (int n = 0; n < SLOTS; n++) {
-        if (!pair_in_range(pairs[2 * n], pairs[2 * n + 1]))
+    for (int i = 0; i < c.present; i++)
+        if (!slot_in_range(c.fours + OF_SLOT * i))
             return 0;
-        present += pairs[2 * n] != ABSENT;
-        sensors += pairs[2 * n] == MEMORY_WITH_SENSOR;
-    }
-    if ((stored = field(2, SLOT_BYTES * present)) == NULL)
-        return 0;
-    if ((fours = field(3, OF_SLOT * present)) == NULL)
-        return 0;
-    if ((fifteens = field(4, OF_SENSOR * sensors)) == NULL)
-        return 0;
-    if (rest != end)              /* bytes behind the end */
-        return 0;
-    for (int i = 0; i < present; i++)
-        if (!slot_in_range(fours + OF_SLOT * i))
+    for (int i = 0; i < c.sensors; i++)
+        if (!sensor_in_range(c.fifteens + OF_SENSOR * i))
             return 0;
-    for (int i = 0; i < sensors; i++)
-        if (!sensor_in_range(fifteens + OF_SENSOR * i))
-            return 0;
-    restore(pairs, stored, fours, fifteens);
+    if (c.ones != NULL && !pending_in_range(c.ones, c.fifteens, c.sensors))
+        return 0;
+    restore(&c);
     return 1;
 }
 #endif

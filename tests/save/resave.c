@@ -1,8 +1,9 @@
 /*
  * Makes benches, has the program `save` save them and the program `resume` go
  * on with them, and judges what both say; tests/save/random calls it.  Written
- * from the sentences of request P5, on the second opinion's model and with a
- * writer and a reader of its own (forms.h); no line of it comes from the crates.
+ * from the sentences of requests P5 and P8, on the second opinion's model and
+ * with a writer and a reader of its own (forms.h); no line of it comes from the
+ * crates.
  *
  *   resave COUNT TRIES SEED DIR SAVE RESUME [UNSEEN-SAVE UNSEEN-RESUME]
  *       Cuts each of the scripts DIR/1.script to DIR/COUNT.script somewhere:
@@ -332,14 +333,16 @@ static void play_to(size_t at)
 static size_t any_moment(void) { return SETUP + 4 * (size_t)below((int)(script_length - SETUP) / 4 + 1); }
 
 /* A moment at which the bench may be saved: the first from a chosen one on, or
- * else the last before it. */
+ * else the last before it.  In every other run the first at which a change is
+ * pending, too. */
 static size_t quiet_moment(void)
 {
     size_t chosen = any_moment(), last = SETUP;
+    int pending = one_in(2);
 
     setup(script);
     for (size_t at = SETUP; ; at += 4) {
-        if (quiet())
+        if (quiet() && (at < chosen || !pending || any_pending()))
             last = at;
         if (last >= chosen || at == script_length)
             return last;
@@ -416,6 +419,8 @@ static void one_run(void)
     }
     damage_field();
     try_bad();
+    damage_pending();
+    try_bad();
     if (number % 2)
         try_length();
     else
@@ -425,7 +430,7 @@ static void one_run(void)
 
 /* ---- How much of what follows is tried ---------------------------------------------- */
 
-enum { ABOUT_ALL = 43000 };       /* changes of one byte, and cuts */
+enum { ABOUT_ALL = 68000 };       /* changes of one byte, and cuts */
 static long every;                /* one in so many is tried */
 
 /* ---- A bench in every phase --------------------------------------------------------- */
@@ -433,12 +438,20 @@ static long every;                /* one in so many is tried */
 /* What happens last.  Bytes are in hex; w and m are the control bytes of a
  * memory write and read of the slot, g and k of a sensor write and read; s start,
  * p stop, o timeout, c power cycle, t tick, v and u high voltage on and off, r and
- * n a read with ACK and NACK. */
+ * n a read with ACK and NACK, h a temperature above all limits. */
 static const char *const endings[] = {
     "", "s", "sFF", "sn", "sp", "so", "sc", "sw", "sw00", "sw005A", "sw00p", "sw005Ao", "sw005Ap", "sw005Apt", "sw005Aptt",
     "sw005Apc", "sw005As", "sm", "smr", "smn", "smnp", "sm00", "s6C", "s6E", "s6E00", "s6Ep", "s6D", "s63", "s66",
     "vs62", "vs6200", "vs620000", "vs62000000", "vs62u", "vs6200p", "vs620000p", "vs620000pt", "vs620000pst", "vs620000ptt",
     "vs660000ptt", "sg", "sg0A", "sg01", "sg0107", "sg010700", "sg010700p", "sg01070000", "sk", "skr", "skrr", "skrrp", "sw005Apstt" };
+
+/* Of those with which a pin has to do; q is the control byte of a sensor write
+ * of the next slot, i is h of that slot. */
+static const char *const pin_endings[] = {
+    "sg010009ph", "sg01000Bph", "sg010008ph", "sg010001ph", "sg01000Dph", "sg010109ph", "hsg010009p", "sg010009phsg010020",
+    "sg010009phsg010029p", "sg010009phsg010008psg010009p", "sg010009phsg0100p", "sg0100C9phsg010000p", "sg0100C9phsg010020p",
+    "sg010009phc", "sg010009psw005Aphtt", "sg010009psq010009ph", "sg010009psq010009pi", "sg010009psq010009phi",
+    "sg010009psq010008phi", "sg010008psq010009phi" };
 
 static void add_letter(char letter, int n)
 {
@@ -447,6 +460,7 @@ static void add_letter(char letter, int n)
     case 'p': add(STOP, 0, 0); break;
     case 'o': add(TIMEOUT, 0, 0); break;
     case 'c': add(POWER, 0, 0); break;
+    case 'h': add(TEMPERATURE, n, 100); break;
     case 't': add(TICK, 0, 0); break;
     case 'v': add(VOLTAGE, n, 1); break;
     case 'u': add(VOLTAGE, n, 0); break;
@@ -456,6 +470,8 @@ static void add_letter(char letter, int n)
     case 'm': add(BYTE, 0, 0xA1 + 2 * n); break;
     case 'g': add(BYTE, 0, 0x30 + 2 * n); break;
     case 'k': add(BYTE, 0, 0x31 + 2 * n); break;
+    case 'q': add(BYTE, 0, 0x30 + 2 * ((n + 1) % SLOTS)); break;
+    case 'i': add(TEMPERATURE, (n + 1) % SLOTS, 100); break;
     }
 }
 
@@ -501,9 +517,22 @@ static void sweep_phases(void)
         if (every == 1 || one_in(8))
             try_ending(endings[i], -1);
     }
+    for (int i = 0; i < (int)(sizeof pin_endings / sizeof pin_endings[0]); i++)
+        try_ending(pin_endings[i], 1);
 }
 
 /* ---- Every byte of small forms --------------------------------------------------- */
+
+/* Any registers; often those with which a change can pend, and does. */
+static void stir_sensor(struct slot *s)
+{
+    s->pointer = below(REGISTERS);
+    for (int i = 0; i < SAVED; i++)
+        s->reg[saved[i]] = below(65536) & kept_bits[saved[i]];
+    if (one_in(2))
+        s->reg[1] = (s->reg[1] & ~CRITICAL_ALONE) | ENABLED | INTERRUPT;
+    s->pending = can_pend(s->reg[1]) && below(4);
+}
 
 /* A bench in any state that may be saved. */
 static void stir(const unsigned char pairs[SETUP])
@@ -521,11 +550,8 @@ static void stir(const unsigned char pairs[SETUP])
         s->high_voltage = below(2);
         for (int i = 0; i < SLOT_BYTES; i++)
             memory[SLOT_BYTES * n + i] = (unsigned char)below(256);
-        if (s->kind != MEMORY_WITH_SENSOR)
-            continue;
-        s->pointer = below(REGISTERS);
-        for (int i = 0; i < SAVED; i++)
-            s->reg[saved[i]] = below(65536) & kept_bits[saved[i]];
+        if (s->kind == MEMORY_WITH_SENSOR)
+            stir_sensor(s);
     }
 }
 
@@ -594,7 +620,7 @@ static void sweep_ends(int n)
                                    { 3, 0, 9 }, { 3, 0, 10 } };
     const int pairs[][2] = { { 2 * n, 3 }, { 2 * n + 1, 0 }, { 2 * n + 1, 5 }, { 2 * n + 1, 6 }, { 2 * n + 2, 1 }, { 2 * n + 3, 1 } };
 
-    for (int i = 0; i < 9 + 6 + HEAD * FIELDS; i++) {
+    for (int i = 0; i < 9 + 6 + HEAD * fields(); i++) {
         int head = i - 9 - 6;
         size_t at = field_at(head / HEAD) + (size_t)head % HEAD;
 
@@ -607,6 +633,44 @@ static void sweep_ends(int n)
             change_at(at, good[at] + 1);
         try_small(1);
     }
+}
+
+/* Tag 5, of as many sensors as there are: of every sort of numbers, one too long
+ * or too short, left out, twice, with something behind it, before tag 4; and
+ * with the bits by which a change can pend turned over. */
+static void sweep_pending(void)
+{
+    static const unsigned char ones[][3] = { { 0, 0 }, { 1, 0 }, { 0, 1 }, { 1, 1 }, { 2, 0 }, { 0, 2 }, { 2, 1 }, { 1, 2 }, { 255, 1 } };
+    int sensors = sensors_in_form(), sorts = (int)(sizeof ones / sizeof ones[0]);
+    size_t five = field_at(4);
+
+    for (int i = 0; i < 3 * sorts; i++) {
+        begin("a small form");
+        if (sensors + i % 3 > 0)
+            put_ones(ones[i / 3], sensors + i % 3 - 1);
+        try_small(1);
+    }
+    for (int i = 0; i < 4 * sensors; i++) {
+        begin("a small form");
+        change_mode(i / 4, i % 4);
+        try_small(1);
+    }
+    for (int tag = 0; tag <= 7; tag++) {
+        begin("a small form");
+        put_behind(tag, tag % 2 ? HEAD : 1);
+        try_small(1);
+    }
+    begin("a small form without its field 5");
+    bad_length = five;
+    try_small(1);
+    begin("a small form, its field 5 twice");
+    splice(bad_length, 0, good + five, good_length - five);
+    try_small(1);
+    begin("a small form, its field 5 before field 4");
+    bad_length = field_at(3);
+    splice(bad_length, 0, good + five, good_length - five);
+    splice(bad_length, 0, good + field_at(3), five - field_at(3));
+    try_small(1);
 }
 
 /* The first bytes of an input. */
@@ -630,34 +694,64 @@ static void sweep_announced(void)
     try_longest();
 }
 
-/* No slot; a sensor; a memory and a sensor. */
+/* Sensors in which a change is pending, and those in which one could, and that
+ * are not asserted. */
+static int count_pins(int *others)
+{
+    int many = 0;
+
+    *others = 0;
+    for (int n = 0; n < SLOTS; n++) {
+        many += bus[n].pending;
+        *others += can_pend(bus[n].reg[1]) && !is_asserted(&bus[n]);
+    }
+    return many;
+}
+
+/* A bench of this setup, whose form is the good one, and a look at it.  What was
+ * tried has gone over the bench. */
+static void set_up_small(const unsigned char pairs[SETUP], int whole)
+{
+    int others;
+
+    do
+        stir(pairs);
+    while (slots_from(MEMORY_WITH_SENSOR) == 2 && (count_pins(&others) != 1 || others != 1));
+    keep_form();
+    tail_length = 0;
+    look(whole);
+}
+
+static void sweep_small(const unsigned char pairs[SETUP], int first)
+{
+    set_up_small(pairs, 1);
+    begin("a small form as it is");
+    try_small(1);
+    set_up_small(pairs, 0);
+    if (number == 1)
+        sweep_ends(first);
+    sweep_pending();
+    sweep_values();
+    sweep_lengths();
+}
+
+/* No slot; a sensor; a memory and a sensor; two sensors, one of which has a
+ * change pending. */
 static void sweep(long wanted)
 {
-    unsigned char pairs[3][SETUP] = { { 0 } };
+    unsigned char pairs[4][SETUP] = { { 0 } };
     int first = below(7), second = between(first + 1, 7);
+    unsigned char ticks = (unsigned char)between(1, 5);
 
-    pairs[1][2 * first] = pairs[2][2 * second] = MEMORY_WITH_SENSOR;
+    pairs[1][2 * first] = pairs[2][2 * second] = pairs[3][2 * first] = pairs[3][2 * second] = MEMORY_WITH_SENSOR;
     pairs[2][2 * first] = MEMORY;
-    pairs[1][2 * first + 1] = pairs[2][2 * first + 1] = pairs[2][2 * second + 1] = (unsigned char)between(1, 5);
+    pairs[1][2 * first + 1] = pairs[2][2 * first + 1] = pairs[2][2 * second + 1] = ticks;
+    pairs[3][2 * first + 1] = pairs[3][2 * second + 1] = ticks;
     every = wanted == 0 || wanted > ABOUT_ALL ? 1 : ABOUT_ALL / wanted;
     number = 0;                   /* no run any more */
     sweep_phases();
-    for (number = 0; number < 3; number++) {
-        stir(pairs[number]);
-        keep_form();
-        tail_length = 0;
-        look(1);
-        begin("a small form as it is");
-        try_small(1);
-        stir(pairs[number]);      /* what was tried has gone over the bench */
-        keep_form();
-        tail_length = 0;
-        look(0);
-        if (number == 1)
-            sweep_ends(first);
-        sweep_values();
-        sweep_lengths();
-    }
+    for (number = 0; number < 4; number++)
+        sweep_small(pairs[number], first);
     sweep_first();
     sweep_announced();
 }

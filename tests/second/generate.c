@@ -3,11 +3,11 @@
  * document 01 to standard output: a setup and EVENTS records.
  *
  * The scripts are random but meant: whole exchanges of every sort, a good
- * share of them then disturbed (cut, interrupted, mixed up), with ticks, pin
- * and temperature events around them, and power lost in write cycles.  The
- * generator knows nothing of the device's answers; it only remembers what it
- * wrote where, so that it comes back to the same places.  The same arguments
- * always give the same script.
+ * share of them then disturbed (cut, interrupted, mixed up), with ticks,
+ * voltage and temperature events around them, power lost in write cycles, and
+ * all that the EVENT pin minds or should not.  The generator knows nothing of
+ * the device's answers; it only remembers what it wrote where, so that it comes
+ * back to the same places.  The same arguments always give the same script.
  *
  * With `odd` the setup is bad or cut short, or the last record is cut.
  */
@@ -23,20 +23,28 @@ enum { START = 1, BYTE, READ, STOP, TIMEOUT, TICK, VOLTAGE, POWER, TEMPERATURE }
 static int kind_of[8], length_of[8];     /* the setup */
 static int favourite[2], with_sensor;    /* slots most exchanges go to */
 static int places[4];                    /* addresses this script comes back to */
-static int limit[8][3], hysteresis[8];   /* last written: high, low, critical */
+static int limit[8][3];                  /* last written: high, low, critical */
 static int resolution[8];                /* last written: 0 to 3 */
 static int lately;                       /* 0, 1 or 2: the limit written last */
-static int locked[8];                    /* lock bits written since power came */
+static int configured[8];                /* register 01h, by what was written since power came */
 static int in_hand;                      /* the slot of the exchange being made */
 static long left;                        /* records still to write */
 
 static void forget(void)
 {
     memset(limit, 0, sizeof limit);
-    memset(hysteresis, 0, sizeof hysteresis);
-    memset(locked, 0, sizeof locked);
+    memset(configured, 0, sizeof configured);
     for (int n = 0; n < 8; n++)
         resolution[n] = 1;
+}
+
+static int locks(int n) { return configured[n] & 0x00C0; }
+
+static int hysteresis(int n)
+{
+    static const int sixteenths[] = { 0, 24, 48, 96 };
+
+    return sixteenths[configured[n] >> 9 & 3];
 }
 
 /* ---- Records ------------------------------------------------------------ */
@@ -117,7 +125,7 @@ static int an_edge(int n)
 {
     int edge = limit[n][one_in(2) ? lately : below(3)];
 
-    return one_in(2) ? edge - hysteresis[n] : edge;
+    return one_in(2) ? edge - hysteresis(n) : edge;
 }
 
 static int step_of(int n) { return 8 >> resolution[n]; }
@@ -305,14 +313,14 @@ static void current_read(int n)
 
 static void remember(int n, int which, int value)
 {
-    static const int sixteenths[] = { 0, 24, 48, 96 };
+    int changes = locks(n) ? 0 : 0x060F;
 
     if (which == 1) {
-        if (!locked[n])
-            hysteresis[n] = sixteenths[value >> 9 & 3];
-        locked[n] |= value & 0x00C0;
+        if (locks(n))
+            value &= ~0x0100 | configured[n];
+        configured[n] = (configured[n] & (0x06CF & ~changes)) | (value & (0x01C0 | changes));
     } else if (which >= 2 && which <= 4) {
-        if (!(locked[n] & (which == 4 ? 0x0080 : 0x0040)))
+        if (!(locks(n) & (which == 4 ? 0x0080 : 0x0040)))
             limit[n][lately = which - 2] = (value & 0x0FFC) - (value & 0x1000);
     } else if (which == 8) {
         resolution[n] = value & 3;
@@ -329,7 +337,7 @@ static int a_register_value(int n, int which)
         value |= below(4) << 9;
         if (one_in(6)) value |= 0x0080;
         if (one_in(6)) value |= 0x0040;
-        if (one_in(locked[n] || value & 0x00C0 ? 2 : 6)) value |= 0x0100;
+        if (one_in(locks(n) || value & 0x00C0 ? 2 : 6)) value |= 0x0100;
     } else if (which >= 2 && which <= 4) {
         if (one_in(4))
             value = ONE_OF(ends);
@@ -372,20 +380,25 @@ static void approach(int n)
 {
     int lower = one_in(2);
     int from_above = one_in(6) ? !lower : lower;
-    int edge = limit[n][below(3)] - (lower ? hysteresis[n] : 0);
-    int far = hysteresis[n] + between(12, 40);
+    int edge = limit[n][below(3)] - (lower ? hysteresis(n) : 0);
+    int far = hysteresis(n) + between(12, 40);
 
     record(TEMPERATURE, n, within(from_above ? edge + far : edge - far));
     record(TEMPERATURE, n, within(beside(n, edge)));
     sensor_read(n, 5);
 }
 
-static void set_register(int n, int which, int value)
+static void send_register(int n, int which, int value)
 {
     remember(n, which, value);
     point(n, which);
     add(BYTE, value >> 8);
     add(BYTE, value & 255);
+}
+
+static void set_register(int n, int which, int value)
+{
+    send_register(n, which, value);
     add(STOP, 0);
     play_as_is();
 }
@@ -435,7 +448,7 @@ static void sensor_write(void)
 {
     static const int pointers[] = { 1, 1, 1, 2, 2, 3, 3, 4, 4, 8, 8, 8, 9 };
     int n = a_sensor();
-    int which = one_in(6) ? below(12) : locked[n] && one_in(3) ? 1 : ONE_OF(pointers);
+    int which = one_in(6) ? below(12) : locks(n) && one_in(3) ? 1 : ONE_OF(pointers);
     int value = a_register_value(n, which);
     int many = one_in(8) ? below(4) : 2;
 
@@ -465,6 +478,218 @@ static void prime(int n)
     for (int i = 0; i < 5; i++)
         set_register(n, order[i], a_register_value(n, order[i]));
 }
+
+/* ---- The EVENT pin ------------------------------------------------------ */
+
+/* Bits 3:0 of a configuration: mostly those with which a change can pend. */
+static int pin_bits(void) { return one_in(2) ? below(16) : one_in(2) ? 0x0009 : 0x000B; }
+
+static int bits_now(int n) { return configured[n] & 0x000F; }
+
+/* Low, high and critical so far apart that each flag can be had alone; the
+ * critical one is mostly out of the way. */
+static void part_limits(int n)
+{
+    int low = between(-60, 40) * 4;
+    int high = low + between(25, 55) * 4;
+    int critical = one_in(2) ? high + between(-5, 40) * 4 : 0x0FFC;
+
+    set_register(n, 4, critical & 0xFFFF);
+    set_register(n, 3, low & 0xFFFF);
+    set_register(n, 2, high & 0xFFFF);
+}
+
+/* To where the high or the low flag is sure, or neither, or the critical one
+ * alone changes; or to any limit. */
+static int a_move(int n)
+{
+    int far = hysteresis(n) + between(8, 40);
+
+    switch (below(8)) {
+    case 0: case 1: return within(limit[n][0] + far);
+    case 2: case 3: return within(limit[n][1] - far);
+    case 4: return within((limit[n][0] - hysteresis(n) + limit[n][1]) / 2);
+    case 5: return within((limit[n][2] - hysteresis(n) + limit[n][0]) / 2);
+    case 6: return within(limit[n][2] + (one_in(2) ? far : -far));
+    default: return a_temperature(n);
+    }
+}
+
+static void move(int n) { record(TEMPERATURE, n, a_move(n)); }
+
+/* A read of 01h, often with a temperature in it: before the control byte or
+ * behind it, between the two reads or behind them. */
+static void look_at_pin(int n)
+{
+    if (below(5))
+        point(n, 1);
+    add(START, 0);
+    add(BYTE, 0x31 | n << 1);
+    add(READ, 1);
+    add(READ, one_in(8));
+    if (one_in(2)) {
+        int t = a_move(n);
+        insert(count - below(5), TEMPERATURE, n, t);
+    }
+    add(STOP, 0);
+    play_as_is();
+}
+
+/* A write to 01h of these bits 3:0, and more: bit 5, 6, 7 or 8.  Hysteresis
+ * stays mostly; bits that are not kept hold anything. */
+static void configure(int n, int bits, int more)
+{
+    int value = bits | more | (one_in(6) ? below(4) << 9 : configured[n] & 0x0600);
+
+    if (one_in(3))
+        value |= below(65536) & 0xF810;
+    send_register(n, 1, value);
+    if (below(6))                        /* else it is open still */
+        add(STOP, 0);
+    play_as_is();
+}
+
+/* To a mode in which nothing pends, mostly by one bit alone, or by power; and
+ * back, with a change between them or none. */
+static void leave_and_return(int n)
+{
+    static const int leaving[] = { 0x0001, 0x0004, 0x0008 };
+    int back = one_in(2) ? 0x0009 : bits_now(n);
+
+    if (one_in(4))
+        record(POWER, 0, 0);
+    else
+        configure(n, one_in(3) ? below(16) : back ^ ONE_OF(leaving), 0);
+    if (one_in(2))
+        move(n);
+    if (one_in(3))
+        look_at_pin(n);
+    configure(n, back, 0);
+    look_at_pin(n);
+}
+
+/* A write to 01h that ends before its second byte, or with a third one. */
+static void configure_badly(int n)
+{
+    int many = one_in(4) ? 3 : below(2);
+
+    point(n, 1);
+    if (many > 0) add(BYTE, one_in(2) ? 0x20 : below(8));
+    if (many > 1) add(BYTE, bits_now(n));
+    if (many > 2) add(BYTE, 0x20 | below(16));
+    switch (below(5)) {
+    case 0: add(STOP, 0); break;
+    case 1: add(TIMEOUT, 0); break;
+    case 2: add(READ, below(2)); add(STOP, 0); break;
+    case 3: insert(count, TEMPERATURE, n, a_move(n)); break;
+    default: break;                      /* the next start cuts it */
+    }
+    play_as_is();
+}
+
+/* Bit 5 in a write to another register: to a limit, which may go to the other
+ * side of the temperature, or to any. */
+static void clear_elsewhere(int n)
+{
+    static const int others[] = { 0, 5, 5, 6, 7, 8, 9 };
+    int which = one_in(2) ? between(2, 3) : one_in(4) ? 4 : ONE_OF(others);
+    int value = below(65536);
+
+    if (which >= 2 && which <= 4)
+        value = limit[n][which - 2] + (which == 4 || one_in(3) ? 0 : between(-40, 40) * 4);
+    set_register(n, which, (value | 0x0020) & 0xFFFF);
+    if (one_in(3))
+        sensor_read(n, which);
+}
+
+/* A page is being written: the slot hears nothing, and converts. */
+static void move_while_busy(int n)
+{
+    add(START, 0);
+    add(BYTE, 0xA0 | n << 1);
+    add(BYTE, an_address());
+    add(BYTE, below(256));
+    add(STOP, 0);
+    play_as_is();
+    move(n);
+    if (one_in(2))
+        look_at_pin(n);
+    if (one_in(2))
+        configure(n, bits_now(n), 0x0020);
+    ticks(n);
+}
+
+/* In shutdown nothing converts, and the pin stays as it is. */
+static void shut_down(int n)
+{
+    configure(n, bits_now(n), 0x0100);
+    for (int k = below(3); k > 0; k--)
+        move(n);
+    look_at_pin(n);
+    if (one_in(2)) {
+        configure(n, bits_now(n), 0x0120);
+        look_at_pin(n);
+    }
+    configure(n, bits_now(n), one_in(4) ? 0x0020 : 0);
+}
+
+/* Above the critical limit, perhaps cleared there, and below it again, where
+ * the high flag may stay. */
+static void over_critical(int n)
+{
+    record(TEMPERATURE, n, within(limit[n][2] + below(20)));
+    if (one_in(2))
+        configure(n, bits_now(n), one_in(3) ? 0 : 0x0020);
+    record(TEMPERATURE, n, within((limit[n][2] - hysteresis(n) + limit[n][0]) / 2));
+    look_at_pin(n);
+}
+
+/* Power or a temperature that is refused, or a timeout. */
+static void leave_alone(int n)
+{
+    switch (below(3)) {
+    case 0: record(POWER, 0, a_wrong_number()); break;
+    case 1: record(TIMEOUT, 0, 0); break;
+    default: record(TEMPERATURE, n, one_in(2) ? -641 : 2001); break;
+    }
+}
+
+/* One thing that may change the pin, or should not. */
+static void touch_pin(int n)
+{
+    int bits = pin_bits(), clear = one_in(2) ? 0x0020 : 0, lock = between(1, 3) << 6;
+
+    switch (below(19)) {
+    case 0: case 1: case 2: case 3: case 4: move(n); break;
+    case 5: case 6: configure(n, bits_now(n), 0x0020); break;
+    case 7: case 8: configure(n, bits, clear); break;
+    case 9: case 10: leave_and_return(n); break;
+    case 11: configure_badly(n); break;
+    case 12: case 13: clear_elsewhere(n); break;
+    case 14: shut_down(n); break;
+    case 15: configure(n, clear ? bits_now(n) : bits, lock | clear); break;
+    case 16: over_critical(n); break;
+    case 17: leave_alone(n); break;
+    default: move_while_busy(n); break;
+    }
+}
+
+/* Limits and a mode, then much that touches the pin, with looks at it.  What is
+ * locked stays so till power is lost. */
+static void try_pin(int n)
+{
+    if (locks(n) && one_in(2))
+        record(POWER, 0, 0);
+    part_limits(n);
+    configure(n, pin_bits(), 0);
+    for (int k = between(5, 12); k > 0; k--) {
+        touch_pin(n);
+        if (below(4))
+            look_at_pin(n);
+    }
+}
+
+/* ---- Pages -------------------------------------------------------------- */
 
 static void page_write(void)
 {
@@ -766,18 +991,18 @@ enum { MIXED, MEMORY, SENSOR, PROTECTION };
 
 static void exchange(int leaning)
 {
-    static const int shares[4][13] = {
-        /* write read current sensor-w sensor-r measure half protect ask unknown between cut-pages cut-order */
-        [MIXED] = { 21, 8, 6, 18, 4, 10, 6, 9, 3, 2, 4, 4, 2 },
-        [MEMORY] = { 41, 14, 10, 2, 1, 2, 9, 3, 2, 2, 3, 7, 1 },
-        [SENSOR] = { 1, 1, 1, 60, 4, 20, 1, 2, 1, 1, 4, 1, 0 },
-        [PROTECTION] = { 24, 5, 4, 2, 1, 2, 8, 29, 9, 2, 4, 2, 5 },
+    static const int shares[4][14] = {
+        /* write read current sensor-w sensor-r measure half protect ask unknown between cut-pages cut-order pin */
+        [MIXED] = { 21, 8, 6, 14, 4, 10, 6, 9, 3, 2, 4, 4, 2, 4 },
+        [MEMORY] = { 41, 14, 10, 2, 1, 2, 9, 3, 2, 2, 3, 7, 1, 0 },
+        [SENSOR] = { 1, 1, 1, 46, 4, 20, 1, 2, 1, 1, 4, 1, 0, 14 },
+        [PROTECTION] = { 24, 5, 4, 2, 1, 2, 8, 29, 9, 2, 4, 2, 5, 0 },
     };
     int chosen = below(100);             /* beyond the shares: rubbish */
     int which = 0;
     int n, place;
 
-    while (which < 13 && chosen >= shares[leaning][which])
+    while (which < 14 && chosen >= shares[leaning][which])
         chosen -= shares[leaning][which++];
     switch (which) {
     case 0: page_write(); break;
@@ -801,6 +1026,7 @@ static void exchange(int leaning)
             prime(with_sensor);
         break;
     case 12: cut_order(); break;
+    case 13: try_pin(a_sensor()); break;
     default: rubbish(); break;
     }
     if (one_in(120)) {

@@ -2,9 +2,10 @@
  * The second opinion: the script program of document 01, written from that
  * document and sharing no line with the proved model.  At the few places where
  * the document is silent it takes the choices of docs/DECISIONS.md.  A power
- * cycle has a number, as request P3 ("Power lost in a write cycle") has it, and
- * a temperature goes to the nearest step, as request P7 ("Rounding of
- * temperature") has it.
+ * cycle has a number, as request P3 ("Power lost in a write cycle") has it, a
+ * temperature goes to the nearest step, as request P7 ("Rounding of
+ * temperature") has it, and a sensor has the pin of request P8 ("The EVENT
+ * pin"), of which a script sees bit 4 of register 01h.
  *
  * It follows the document's sections and uses its words.  It is meant to be
  * read beside the document, so it is plain rather than clever.  The file
@@ -39,6 +40,14 @@ enum doing {
 /* What a write cycle does when it ends: 0 to 3 protects that block. */
 enum { CLEAR_ALL = 4, STORE_PAGE = 5 };
 
+/* Bits of 01h, the configuration: of the sensor, and of its EVENT pin. */
+enum { HYSTERESIS = 0x0600, SHUTDOWN = 0x0100, LOCK_04 = 0x0080, LOCK_02_03 = 0x0040 };
+enum { CLEAR_EVENT = 0x0020, READS_ASSERTED = 0x0010 };  /* neither is kept */
+enum { ENABLED = 0x0008, CRITICAL_ALONE = 0x0004, ACTIVE_HIGH = 0x0002, INTERRUPT = 0x0001 };
+
+/* Bits of 05h, the temperature: its flags. */
+enum { ABOVE_CRITICAL = 0x8000, ABOVE_HIGH = 0x4000, BELOW_LOW = 0x2000 };
+
 struct slot {
     int kind;                     /* 0 absent, 1 memory, 2 memory with sensor */
     int length;                   /* of a write cycle, in ticks; absent: 0 */
@@ -55,6 +64,7 @@ struct slot {
     int work;                     /* of the running write cycle */
     int pointer;                  /* of the sensor, 00h..09h */
     int reg[REGISTERS];
+    int pending;                  /* a change of the high or low flag is */
     int high_byte;                /* in SENSOR_LOW: the byte before */
     int fixed;                    /* in SENSOR_READ: both bytes */
 };
@@ -73,6 +83,7 @@ static void make_fresh(struct slot *s)
     s->counter = 0;
     s->ticks_left = 0;            /* no write cycle */
     s->pointer = 0;
+    s->pending = 0;               /* nothing is */
     memset(s->latched, 0, sizeof s->latched);
     memset(s->reg, 0, sizeof s->reg);
     s->reg[0] = 0x00EF;           /* capability */
@@ -189,6 +200,54 @@ static void power_cycle(int n, int number)
     make_fresh(s);
 }
 
+/* ---- The EVENT pin (request P8) ----------------------------------------- */
+
+/* "A change is pending only while the pin is enabled in interrupt mode with
+ * bit 2 at 0." */
+static int can_pend(int configuration)
+{
+    return (configuration & (ENABLED | CRITICAL_ALONE | INTERRUPT)) == (ENABLED | INTERRUPT);
+}
+
+/* Whether the pin is asserted, whatever its level then is.  "The critical flag
+ * keeps comparator behaviour" in interrupt mode. */
+static int is_asserted(const struct slot *s)
+{
+    int configuration = s->reg[1];
+    int flags = s->reg[5];
+
+    if (!(configuration & ENABLED))
+        return 0;
+    if (flags & ABOVE_CRITICAL)
+        return 1;
+    if (configuration & INTERRUPT)
+        return s->pending;
+    if (configuration & CRITICAL_ALONE)
+        return 0;
+    return (flags & (ABOVE_HIGH | BELOW_LOW)) != 0;
+}
+
+/* After a write to 01h with this word: one with bit 5 set clears, under a lock
+ * too; one that leaves the mode in which a change can pend drops it for good. */
+static void drop_pending(struct slot *s, int value)
+{
+    if (value & CLEAR_EVENT)
+        s->pending = 0;
+    if (!can_pend(s->reg[1]))
+        s->pending = 0;
+}
+
+/* What a read of the pointed register gives as it stands now.  "Bit 5 reads 0
+ * and bit 4 reads whether the pin is asserted." */
+static int word_to_read(const struct slot *s)
+{
+    int word = s->reg[s->pointer];
+
+    if (s->pointer == 1 && is_asserted(s))
+        word |= READS_ASSERTED;
+    return word;
+}
+
 /* ---- Control byte ------------------------------------------------------- */
 
 /* Each returns 1 for an ACK, with what the slot does from then on. */
@@ -260,7 +319,7 @@ static int control_byte(int n, int byte)
         return 1;
     }
     if (family == 0x3 && selects_me && s->kind == MEMORY_WITH_SENSOR) {
-        s->fixed = s->reg[s->pointer];  /* both bytes fixed at this ACK */
+        s->fixed = word_to_read(s);  /* both bytes fixed at this ACK */
         s->doing = reading ? SENSOR_READ_1 : SENSOR_POINTER;
         return 1;
     }
@@ -303,9 +362,6 @@ static int any_latched(const struct slot *s)
 
 /* ---- Sensor ------------------------------------------------------------- */
 
-enum { HYSTERESIS = 0x0600, SHUTDOWN = 0x0100, LOCK_04 = 0x0080, LOCK_02_03 = 0x0040 };
-enum { ABOVE_CRITICAL = 0x8000, ABOVE_HIGH = 0x4000, BELOW_LOW = 0x2000 };
-
 static int write_configuration(int old, int value)
 {
     int locks = (old | value) & (LOCK_04 | LOCK_02_03);  /* a set lock holds */
@@ -324,6 +380,7 @@ static void write_register(struct slot *s, int value)
     switch (s->pointer) {
     case 1:
         s->reg[1] = write_configuration(configuration, value);
+        drop_pending(s, value);
         break;
     case 2:
     case 3:
@@ -365,7 +422,7 @@ static int nearest(int given, int step)
 
 /* The flags are judged by t, the rounded number; limits, with and without
  * hysteresis, are taken as they are. */
-static void temperature(struct slot *s, int given)
+static void convert(struct slot *s, int given)
 {
     static const int step_of[4] = { 8, 4, 2, 1 };
     static const int hysteresis_of[4] = { 0, 24, 48, 96 };
@@ -397,6 +454,19 @@ static void temperature(struct slot *s, int given)
         flags &= ~BELOW_LOW;
 
     s->reg[5] = flags | ((t + 0x2000) & 0x1FFF);
+}
+
+/* A conversion after which the high or the low flag is not what it was before
+ * is a change, and pends where one can (request P8). */
+static void temperature(struct slot *s, int given)
+{
+    int before = s->reg[5];
+    int changed;
+
+    convert(s, given);
+    changed = (s->reg[5] ^ before) & (ABOVE_HIGH | BELOW_LOW);
+    if (changed && can_pend(s->reg[1]))
+        s->pending = 1;           /* until it is cleared, or dropped */
 }
 
 /* ---- Events on one slot ------------------------------------------------- */

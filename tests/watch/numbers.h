@@ -1,8 +1,9 @@
 /*
- * The 57 numbers of a slot, by their names and in the order of its line, as
- * `watch` tells them; taken from the second opinion's own fields.  Included by
- * rewatch.c and watcher.c.  The file planted.txt replaces single lines of it:
- * keep the two in step.
+ * The numbers of a slot, by their names and in the order of its line, as `watch`
+ * tells them: 57, and of a slot with a sensor the three of its pin behind them.
+ * Taken from the second opinion's own fields.  Included by rewatch.c and
+ * watcher.c.  The file planted.txt replaces single lines of it: keep the two in
+ * step.
  *
  * Of most of them the second opinion has a field.  It has none of these, and
  * they follow from what it has:
@@ -18,6 +19,8 @@
  *               holds 0, is held here.
  *   word        the first byte of a sensor write, high, or both of a read, in
  *               their phases, else 0 (docs/DECISIONS.md, 8)
+ *   level       high or low by bit 1 of the configuration, and the other where
+ *               the pin is not asserted (request P8)
  */
 #ifndef NUMBERS_H
 #define NUMBERS_H
@@ -31,6 +34,7 @@ enum {
     AT_MARK = AT_LATCH + PAGE,
     AT_POINTER = AT_MARK + PAGE,
     AT_CONFIGURATION, AT_HIGH, AT_LOW, AT_CRITICAL, AT_TEMPERATURE, AT_RESOLUTION, AT_TIMEOUT, AT_WORD,
+    AT_ASSERTED, AT_LEVEL, AT_PENDING,  /* of a sensor alone */
     NUMBERS
 };
 
@@ -42,7 +46,11 @@ static const char *const name_of[NUMBERS] = {
     "mark0", "mark1", "mark2", "mark3", "mark4", "mark5", "mark6", "mark7",
     "mark8", "mark9", "mark10", "mark11", "mark12", "mark13", "mark14", "mark15",
     "pointer", "configuration", "high", "low", "critical", "temperature", "resolution", "timeout", "word",
+    "asserted", "level", "pending",
 };
+
+/* How many of them a slot of this kind has. */
+static int numbers_in(int kind) { return kind == MEMORY_WITH_SENSOR ? NUMBERS : AT_ASSERTED; }
 
 static int phase_of(const struct slot *s)
 {
@@ -92,6 +100,16 @@ static int word_of(const struct slot *s)
     return s->doing == SENSOR_READ_1 || s->doing == SENSOR_READ_2 ? s->fixed : 0;
 }
 
+/* Whether the pin is high.  A released one is what an asserted one is not, while
+ * it is disabled too. */
+static int level_of(const struct slot *s)
+{
+    int active_high = (s->reg[1] & ACTIVE_HIGH) != 0;
+
+    return is_asserted(s) ? active_high : !active_high;
+}
+
+/* Those that the slot does not have are 0. */
 static void numbers_of(const struct slot *s, long to[NUMBERS])
 {
     static const int registers[] = { 1, 2, 3, 4, 5, 8, 9 };
@@ -116,6 +134,13 @@ static void numbers_of(const struct slot *s, long to[NUMBERS])
     for (int i = 0; i < 7; i++)
         to[AT_CONFIGURATION + i] = s->reg[registers[i]];
     to[AT_WORD] = word_of(s);
+    for (int i = AT_ASSERTED; i < NUMBERS; i++)
+        to[i] = 0;
+    if (s->kind != MEMORY_WITH_SENSOR)
+        return;
+    to[AT_ASSERTED] = is_asserted(s);
+    to[AT_LEVEL] = level_of(s);
+    to[AT_PENDING] = s->pending;
 }
 
 #endif

@@ -11,10 +11,11 @@
  *       every length.
  *
  * What is read: the script's lines, and between them lines of slots.  Those of a
- * record are in ascending order, of present slots, each with all names in their
- * order and plain decimal numbers in their ranges, and not the slot's last line
- * again; and behind every record the last line of each present slot says what
- * the second opinion has there.  So a line that is missing is found too.
+ * record are in ascending order, of present slots, each with all names of its
+ * kind in their order and plain decimal numbers in their ranges, and not the
+ * slot's last line again; and behind every record the last line of each present
+ * slot says what the second opinion has there.  So a line that is missing is
+ * found too.
  *
  * A fault is told in a sentence, with the number of the event, and status 1;
  * DIR/input, DIR/said and DIR/told are what the program was given and what it
@@ -46,7 +47,7 @@ static int is_in_range(int at, long value, long slot_length)
     case AT_KIND: return within_ends(value, MEMORY, MEMORY_WITH_SENSOR);
     case AT_LENGTH: return within_ends(value, 1, 5);
     case AT_LEFT: return within_ends(value, 0, slot_length);
-    case AT_HALF: case AT_VOLTAGE: return within_ends(value, 0, 1);
+    case AT_HALF: case AT_VOLTAGE: case AT_ASSERTED: case AT_LEVEL: case AT_PENDING: return within_ends(value, 0, 1);
     case AT_COUNTER: return within_ends(value, 0, 255);
     case AT_PLACE: return within_ends(value, 0, 15);
     case AT_PHASE: return within_ends(value, 0, 14);
@@ -114,7 +115,8 @@ static long read_number(int n, const char *name)
 /* The numbers of a slot's line, of which the slot is read. */
 static void read_numbers(int n, long to[NUMBERS])
 {
-    for (int i = 0; i < NUMBERS; i++) {
+    memset(to, 0, NUMBERS * sizeof to[0]);
+    for (int i = 0; i < numbers_in(bus[n].kind); i++) {
         if (!comes(" ") || !comes(name_of[i]) || !comes("="))
             WRONG("%s, slot %d: \"%s=\" was to come, not \"%.*s\"", where, n, name_of[i], rest_of_line(), at);
         to[i] = read_number(n, name_of[i]);
@@ -230,7 +232,7 @@ static size_t bytes_of_changes(long before[SLOTS][NUMBERS])
             continue;
         memcpy(before[n], is, sizeof is);
         many += strlen("0\n");
-        for (int i = 0; i < NUMBERS; i++)
+        for (int i = 0; i < numbers_in(bus[n].kind); i++)
             many += (size_t)snprintf(NULL, 0, " %s=%ld", name_of[i], is[i]);
     }
     return many;
