@@ -13,7 +13,8 @@ use Rattle.script_turns.specs.Frame.{badSetupLine}
 use Rattle.script_turns.specs.Script.{begunAt}
 use Rattle.watch_streams.specs.Texts.{watchedText}
 
--- all that the program writes, for all that it reads: from the bench that the setup makes; a cut setup and a bad one are told as the script tells them
+-- all that the program writes, for all that it reads: from the bench that the setup makes on; a cut setup and a bad one are told as the script tells
+-- them
 unfoldable pub watchOf : List ℕ → List ℕ
 watchOf bs =
     cond (ltb (length bs) 16) shortLine

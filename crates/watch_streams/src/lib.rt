@@ -1,5 +1,5 @@
-// A bench watched, for the programs `watch` and `show`: all its slots are told, and then record by record the script's line and each slot whose numbers
-// changed. What a record puts is said and proved here, and what a slot's line is in `watch_text`.
+// A bench watched, for the programs `watch` and `show`: all its slots are told, and then record by record the script's line and each slot whose
+// numbers changed. What a record puts is said and proved here, and what a slot's line is in `watch_text`.
 ghost use mathlib.Core.Path.{_≡_};
 ghost use mathlib.Core.Bool.{true};
 ghost use Prim.Native.Nat.{_≤_};
