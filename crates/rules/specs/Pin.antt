@@ -1,5 +1,5 @@
--- Request P8, "The EVENT pin": when it is asserted, its level, a change that is pending, and what registers 01h and 05h have to do with it. "New part,
--- for kind 2 slots": a slot of another kind has none, and in it nothing is ever pending.
+-- Request P8, "The EVENT pin": when it is asserted, its level, a change that is pending, and what registers 01h and 05h have to do with it. "New
+-- part, for kind 2 slots": a slot of another kind has none, and in it nothing is ever pending.
 -- Assumes nothing.
 use Prim.Native.Nat.{ℕ, _/_, _%_}
 use mathlib.Core.Bool.{Bool, not, cond, _&&_, _||_}
