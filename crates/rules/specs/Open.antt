@@ -70,8 +70,8 @@ open-refusals = tt
 -- everything: a run on known values computes
 unfoldable pub open-all : Unit {0}
 unfolding open-fields open-memory open-power open-sensor open-pin open-control open-slot open-refusals Each.mapFrom Each.anyFrom Each.allOf
-    Each.firstFrom Parts.part Parts.eachPart Modelled.absent Modelled.sensing Modelled.addressOf Modelled.blockOf Modelled.pageOf Events.isOne Events.actOf
-    Fresh.freshSensor Fresh.freshSlot Fresh.setupSlot Fresh.absentSlot Fresh.powered Memory.guarded Memory.anyMark Memory.putUpTo Memory.stored
-    Memory.tickedPart Bus.busNext Bus.memoryNext Bus.anyAck Bus.readByte Bus.shownFor Bus.shown Runs.taken Runs.given Runs.rulingOn Runs.ruledNext
-    Runs.ruledAnswer Runs.next Runs.answered Runs.after Runs.answers Looked.noPin Looked.lookOf
+    Each.firstFrom Parts.part Parts.eachPart Modelled.absent Modelled.sensing Modelled.addressOf Modelled.blockOf Modelled.pageOf Events.isOne
+    Events.actOf Fresh.freshSensor Fresh.freshSlot Fresh.setupSlot Fresh.absentSlot Fresh.powered Memory.guarded Memory.anyMark Memory.putUpTo
+    Memory.stored Memory.tickedPart Bus.busNext Bus.memoryNext Bus.anyAck Bus.readByte Bus.shownFor Bus.shown Runs.taken Runs.given Runs.rulingOn
+    Runs.ruledNext Runs.ruledAnswer Runs.next Runs.answered Runs.after Runs.answers Looked.noPin Looked.lookOf
 open-all = tt

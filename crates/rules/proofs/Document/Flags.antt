@@ -17,7 +17,7 @@ use Rattle.rules.specs.declared.Slot.{Slot}
 use Rattle.rules.specs.declared.SlotNo.{SlotNo}
 use Rattle.rules.specs.Modelled.{absent, sensing, addressOf}
 use Rattle.rules.specs.Fields.{withSensor}
-use Rattle.rules.specs.Sensor.{signedOf, hysteresisOf, loweredOf, flagOf, criticalFlag, highFlag, lowFlag, converted}
+use Rattle.rules.specs.Sensor.{signedOf, hysteresisOf, loweredOf, flagOf, criticalFlag, highFlag, lowFlag}
 use Rattle.rules.specs.Pin.{convertedWithPin}
 use Rattle.rules.specs.Slot.{standing, drivenIn, presentNext, slotNext, driven}
 use Rattle.rules.proofs.Registers.Signed.{natural, less, le-to, le-from, lt-to, lt-from, holds, fails}

@@ -1,8 +1,8 @@
 -- Request P8, the entry `pin`: rows 6 and 3, by their numbers, and what is shown of a slot that has a pin.
 -- Assumes nothing.
 use Prim.Native.Nat.{ℕ, _<_, _≤_}
-use mathlib.Core.Path.{_≡_, refl, sym, _∙_, ap}
-use mathlib.Core.Bool.{Bool, true, false, false≢true, not, cond}
+use mathlib.Core.Path.{_≡_, sym, _∙_, ap}
+use mathlib.Core.Bool.{true, false, false≢true, not, cond}
 use mathlib.Core.List.{List, map}
 use lib.Dec.{eqb, ltb}
 use lib.ListN.{length, getD, length-map, List·getD-map, List·getD-eq-default}

@@ -1,8 +1,8 @@
 -- Request P8 held against the law: its sentences as tables, over every configuration and every set of flags. Each theorem of the tables computes.
 -- Assumes nothing.
-use Prim.Native.Nat.{ℕ, _/_, _%_}
+use Prim.Native.Nat.{ℕ}
 use mathlib.Core.Path.{_≡_, refl}
-use mathlib.Core.Bool.{Bool, true, false, not, cond, _&&_, _||_}
+use mathlib.Core.Bool.{Bool, true, false, _&&_, _||_}
 use mathlib.Core.List.{List, [], _∷_, _++_, map}
 use lib.IntN.{ℤ, pos}
 use lib.ListN.{replicate}
@@ -10,7 +10,7 @@ use Rattle.rules.specs.declared.Sensor.{Sensor}
 use Rattle.rules.specs.Fields.{withConfiguration, withHigh, withLow, withCritical, withTemperature, withPending}
 use Rattle.rules.specs.Fresh.{freshSensor}
 use Rattle.rules.specs.Open.{open-all}
-use Rattle.rules.specs.Pin.{pinEnabled, criticalAlone, activeHigh, interrupting, criticalSet, flagCounts, asserted, levelOf, canPend, changes, clearing, convertedWithPin, writtenWithPin, readOf}
+use Rattle.rules.specs.Pin.{pinEnabled, interrupting, criticalSet, flagCounts, asserted, levelOf, canPend, changes, convertedWithPin, writtenWithPin, readOf}
 use Rattle.rules.specs.Sensor.{written, converted}
 
 -- a sensor with a configuration, flags, and a change pending or not

@@ -2,7 +2,7 @@
 -- Assumes nothing.
 use Prim.Native.Nat.{ℕ}
 use mathlib.Core.Path.{_≡_, refl, sym, _∙_}
-use mathlib.Core.Bool.{Bool, true, false, false≢true, not, cond, _&&_, _||_}
+use mathlib.Core.Bool.{Bool, true, false, false≢true, not, cond, _&&_}
 use lib.Dec.{eqb}
 use lib.IntN.{ℤ}
 use Rattle.proof_lists.specs.Tests.{cond-cases, by-test, and-left, and-right, or-cases}

@@ -1,13 +1,13 @@
 -- Bits 4 and 5 of register 01h, as they are read: bit 4 over the bus is the pin as it stood at the control byte, whatever temperatures come between the
 -- reads of the two bytes.
 -- Assumes nothing.
-use Prim.Native.Nat.{ℕ, _/_, _%_, _^_, min, max}
+use Prim.Native.Nat.{ℕ, _/_, _%_, _^_}
 use native.Mathlib.Omega.{arith}
-use mathlib.Core.Path.{_≡_, refl, sym, _∙_, ap}
-use mathlib.Core.Bool.{Bool, true, false, not, cond, _&&_, and-false}
+use mathlib.Core.Path.{_≡_, refl, _∙_, ap}
+use mathlib.Core.Bool.{true, cond, and-false}
 use mathlib.Core.List.{List, [], _∷_}
 use borrow.Author.Tests.{eqb-true}
-use lib.Bits.{bitAnd, bitOr}
+use lib.Bits.{bitAnd}
 use lib.Dec.{eqb}
 use lib.IntN.{ℤ}
 use Rattle.proof_lists.specs.Tests.{cond-cases, by-test, and-right}
@@ -19,7 +19,7 @@ use Rattle.rules.specs.declared.Sensor.{Sensor}
 use Rattle.rules.specs.declared.Slot.{Slot}
 use Rattle.rules.specs.declared.SlotNo.{SlotNo}
 use Rattle.rules.specs.Control.{heardOf, acksHeard, acksControl, obeyed, controlled}
-use Rattle.rules.specs.Modelled.{absent, sensing}
+use Rattle.rules.specs.Modelled.{sensing}
 use Rattle.rules.specs.Open.{open-fields}
 use Rattle.rules.specs.Pin.{asserted, readOf}
 use Rattle.rules.specs.Refusals.{keptIn}

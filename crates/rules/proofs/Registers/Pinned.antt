@@ -7,11 +7,9 @@ use mathlib.Core.Path.{_≡_, refl, sym, _∙_, ap}
 use mathlib.Core.Bool.{Bool, true, false, false≢true, not, cond, _&&_, _||_, and-false, or-true}
 use mathlib.Core.List.{List, [], _∷_, _++_}
 use mathlib.Core.Logic.{_⊎_, inl, inr, ⊎-elim}
-use borrow.Author.Tests.{eqb-true, eq-eqb}
-use lib.Bits.{bitAnd}
+use borrow.Author.Tests.{eqb-true}
 use lib.Dec.{eqb, leb}
-use lib.IntN.{ℤ}
-use Rattle.proof_lists.specs.Tests.{cond-cases, by-test, and-left, and-right, both, or-cases}
+use Rattle.proof_lists.specs.Tests.{cond-cases, and-left, and-right, both, or-cases}
 use Rattle.rules.specs.declared.Act.{Act}
 use Rattle.rules.specs.declared.Act.the-variants.{Start, Byte, Read, Stop, Timeout, Tick, Voltage, Power, Temperature}
 use Rattle.rules.specs.declared.Cut.{Cut}
@@ -35,7 +33,7 @@ use Rattle.rules.specs.Slot.{standing, commanding, letGo, lost, byteIn, 
 use Rattle.rules.proofs.Registers.Locks.{locked, configured-keeps}
 use Rattle.rules.proofs.Registers.Masks.{same-bit}
 use Rattle.rules.proofs.Registers.Pending.{Can, fresh-can, written-can, converted-can}
-use Rattle.rules.proofs.Registers.SensorSteps.{Respected, isPower, isHeat, step-respects}
+use Rattle.rules.proofs.Registers.SensorSteps.{Respected, step-respects}
 use Rattle.rules.proofs.Run.Cases.{next-cases, absent-plain, absent-stands, let-go-cases}
 use Rattle.rules.proofs.Run.Joined.{slots-joined}
 

@@ -1,42 +1,32 @@
 -- Two more things that hold of every slot after any run from setup: its protection speaks of four blocks, and without a sensor its registers are fresh.
 -- Every act keeps both.
 -- Assumes nothing.
-use Prim.Native.Nat.{ℕ, suc, _≤_, _<_}
-use native.Mathlib.Omega.{arith}
-use native.Mathlib.Nat.{zero-add, le-antisymm}
-use mathlib.Core.Path.{_≡_, refl, sym, _∙_, ap, subst}
+use Prim.Native.Nat.{ℕ}
+use mathlib.Core.Path.{_≡_, refl, sym, _∙_, ap}
 use mathlib.Core.Bool.{Bool, true, false, false≢true, not, _&&_, _||_}
-use mathlib.Core.List.{List, [], _∷_}
-use lib.Dec.{eqb, ltb}
-use lib.ListN.{length, getD, length-set, List·getD-map}
-use borrow.Author.Tests.{not-false, eqb-true, eqb-false, eq-eqb, ltb-false}
-use Rattle.proof_lists.specs.Alike.{every-from}
-use Rattle.proof_lists.specs.Each.{Every, every-at, mapFrom, length-mapFrom, mapFrom-at}
-use Rattle.proof_lists.specs.Tests.{cond-cases, by-test, and-right, or-left-false, or-right-false}
+use mathlib.Core.List.{List}
+use lib.Dec.{eqb}
+use lib.ListN.{length, length-set}
+use Rattle.proof_lists.specs.Each.{Every}
+use Rattle.proof_lists.specs.Tests.{cond-cases, by-test, and-right, or-right-false}
 use Rattle.rules.specs.declared.Act.{Act}
 use Rattle.rules.specs.declared.Act.the-variants.{Start, Byte, Read, Stop, Timeout, Tick, Voltage, Power, Temperature}
-use Rattle.rules.specs.declared.Bus.{Bus}
 use Rattle.rules.specs.declared.Event.{Event}
 use Rattle.rules.specs.declared.Heard.{Heard}
 use Rattle.rules.specs.declared.Heard.the-variants as heard
 use Rattle.rules.specs.declared.Pair.{Pair}
 use Rattle.rules.specs.declared.Phase.{Phase}
 use Rattle.rules.specs.declared.Phase.the-variants.{Idle, Control, Deaf, MemoryCounter, MemoryData, MemoryRead, HalfSelected, CommandAddress, CommandData, CommandStop, SensorPointer, SensorHigh, SensorLow, SensorReadHigh, SensorReadLow}
-use Rattle.rules.specs.declared.Ruling.{Ruling}
-use Rattle.rules.specs.declared.Ruling.the-variants.{Taken, Refused}
 use Rattle.rules.specs.declared.Slot.{Slot}
 use Rattle.rules.specs.Modelled.{absent, sensing}
 use Rattle.rules.specs.Open.{open-fields, open-memory}
-use Rattle.rules.specs.Events.{actOf}
 use Rattle.rules.specs.Fresh.{freshSensor, freshSlot, setupSlot, absentSlot, powered}
 use Rattle.rules.specs.Control.{heardOf, acksHeard, acksControl, obeyed, controlled}
 use Rattle.rules.specs.Memory.{guarded, anyMark}
 use Rattle.rules.specs.Power.{powerCut}
 use Rattle.rules.specs.Slot.{withSensorIn, commanding, taking, standing, letGo, lost, byteIn, readIn, stopIn, switched, heated, presentNext, slotNext}
-use Rattle.rules.specs.Bus.{busNext}
-use Rattle.rules.specs.Refusals.{unknownKind, kindsOf, kindAt, wrongSlot, setupOf}
-use Rattle.rules.specs.Runs.{Bench, taken, rulingOn, ruledNext, next, after}
-use Rattle.rules.proofs.Range.Judged.{Judged, no-row, judged}
+use Rattle.rules.specs.Refusals.{setupOf}
+use Rattle.rules.specs.Runs.{after}
 use Rattle.rules.proofs.Memory.Protection.{Decided, asBefore, asStands, byProtect, byClear, protection-next, coming-next, kind-next}
 use Rattle.rules.proofs.Memory.Stored.{finishes}
 use Rattle.rules.proofs.Run.Cases.{next-cases}

@@ -1,8 +1,6 @@
 -- The conversion, and what it leaves pending.
 -- Assumes nothing.
 use borrow.Author.Needs.{needs}
-use lib.IntN.{ℤ}
-use mathlib.Core.Path.{ap}
 use Rattle.rules.specs.Fields.{withPending}
 use Rattle.rules.specs.Pin.{convertedWithPin}
 use Rattle.rules.specs.Sensor.{converted}
