@@ -10,3 +10,4 @@ pub mod Locks
 pub mod SensorKept
 pub mod Pinned
 pub mod PinRead
+pub mod FlagsSet

@@ -1,8 +1,8 @@
 -- Request P8 held against the law: its sentences as tables, over every configuration and every set of flags. Each theorem of the tables computes.
 -- Assumes nothing.
-use Prim.Native.Nat.{ℕ}
+use Prim.Native.Nat.{ℕ, _-_}
 use mathlib.Core.Path.{_≡_, refl}
-use mathlib.Core.Bool.{Bool, true, false, _&&_, _||_}
+use mathlib.Core.Bool.{Bool, true, false, not, _&&_, _||_}
 use mathlib.Core.List.{List, [], _∷_, _++_, map}
 use lib.IntN.{ℤ, pos}
 use lib.ListN.{replicate}
@@ -10,7 +10,7 @@ use Rattle.rules.specs.declared.Sensor.{Sensor}
 use Rattle.rules.specs.Fields.{withConfiguration, withHigh, withLow, withCritical, withTemperature, withPending}
 use Rattle.rules.specs.Fresh.{freshSensor}
 use Rattle.rules.specs.Open.{open-all}
-use Rattle.rules.specs.Pin.{pinEnabled, interrupting, criticalSet, flagCounts, asserted, levelOf, canPend, changes, convertedWithPin, writtenWithPin, readOf}
+use Rattle.rules.specs.Pin.{pinEnabled, criticalAlone, activeHigh, interrupting, criticalSet, highSet, lowSet, flagCounts, asserted, levelOf, canPend, changes, clearing, convertedWithPin, writtenWithPin, readOf}
 use Rattle.rules.specs.Sensor.{written, converted}
 
 -- a sensor with a configuration, flags, and a change pending or not
@@ -32,6 +32,24 @@ anyFlag = false ∷ replicate 7 true
 
 abbrev criticalOnly : List Bool
 criticalOnly = replicate 4 false ++ replicate 4 true
+
+-- which bit each of these looks at, and at no other: with one bit set, and with one bit clear
+abbrev bits : List ℕ
+bits = 0x0001 ∷ 0x0002 ∷ 0x0004 ∷ 0x0008 ∷ 0x0010 ∷ 0x0020 ∷ 0x0040 ∷ 0x0080 ∷ 0x0100 ∷ 0x0200 ∷ 0x0400 ∷ 0x0800 ∷ 0x1000 ∷ 0x2000 ∷ 0x4000 ∷ 0x8000 ∷ []
+
+abbrev tests : List (ℕ → Bool)
+tests = interrupting ∷ activeHigh ∷ criticalAlone ∷ pinEnabled ∷ clearing ∷ lowSet ∷ highSet ∷ criticalSet ∷ []
+
+abbrev only : Bool → ℕ → List Bool
+only b n = replicate n (not b) ++ b ∷ replicate (15 - n) (not b)
+
+pub one-bit-set : map (λ (f : ℕ → Bool). map f bits) tests ≡ map (only true) (0 ∷ 1 ∷ 2 ∷ 3 ∷ 5 ∷ 13 ∷ 14 ∷ 15 ∷ [])
+unfolding open-all
+one-bit-set = refl
+
+pub one-bit-clear : map (λ (f : ℕ → Bool). map (λ n. f (0xFFFF - n)) bits) tests ≡ map (only false) (0 ∷ 1 ∷ 2 ∷ 3 ∷ 5 ∷ 13 ∷ 14 ∷ 15 ∷ [])
+unfolding open-all
+one-bit-clear = refl
 
 -- "Configuration bit 3 enables the pin, bit 2 limits it to the critical flag, [..] bit 0 at 1 selects interrupt mode. Comparator mode: asserted while
 -- a flag that counts is set. [..] the critical flag keeps comparator behaviour": with nothing pending
