@@ -26,7 +26,7 @@ use Rattle.save_rules.specs.Open.{open-saved}
 
 -- slot 0: length 3, half 1, counter 80h, block 1 protected, high voltage off; slot 2: length 5, blocks 0 and 2 protected, high voltage on
 abbrev registers : Sensor
-registers = record { pointer = 5; configuration = 0x0241; high = 0x0500; low = 0x0104; critical = 0x0640; temperature = 0xC190; resolution = 3; timeout = 1; word = 0 }
+registers = record { pointer = 5; configuration = 0x0241; high = 0x0500; low = 0x0104; critical = 0x0640; temperature = 0xC190; resolution = 3; timeout = 1; word = 0; pending = false }
 
 abbrev memoryOne : Slot
 memoryOne = atRest 1 3 1 0x80 (false ∷ true ∷ false ∷ false ∷ []) false freshSensor
