@@ -272,8 +272,8 @@ module _ (f n : List ℕ) (accepts : accepted f n ≡ true) (sized : length n �
     five-low = λ e. in-form (begins 4 slots + 2) ∙ low-at slots bytes long 4 (omega arith) (there-in 4 (omega arith) e) ∙ number ∙ sensors-offset slotCount slots;
     pending = λ e. pending-in (there-in 4 (omega arith) e);
     can-pend = λ e k h a i.
-    let p : (slotIn f k) .sensor .pending ≡ true = one-on _ (sym (pending-in (there-in 4 (omega arith) e) k h a) ∙ i) in
-    ap canPend (configuration-in k h a) ∙ ranges k h .pins .can p;
+        let p : (slotIn f k) .sensor .pending ≡ true = one-on _ (sym (pending-in (there-in 4 (omega arith) e) k h a) ∙ i) in
+        ap canPend (configuration-in k h a) ∙ ranges k h .pins .can p;
     ranged = accepted-in-range f n accepts;
   }
 
@@ -352,8 +352,8 @@ module _ (f g n : List ℕ) (one : accepted f n ≡ true) (other : accepted (f +
         below = h;
         has = i;
         lacks = λ u l m. by-test (isThere u fs)
-        (λ j. absurd (omega (arith, within u m j, begins-up fs t u l)))
-        (λ j. j);
+            (λ j. absurd (omega (arith, within u m j, begins-up fs t u l)))
+            (λ j. j);
         ends = sym at ∙ next-begins t a;
       }
 
@@ -397,10 +397,10 @@ module _ (f g n : List ℕ) (one : accepted f n ≡ true) (other : accepted (f +
       let l : length f ≡ length (formTo 4 gs ms) = x .ends ∙ ap (λ (t : ℕ). begins t gs) r ∙ sym (length-form gs ms long 4) in
       record {
         tail =
-        sym (drop-append-seam f g)
-        ∙ ap₂ drop l (sym (written-again (f ++ g) n other))
-        ∙ drop-append-seam (formTo 4 gs ms) (fieldBytes 4 gs ms)
-        ∙ field-there gs ms long 4 there;
+            sym (drop-append-seam f g)
+            ∙ ap₂ drop l (sym (written-again (f ++ g) n other))
+            ∙ drop-append-seam (formTo 4 gs ms) (fieldBytes 4 gs ms)
+            ∙ field-there gs ms long 4 there;
         none = none-pends f n one sized (x .lacks 4 (omega arith) (omega arith));
       }
 
