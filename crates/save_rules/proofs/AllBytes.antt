@@ -2,7 +2,7 @@
 -- as P5 has it, and P8's field 5 with three sensors; and the longest form.
 -- Assumes nothing.
 use Prim.Native.Nat.{ℕ, _+_, _/_, _%_}
-use mathlib.Core.Path.{_≡_, refl, sym, _∙_, ap}
+use mathlib.Core.Path.{_≡_, refl}
 use mathlib.Core.Bool.{Bool, true, false}
 use mathlib.Core.List.{List, [], _∷_, map, _++_}
 use lib.ListN.{length, take, set, replicate}
@@ -23,9 +23,7 @@ use Rattle.save_rules.specs.declared.Saved.the-variants.{Form, Refused}
 use Rattle.save_rules.specs.Form.{formOf}
 use Rattle.save_rules.specs.Saving.{saveOf, savedNumber, savedValue}
 use Rattle.save_rules.specs.Reading.{busIn, memoryIn, accepted, restoreOf}
-use Rattle.save_rules.specs.Rested.{Typed}
 use Rattle.save_rules.specs.Open.{open-saved}
-use Rattle.save_rules.proofs.Back.{reads-back}
 
 -- slot 0: length 3, half 1, counter 80h, block 1 protected, high voltage off; slot 2: length 5, blocks 0 and 2 protected, high voltage on
 abbrev registers : Sensor
@@ -38,7 +36,7 @@ abbrev sampleBus : Bus
 sampleBus = record { slots = memoryOne ∷ absentSlot ∷ atRest 2 5 0 0x07 (true ∷ false ∷ true ∷ false ∷ []) true registers ∷ replicate 5 absentSlot }
 
 -- memory: A0h, A1h, A2h in slots 0, 1 and 2
-abbrev sampleMemory : List ℕ
+abbrev pub sampleMemory : List ℕ
 sampleMemory = replicate 512 0xA0 ++ replicate 512 0xA1 ++ replicate 512 0xA2 ++ replicate 2560 0xFF
 
 abbrev pub sampleForm : List ℕ
@@ -70,44 +68,29 @@ sample = record { form = refl; saved = refl; accepts = refl; bus = refl; memory 
 abbrev sensing : Bool → Slot
 sensing on = atRest 2 5 0 0x07 (true ∷ false ∷ true ∷ false ∷ []) true (withPending on (withConfiguration 0x0249 registers))
 
-abbrev threeBus : Bool → Bool → Bool → Bus
+abbrev pub threeBus : Bool → Bool → Bool → Bus
 threeBus p q r = record { slots = memoryOne ∷ absentSlot ∷ sensing p ∷ absentSlot ∷ absentSlot ∷ sensing q ∷ absentSlot ∷ sensing r ∷ [] }
 
 abbrev ofThree : List ℕ → List ℕ
 ofThree bs = bs ++ bs ++ bs
 
-abbrev earlierForm : List ℕ
-earlierForm =
+abbrev pub threeForm : List ℕ
+threeForm =
     (0x01 ∷ 0x00 ∷ 0x10 ∷ 1 ∷ 3 ∷ 0 ∷ 0 ∷ 2 ∷ 5 ∷ 0 ∷ 0 ∷ 0 ∷ 0 ∷ 2 ∷ 5 ∷ 0 ∷ 0 ∷ 2 ∷ 5 ∷ [])
     ++ (0x02 ∷ 0x08 ∷ 0x00 ∷ []) ++ replicate 512 0xA0 ++ replicate 512 0xA2 ++ replicate 1024 0xFF
     ++ (0x03 ∷ 0x00 ∷ 0x10 ∷ 0x02 ∷ 1 ∷ 0x80 ∷ 0 ∷ []) ++ ofThree (0x05 ∷ 0 ∷ 0x07 ∷ 1 ∷ [])
     ++ (0x04 ∷ 0x00 ∷ 0x2D ∷ []) ++ ofThree (0x05 ∷ 0x02 ∷ 0x49 ∷ 0x05 ∷ 0x00 ∷ 0x01 ∷ 0x04 ∷ 0x06 ∷ 0x40 ∷ 0xC1 ∷ 0x90 ∷ 0x00 ∷ 0x03 ∷ 0x00 ∷ 0x01 ∷ [])
 
 pub record Three : Type 0 where
-  pub before : formOf (threeBus false false false) sampleMemory ≡ earlierForm
-  pub form : formOf (threeBus true false true) sampleMemory ≡ earlierForm ++ 0x05 ∷ 0x00 ∷ 0x03 ∷ 1 ∷ 0 ∷ 1 ∷ []
-  pub bus-before : busIn earlierForm ≡ threeBus false false false
-  pub bus : busIn (earlierForm ++ 0x05 ∷ 0x00 ∷ 0x03 ∷ 1 ∷ 0 ∷ 1 ∷ []) ≡ threeBus true false true
-  pub other : busIn (earlierForm ++ 0x05 ∷ 0x00 ∷ 0x03 ∷ 0 ∷ 1 ∷ 0 ∷ []) ≡ threeBus false true false
+  pub before : formOf (threeBus false false false) sampleMemory ≡ threeForm
+  pub form : formOf (threeBus true false true) sampleMemory ≡ threeForm ++ 0x05 ∷ 0x00 ∷ 0x03 ∷ 1 ∷ 0 ∷ 1 ∷ []
+  pub bus-before : busIn threeForm ≡ threeBus false false false
+  pub bus : busIn (threeForm ++ 0x05 ∷ 0x00 ∷ 0x03 ∷ 1 ∷ 0 ∷ 1 ∷ []) ≡ threeBus true false true
+  pub other : busIn (threeForm ++ 0x05 ∷ 0x00 ∷ 0x03 ∷ 0 ∷ 1 ∷ 0 ∷ []) ≡ threeBus false true false
 
 pub three : Three
 unfolding open-saved
 three = record { before = refl; form = refl; bus-before = refl; bus = refl; other = refl }
-
--- what the writer gives is accepted: by what is proved of every bench, since to compute it here takes long
-three-typed : (p q r : Bool) → Typed (threeBus p q r)
-unfolding open-saved
-three-typed p q r = record { slots = refl; blocks = (refl, (refl, (refl, (refl, (refl, (refl, (refl, (refl, tt)))))))) }
-
-pub three-before : accepted earlierForm blank ≡ true
-three-before =
-    ap (λ (f : List ℕ). accepted f blank) (sym (three .before))
-    ∙ reads-back (threeBus false false false) sampleMemory blank (three-typed false false false) (unfold open-saved in refl) refl refl .accepts
-
-pub three-accepted : accepted (earlierForm ++ 0x05 ∷ 0x00 ∷ 0x03 ∷ 1 ∷ 0 ∷ 1 ∷ []) blank ≡ true
-three-accepted =
-    ap (λ (f : List ℕ). accepted f blank) (sym (three .form))
-    ∙ reads-back (threeBus true false true) sampleMemory blank (three-typed true false true) (unfold open-saved in refl) refl refl .accepts
 
 -- Saving refused: slot 1, which is present, in a write cycle or in an exchange; with these a wrong memory and a number out of range come first; and a buffer
 -- that is one byte short comes last. An absent slot may be in any phase.

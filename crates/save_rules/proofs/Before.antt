@@ -5,7 +5,7 @@ use Prim.Native.Nat.{ℕ, zero, suc, _≤_, _<_}
 use native.Mathlib.Omega.{arith}
 use mathlib.Core.Path.{_≡_, refl, sym, _∙_, ap, ap₂}
 use mathlib.Core.Bool.{Bool, true, false, _&&_, and-false}
-use mathlib.Core.List.{List, [], _++_, append-nil}
+use mathlib.Core.List.{List, [], _∷_, _++_, append-nil}
 use lib.ListN.{length, getD}
 use Rattle.proof_lists.specs.Parts.{part}
 use Rattle.rules.specs.declared.Bus.{Bus}
@@ -16,6 +16,8 @@ use Rattle.rules.specs.Refusals.{inRange}
 use Rattle.save_rules.specs.Form.{pendingField, fields, fieldCount, fixedCount, fieldAt, wholeField, isThere, fieldBytes, formTo, formOf}
 use Rattle.save_rules.specs.Reading.{busIn, memoryIn, restored, accepted}
 use Rattle.save_rules.specs.Rested.{restedBus, Typed}
+use Rattle.save_rules.specs.Open.{open-saved}
+use Rattle.save_rules.proofs.AllBytes.{threeBus, threeForm, three, sampleMemory, blank}
 use Rattle.save_rules.proofs.Places.{fixed-there, not-there, field-there, field-none}
 use Rattle.save_rules.proofs.Back.{ReadsBack, reads-back}
 use Rattle.save_rules.proofs.Once.{written-again, length-restored}
@@ -81,3 +83,18 @@ module _ (b : Bus) (m : List ℕ) (sized : length m ≡ memoryBytes) where
 -- And every form that is accepted and restores to a bench in which nothing is pending is one from before.
 pub was-before : (f n : List ℕ) → accepted f n ≡ true → length n ≡ memoryBytes → NonePending (busIn f) → earlierForm (busIn f) (memoryIn f n) ≡ f
 was-before f n a l h = sym (same-as-before (busIn f) (memoryIn f n) (length-restored f n a l) h) ∙ (unfold restored in written-again f n a)
+
+-- So the two forms of a bench with three sensors, with nothing pending and with two changes pending, are accepted. (By the theorem: to compute it takes long.)
+three-typed : (p q r : Bool) → Typed (threeBus p q r)
+unfolding open-saved
+three-typed p q r = record { slots = refl; blocks = (refl, (refl, (refl, (refl, (refl, (refl, (refl, (refl, tt)))))))) }
+
+pub three-before : accepted threeForm blank ≡ true
+three-before =
+    ap (λ (f : List ℕ). accepted f blank) (sym (three .before))
+    ∙ reads-back (threeBus false false false) sampleMemory blank (three-typed false false false) (unfold open-saved in refl) refl refl .accepts
+
+pub three-accepted : accepted (threeForm ++ 0x05 ∷ 0x00 ∷ 0x03 ∷ 1 ∷ 0 ∷ 1 ∷ []) blank ≡ true
+three-accepted =
+    ap (λ (f : List ℕ). accepted f blank) (sym (three .form))
+    ∙ reads-back (threeBus true false true) sampleMemory blank (three-typed true false true) (unfold open-saved in refl) refl refl .accepts
