@@ -1,7 +1,7 @@
 // The range of a state, by document 01's row 6: docs/RANGES.md has every number.
 ghost use mathlib.Core.Path.{_≡_};
 ghost use Rattle.proof_lists.specs.Each.{allOf};
-ghost use Rattle.rules.specs.Refusals.{lengthInRange, sensorInRange, slotInRange};
+ghost use Rattle.rules.specs.Refusals.{lengthInRange, sensorInRange, pendingInRange, slotInRange};
 use rules::Sensor;
 use rules::Slot;
 
@@ -28,6 +28,14 @@ fn sensor_in_range(x: Sensor) -> bool
         & (x.timeout & 0x01 == x.timeout)
 }
 
+// No change is pending but where one can be.
+fn pending_in_range(s: Slot) -> bool
+    ensures { λ r. ⌜ r ≡ pendingInRange s ⌝ }
+{
+    let x = s.sensor;
+    !x.pending | (s.kind == 2) & bus_sensor::pin::can_pend(x.configuration)
+}
+
 // Every number of the slot is in its range.
 fn slot_in_range(s: Slot) -> bool
     ensures { λ r. ⌜ r ≡ slotInRange s ⌝ }
@@ -40,6 +48,7 @@ fn slot_in_range(s: Slot) -> bool
         & (s.counter <= 255)
         & (s.place <= 15)
         & sensor_in_range(x)
+        & pending_in_range(s)
 }
 
 // Row 6 lets the state pass: every number of every slot is in its range.

@@ -39,7 +39,7 @@ fn limits_locked(configuration: u16) -> bool
 }
 
 // The configuration after a write of v: under a lock that was set before, or free.
-fn configuration_after(old: u16, v: u16) -> u16
+pub fn configuration_after(old: u16, v: u16) -> u16
     ensures { λ r. ⌜ r ≡ configured old v ⌝ }
 {
     if critical_locked(old) | limits_locked(old) {

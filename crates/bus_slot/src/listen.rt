@@ -56,7 +56,7 @@ fn second_byte(b: u8, s: Slot) -> Slot
     ensures { λ r. ⌜ r ≡ secondByte b s ⌝ }
 {
     let x = s.sensor;
-    let sensor = bus_sensor::registers::written(x, x.pointer, x.word / 256 * 256 + (b as u16));
+    let sensor = bus_sensor::pin::written(x, x.pointer, x.word / 256 * 256 + (b as u16));
     let mut next = s;
     next.sensor = sensor;
     leaving::lost(Phase::SensorLow, next)

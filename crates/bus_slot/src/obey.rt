@@ -4,7 +4,7 @@ ghost use mathlib.Core.Bool.{true, false, cond, _&&_};
 ghost use lib.Dec.{eqb};
 ghost use lib.ListN.{set};
 ghost use Rattle.rules.specs.Fields.{inPhase, expecting, holding};
-ghost use Rattle.rules.specs.Sensor.{registerOf};
+ghost use Rattle.rules.specs.Pin.{readOf};
 ghost use Rattle.rules.specs.Control.{acksHeard, obeyed};
 use super::blocks;
 use super::phase;
@@ -63,10 +63,10 @@ fn protecting(k: BlockNo, s: Slot) -> Slot
 
 // The slot with a sensor read begun: both bytes are fixed.
 fn fixed(s: Slot) -> Slot
-    ensures { λ r. ⌜ r ≡ inPhase Phase.SensorReadHigh (holding (registerOf (s .sensor) (s .sensor .pointer)) s) ⌝ }
+    ensures { λ r. ⌜ r ≡ inPhase Phase.SensorReadHigh (holding (readOf (s .sensor) (s .sensor .pointer)) s) ⌝ }
 {
     let x = s.sensor;
-    let word = bus_sensor::registers::register(x, x.pointer);
+    let word = bus_sensor::pin::read(x, x.pointer);
     let mut next = s;
     next.sensor.word = word;
     phase::in_phase(Phase::SensorReadHigh, next)

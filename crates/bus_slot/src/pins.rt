@@ -1,10 +1,8 @@
 // What reaches one slot alone: high voltage, temperature.
 ghost use mathlib.Core.Path.{_≡_};
 ghost use mathlib.Core.Bool.{cond};
-ghost use Rattle.rules.specs.Fields.{withSensor};
-ghost use Rattle.rules.specs.Sensor.{converted};
 ghost use Rattle.rules.specs.Modelled.{absent};
-ghost use Rattle.rules.specs.Slot.{switched};
+ghost use Rattle.rules.specs.Slot.{switched, heated};
 use super::leaving;
 use super::phase;
 use rules::Slot;
@@ -26,15 +24,15 @@ pub fn switched(on: bool, s: Slot) -> Slot
     next
 }
 
-// A temperature.
+// A temperature, which reaches a slot with a sensor alone.
 pub fn heated(t: i16, s: Slot) -> Slot
-    ensures { λ r. ⌜ r ≡ cond (absent s) s (withSensor (converted (s .sensor) t) s) ⌝ }
+    ensures { λ r. ⌜ r ≡ heated t s ⌝ }
 {
-    if s.kind == 0 {
+    if s.kind != 2 {
         return s;
     }
     let x = s.sensor;
-    let sensor = bus_sensor::temperature::converted(x, t);
+    let sensor = bus_sensor::pin::converted(x, t);
     let mut next = s;
     next.sensor = sensor;
     next

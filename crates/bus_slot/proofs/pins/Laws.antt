@@ -2,16 +2,16 @@
 -- Assumes nothing.
 use mathlib.Core.Path.{_≡_, sym, _∙_, ap}
 use mathlib.Core.Bool.{Bool, not, cond, _&&_}
-use borrow.Author.Tests.{ne-eqb}
+use borrow.Author.Tests.{eq-eqb}
 use lib.IntN.{ℤ}
 use Rattle.rules.specs.declared.Phase.{Phase}
 use Rattle.rules.specs.declared.Sensor.{Sensor}
 use Rattle.rules.specs.declared.Slot.{Slot}
 use Rattle.rules.specs.declared.Traits.{Traits}
 use Rattle.rules.specs.Fields.{withVoltage, withSensor}
-use Rattle.rules.specs.Modelled.{absent}
-use Rattle.rules.specs.Sensor.{converted}
-use Rattle.rules.specs.Slot.{traits, commanding, standing, lost, switched}
+use Rattle.rules.specs.Modelled.{sensing}
+use Rattle.rules.specs.Pin.{convertedWithPin}
+use Rattle.rules.specs.Slot.{traits, commanding, standing, lost, switched, heated}
 
 -- high voltage, by the traits of the phase that the slot stands in
 pub switched-by : (r s : Slot) (on : Bool) (q : Phase) (t : Traits) (going : Bool) → q ≡ standing s → t ≡ traits q → (t .command && s .voltage && not on) ≡ going
@@ -21,7 +21,7 @@ switched-by r s on q t going e f g h =
     h ∙ ap (λ (x : Bool). withVoltage on (cond x (lost q s) s)) (sym g ∙ ap (λ (x : Traits). x .command && s .voltage && not on) f)
     ∙ ap (λ (p : Phase). withVoltage on (cond (commanding p && s .voltage && not on) (lost p s) s)) e
 
--- a temperature at a slot that is there
-pub heated-by : (r s : Slot) (x : Sensor) (t : ℤ) → (s .kind ≡ 0 → ⊥) → x ≡ converted (s .sensor) t → r ≡ withSensor x s → r ≡ cond (absent s) s (withSensor (converted (s .sensor) t) s)
-unfolding absent
-heated-by r s x t k e f = f ∙ rw (ne-eqb (s .kind) 0 k, e)
+-- a temperature at a slot with a sensor
+pub heated-by : (r s : Slot) (x : Sensor) (t : ℤ) → s .kind ≡ 2 → x ≡ convertedWithPin (s .sensor) t → r ≡ withSensor x s → r ≡ heated t s
+unfolding heated sensing
+heated-by r s x t k e f = f ∙ rw (eq-eqb (s .kind) 2 k, e)

@@ -12,7 +12,7 @@ use Rattle.proof_lists.specs.Each.{mapTo, mapTo-none, mapTo-step, mapTo-same, m
 use Rattle.rules.specs.declared.Cut.{Cut}
 use Rattle.rules.specs.declared.Act.the-variants.{Power}
 use Rattle.rules.specs.declared.Slot.{Slot}
-use Rattle.rules.specs.Modelled.{absent}
+use Rattle.rules.specs.Modelled.{absent, sensing}
 use Rattle.rules.specs.Fields.{expecting, latched}
 use Rattle.rules.specs.Fresh.{powered}
 use Rattle.rules.specs.Memory.{ended, stored}
@@ -56,7 +56,7 @@ cut-some k s r first e z f = f ∙ rw (e, ne-eqb (k .0) 0 z)
 
 -- it is no further out of range
 pub cut-in-range : (k : Cut) (s : Slot) → slotInRange s ≡ true → slotInRange (cut k s) ≡ true
-unfolding cut open-fields open-refusals
+unfolding cut open-fields open-refusals sensing
 cut-in-range k s e = e
 
 -- a power cycle: the slot after it, and its bytes

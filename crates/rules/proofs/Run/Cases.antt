@@ -2,11 +2,11 @@
 -- Assumes nothing.
 use Prim.Native.Nat.{ℕ}
 use mathlib.Core.Path.{_≡_, refl, sym, ap}
-use mathlib.Core.Bool.{Bool, true, false, not, _&&_, _||_}
+use mathlib.Core.Bool.{Bool, true, false, not, cond, _&&_, _||_}
 use borrow.Author.Tests.{eqb-true}
 use lib.Dec.{eqb}
 use lib.IntN.{ℤ}
-use Rattle.proof_lists.specs.Tests.{cond-cases}
+use Rattle.proof_lists.specs.Tests.{cond-cases, cond-false}
 use Rattle.rules.specs.declared.Act.{Act}
 use Rattle.rules.specs.declared.Act.the-variants.{Byte, Read}
 use Rattle.rules.specs.declared.Phase.{Phase}
@@ -36,10 +36,19 @@ pub sensing-present : (s : Slot) → sensing s ≡ true → absent s ≡ false
 unfolding sensing absent
 sensing-present s e = ap (λ (k : ℕ). eqb k 0) (eqb-true (s .kind) 2 e)
 
+pub absent-plain : (s : Slot) → absent s ≡ true → sensing s ≡ false
+unfolding sensing absent
+absent-plain s e = ap (λ (k : ℕ). eqb k 2) (eqb-true (s .kind) 0 e)
+
 -- a temperature reaches a slot with a sensor alone
 pub heated-cases : (P : Slot → Type 0) (t : ℤ) (s : Slot) → P (withSensor (convertedWithPin (s .sensor) t) s) → P s → P (heated t s)
 unfolding heated
 heated-cases P t s with without = cond-cases P (sensing s) (λ e. with) (λ e. without)
+
+-- so none reaches an absent one
+pub heated-absent : (t : ℤ) (s : Slot) → cond (absent s) s (heated t s) ≡ heated t s
+unfolding heated
+heated-absent t s = cond-cases (λ (r : Slot). r ≡ heated t s) (absent s) (λ a. sym (cond-false (sensing s) _ s (absent-plain s a))) (λ a. refl)
 
 -- what is let go is a register's bytes, a command, latched bytes, or nothing
 module _ (P : Slot → Type 0) (p : Phase) (s : Slot) where

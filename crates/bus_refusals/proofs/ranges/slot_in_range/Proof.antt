@@ -12,4 +12,5 @@ slot-in-range-spec =
     (tie.spec
     (λ c κs. search needs)
     (λ c κs. search needs)
-    (λ c. rw (c .before .before .before .before .before .length-in-range .ensures, c .sensor-in-range .ensures)))
+    (λ c κs. search needs)
+    (λ c. rw (c .before .before .before .before .before .before .length-in-range .ensures, c .before .sensor-in-range .ensures, c .pending-in-range .ensures)))

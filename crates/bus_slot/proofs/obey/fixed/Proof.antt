@@ -12,4 +12,4 @@ fixed-spec =
     (tie.spec
     (λ c κs. search needs)
     (λ c κs. search needs)
-    (λ c. rw (c .in-phase .ensures, c .before .before .register .ensures)))
+    (λ c. rw (c .in-phase .ensures, c .before .before .read .ensures)))

@@ -1,6 +1,7 @@
 use Rattle.bus_sensor.proofs.temperature.Signed.{back}
 use borrow.Author.Tests.{eq-eqb, ne-eqb}
 use Rattle.proof_lists.specs.Tests.{cond-same}
+use Rattle.rules.proofs.Run.Cases.{heated-absent}
 use Rattle.rules.specs.Slot.{presentNext, slotNext}
 use borrow.Author.Needs.{needs}
 use Rattle.bus_slots.proofs.step.temperature.Statement.{statement}
@@ -14,7 +15,7 @@ quiet-requires c κs = search needs
 
 returns : tie.Need-returns
 unfolding slotNext presentNext
-returns c = rw (c .quiet .ensures, c .before .heated .ensures, eq-eqb _ _ (c .before .before .if1 .taken), back (c .before .before .before .before .before .args .t) (c .before .before .before .before .before .fits .t .sfits))
+returns c = rw (c .quiet .ensures, c .before .heated .ensures, eq-eqb _ _ (c .before .before .if1 .taken), back (c .before .before .before .before .before .args .t) (c .before .before .before .before .before .fits .t .sfits), heated-absent)
 
 quiet-requires-2 : tie.Need-quiet-requires-2
 quiet-requires-2 c κs = search needs
