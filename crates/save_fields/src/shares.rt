@@ -185,7 +185,7 @@ pub fn put(t: usize, s: Slot, memory: &[u8], out: &mut [u8], at: usize) -> usize
 }
 
 // The byte at a place of a form, and 0 behind its end.
-fn byte_at(form: &[u8], at: usize) -> u8
+pub fn byte_at(form: &[u8], at: usize) -> u8
     ensures { λ r. ⌜ r ≡ getD (now (form .entry)) at 0 ⌝ }
 {
     if at < form.len() {

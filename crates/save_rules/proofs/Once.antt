@@ -19,7 +19,7 @@ use Rattle.rules.specs.Runs.{Bench}
 use Rattle.save_rules.specs.declared.Saved.the-variants.{Form}
 use Rattle.save_rules.specs.Form.{setupField, memoryField, stateFrom, stateField, sensorField, pendingField, fields, fieldCount, fieldAt, formOf}
 use Rattle.save_rules.specs.Saving.{isIdle, quiet, allQuiet, saveOf}
-use Rattle.save_rules.specs.Reading.{begins, place, tagged, readField, readTo, busIn, memoryIn, restored, accepted}
+use Rattle.save_rules.specs.Reading.{begins, place, tagged, readShares, readField, readTo, busIn, memoryIn, restored, accepted}
 use Rattle.save_rules.specs.Rested.{rested, restedBus, Typed}
 use Rattle.save_rules.proofs.Bits.{length-bits}
 use Rattle.save_rules.proofs.Places.{length-readTo, length-formOf}
@@ -40,7 +40,7 @@ reads-blocks (suc (suc (suc (suc zero)))) f at s h = cond-cases FourBits (sensin
 reads-blocks (suc (suc (suc (suc (suc t))))) f at s h = refl
 
 blocks-read : (t : ℕ) (f : List ℕ) → Every FourBits (readTo t f)
-unfolding readTo readField
+unfolding readTo readField readShares
 blocks-read zero f = every-replicate FourBits slotCount absentSlot (unfold absentSlot freshSlot in refl)
 blocks-read (suc t) f = cond-cases (Every FourBits) (tagged t f (readTo t f))
     (λ e. every-mapFrom FourBits (λ k s. fieldAt t .reads f (place t k (readTo t f)) s) (λ k s h. reads-blocks t f (place t k (readTo t f)) s h) 0 (readTo t f) (blocks-read t f))

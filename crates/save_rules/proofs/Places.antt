@@ -19,7 +19,7 @@ use Rattle.rules.specs.declared.Slot.{Slot}
 use Rattle.rules.specs.Modelled.{slotCount, slotBytes, memoryBytes, absent, sensing}
 use Rattle.rules.specs.Fresh.{absentSlot}
 use Rattle.save_rules.specs.Form.{wordOf, setupField, memoryField, stateBytes, stateField, registersTo, sensorBytes, sensorField, pendingField, fields, fieldCount, fixedCount, fieldAt, shareOf, shares, wholeField, neededTo, isThere, fieldBytes, formTo, formOf}
-use Rattle.save_rules.specs.Reading.{sizeIn, offset, span, begins, place, tagged, memoryRow, readField, readTo}
+use Rattle.save_rules.specs.Reading.{sizeIn, offset, span, begins, place, tagged, memoryRow, readShares, readField, readTo}
 
 -- a slot's share of a field has as many bytes as the table says for its kind
 pub length-share : (t : ℕ) (s : Slot) (p : List ℕ) → length p ≡ slotBytes → length (shareOf t s p) ≡ sizeIn t s
@@ -403,7 +403,7 @@ module _ (ss rs : List Slot) (m o : List ℕ) where
 
 -- Reading keeps eight slots, and each field that is read says of slot k what stands at its place for it.
 pub length-readTo : (t : ℕ) (f : List ℕ) → length (readTo t f) ≡ slotCount
-unfolding readTo readField
+unfolding readTo readField readShares
 length-readTo zero f = length-replicate slotCount absentSlot
 length-readTo (suc t) f = cond-cases (λ (ss : List Slot). length ss ≡ slotCount) (tagged t f (readTo t f))
     (λ e. length-mapFrom (λ k s. fieldAt t .reads f (place t k (readTo t f)) s) 0 (readTo t f) ∙ length-readTo t f)
@@ -411,12 +411,12 @@ length-readTo (suc t) f = cond-cases (λ (ss : List Slot). length ss ≡ slotCou
 
 pub read-at : (t k : ℕ) (f : List ℕ) → tagged t f (readTo t f) ≡ true → k < slotCount
     → getD (readTo (suc t) f) k absentSlot ≡ fieldAt t .reads f (place t k (readTo t f)) (getD (readTo t f) k absentSlot)
-unfolding readTo readField
+unfolding readTo readField readShares
 read-at t k f e h =
     rw e
     (mapFrom-at (λ k s. fieldAt t .reads f (place t k (readTo t f)) s) 0 (readTo t f) k absentSlot (rw (length-readTo t f) h)
     ∙ ap (λ (n : ℕ). fieldAt t .reads f (place t n (readTo t f)) (getD (readTo t f) k absentSlot)) (zero-add k))
 
 pub not-read : (t : ℕ) (f : List ℕ) → tagged t f (readTo t f) ≡ false → readTo (suc t) f ≡ readTo t f
-unfolding readTo readField
+unfolding readTo readField readShares
 not-read t f e = rw e

@@ -18,6 +18,6 @@ open-form = tt
 -- everything: saving and reading of known values compute
 unfoldable pub open-saved : Unit {0}
 unfolding open-all open-form Same.same Fresh.atRest Records.pairAt Saving.isIdle Saving.quiet Saving.allQuiet Saving.saveOf Reading.sizeIn
-    Reading.offset Reading.span Reading.begins Reading.place Reading.tagged Reading.readField Reading.readTo Reading.busIn Reading.storedTo
-    Reading.memoryIn Reading.restored Reading.accepted Reading.restoreOf
+    Reading.offset Reading.span Reading.begins Reading.place Reading.tagged Reading.readShares Reading.readField Reading.readTo Reading.busIn
+    Reading.storedTo Reading.memoryIn Reading.restored Reading.accepted Reading.restoreOf
 open-saved = tt

@@ -43,9 +43,13 @@ place t k ss = begins t ss + 3 + offset t k ss
 unfoldable pub tagged : ℕ → List ℕ → List Slot → Bool
 tagged t f ss = eqb (getD f (begins t ss) 0) (fieldAt t .tag)
 
--- "the rest as fresh": from absent slots on, each field that the form has says in its turn what it has to say of each slot
+-- what it says of each slot
+unfoldable pub readShares : ℕ → List ℕ → List Slot → List Slot
+readShares t f ss = mapFrom (λ k s. fieldAt t .reads f (place t k ss) s) 0 ss
+
+-- "the rest as fresh": from absent slots on, each field that the form has says in its turn what it has to say
 unfoldable pub readField : ℕ → List ℕ → List Slot → List Slot
-readField t f ss = cond (tagged t f ss) (mapFrom (λ k s. fieldAt t .reads f (place t k ss) s) 0 ss) ss
+readField t f ss = cond (tagged t f ss) (readShares t f ss) ss
 
 unfoldable pub readTo : ℕ → List ℕ → List Slot
 readTo zero f = replicate slotCount absentSlot
