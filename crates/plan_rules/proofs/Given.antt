@@ -15,6 +15,7 @@ use Rattle.rules.specs.declared.SlotNo.{SlotNo}
 use Rattle.rules.specs.Modelled.{absent, slotCount, slotBytes, memoryBytes}
 use Rattle.rules.specs.Fresh.{freshSlot, absentSlot}
 use Rattle.rules.specs.Refusals.{wrongLength, kindsOf, kindAt}
+use Rattle.rules.proofs.Document.Looking.{kind-there}
 use Rattle.plan_rules.specs.Plan.{slotAt, bufferBytes, wrongLengths, noSuchSlot}
 
 -- the three lengths
@@ -35,13 +36,8 @@ unfolding noSuchSlot
 slot-below k b h = omega (arith, ltb-false 7 (k .0) (or-left-false (ltb 7 (k .0)) _ h))
 
 pub slot-there : (k : SlotNo) (b : Bus) → noSuchSlot k b ≡ false → k .0 < length (b .slots)
-unfolding noSuchSlot kindAt kindsOf
-slot-there k b h =
-    by-test (ltb (k .0) (length (b .slots))) (λ e. ltb-true _ _ e)
-    (λ e.
-    let kinds : List ℕ = map (λ (s : Slot). s .kind) (b .slots) in
-    let l : length kinds ≤ k .0 = rw (length-map (b .slots) (λ (s : Slot). s .kind)) (ltb-false (k .0) (length (b .slots)) e) in
-    absurd (eqb-false (getD kinds (k .0) 0) 0 (or-right-false (ltb 7 (k .0)) _ h) (List·getD-eq-default kinds 0 l)))
+unfolding noSuchSlot
+slot-there k b h = kind-there k b (eqb-false (kindAt (kindsOf b) k) 0 (or-right-false (ltb 7 (k .0)) _ h))
 
 pub slot-present : (b : Bus) (m : List ℕ) (k : SlotNo) → noSuchSlot k b ≡ false → absent (slotAt (k .0) (record { bus = b; memory = m })) ≡ false
 unfolding noSuchSlot kindAt kindsOf slotAt absent absentSlot freshSlot

@@ -10,3 +10,5 @@ pub mod Cut
 pub mod Joined
 pub mod Flags
 pub mod Reader
+pub mod Looking
+pub mod Pins

@@ -2,3 +2,4 @@
 pub mod First
 pub mod Stored
 pub mod Protection
+pub mod Sensorless

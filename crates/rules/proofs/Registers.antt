@@ -8,3 +8,5 @@ pub mod Pending
 pub mod SensorSteps
 pub mod Locks
 pub mod SensorKept
+pub mod Pinned
+pub mod PinRead

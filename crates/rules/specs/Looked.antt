@@ -1,8 +1,8 @@
 -- Request P8, "The EVENT pin": what the public entry `pin` says of a slot's pin.
 -- Assumes nothing.
 use Prim.Native.Nat.{ℕ}
-use mathlib.Core.Bool.{Bool, not, cond}
-use lib.Dec.{eqb}
+use mathlib.Core.Bool.{Bool, not, cond, _||_}
+use lib.Dec.{eqb, ltb}
 use lib.ListN.{getD}
 use Rattle.rules.specs.declared.Bus.{Bus}
 use Rattle.rules.specs.declared.Looked.{Looked}
@@ -16,7 +16,7 @@ use Rattle.rules.specs.Refusals.{kindsOf, kindAt, inRange}
 
 -- "for kind 2 slots": a slot that is absent, above 7 or without sensor has no pin
 unfoldable pub noPin : Bus → SlotNo → Bool
-noPin b n = not (eqb (kindAt (kindsOf b) n) 2)
+noPin b n = ltb 7 (n .0) || not (eqb (kindAt (kindsOf b) n) 2)
 
 -- refusal 6, then 3; else the pin as it stands
 unfoldable pub lookOf : Bus → SlotNo → Looked

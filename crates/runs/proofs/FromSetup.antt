@@ -6,3 +6,4 @@ pub mod Arrays
 pub mod Story
 pub mod OneStory
 pub mod History
+pub mod Changes

@@ -4,7 +4,7 @@
 use Prim.Native.Nat.{ℕ, _*_}
 use mathlib.Core.Path.{_≡_, refl}
 use mathlib.Core.Bool.{Bool, true, false}
-use mathlib.Core.List.{List, [], _∷_, map}
+use mathlib.Core.List.{List, [], _∷_, _++_, map}
 use lib.IntN.{ℤ, pos, negsuc}
 use lib.ListN.{set, replicate}
 use Rattle.rules.specs.declared.Act.the-variants.{Start, Byte, Read, Stop, Timeout, Tick, Voltage, Power, Temperature}
@@ -21,7 +21,7 @@ use Rattle.rules.specs.declared.SlotNo.{SlotNo}
 use Rattle.rules.specs.declared.Cut.{Cut}
 use Rattle.rules.specs.Modelled.{slotCount, memoryBytes, slotBytes, absent, sensing, addressOf, blockOf, pageOf}
 use Rattle.rules.specs.Open.{open-all}
-use Rattle.rules.specs.Fields.{atCounter, inHalf, withLeft, placed, withSensor, pointing, withConfiguration, withHigh, withLow, withCritical, withTemperature, withResolution, withTimeout, withWord}
+use Rattle.rules.specs.Fields.{atCounter, inHalf, withLeft, placed, withSensor, pointing, withConfiguration, withHigh, withLow, withCritical, withTemperature, withResolution, withTimeout, withPending, withWord}
 use Rattle.rules.specs.Events.{actOf, refusalNumber, letterOf, valueOf}
 use Rattle.rules.specs.Fresh.{freshSensor, freshSlot, setupSlot, absentSlot}
 use Rattle.rules.specs.Refusals.{unknownKind, wrongSlot, wrongValue, wrongLength, goodPair, slotInRange}
@@ -216,6 +216,16 @@ row-6-resolution = refl
 pub row-6-timeout : map (λ n. slotInRange (sensed withTimeout n)) (0x01 ∷ 0x02 ∷ 0x80 ∷ []) ≡ true ∷ false ∷ false ∷ []
 unfolding open-all
 row-6-timeout = refl
+
+-- P8, "a 1 where no change can be pending falls under 6": with each of bits 3:0, in a slot with a sensor; then in one without, and in an absent one
+pub row-6-pending : map (λ c. slotInRange (withSensor (withPending true (withConfiguration c freshSensor)) present)) (0x0 ∷ 0x1 ∷ 0x2 ∷ 0x3 ∷ 0x4 ∷ 0x5 ∷ 0x6 ∷ 0x7 ∷ 0x8 ∷ 0x9 ∷ 0xA ∷ 0xB ∷ 0xC ∷ 0xD ∷ 0xE ∷ 0xF ∷ [])
+    ≡ replicate 9 false ++ true ∷ false ∷ true ∷ replicate 4 false
+unfolding open-all
+row-6-pending = refl
+
+pub row-6-pinless : map (λ (p : ℕ × ℕ). slotInRange (withSensor (withPending true (withConfiguration 0x9 freshSensor)) (freshSlot (p .0) (p .1)))) ((2, 3) ∷ (1, 3) ∷ (0, 0) ∷ []) ≡ true ∷ false ∷ false ∷ []
+unfolding open-all
+row-6-pinless = refl
 
 -- "adds no other cause": the word has no range
 pub row-6-word : slotInRange (sensed withWord 0xFFFF) ≡ true

@@ -78,6 +78,9 @@ configured-locked : (old v : ℕ) → locked old ≡ true → configured old v �
 unfolding configured
 configured-locked old v l = cond-true (locked old) (lockedWrite old v) _ l
 
+pub configured-keeps : (old v : ℕ) → locked old ≡ true → bitAnd (configured old v) 0x060F ≡ bitAnd old 0x060F
+configured-keeps old v l = rw (configured-locked old v l) (locked-keeps old v)
+
 configures-holds : (x : Sensor) (v : ℕ) → Holds x (withConfiguration (configured (x .configuration) v) x)
 unfolding withConfiguration criticalLocked limitsLocked shutDown
 configures-holds x v =
@@ -88,7 +91,7 @@ configures-holds x v =
       critical = λ l. refl;
       high = λ l. refl;
       low = λ l. refl;
-      kept = λ l. rw (configured-locked c v l) (locked-keeps c v);
+      kept = λ l. configured-keeps c v l;
       shut = λ l h. eq-eqb _ 1 (shut-was c v (eqb-true _ 1 (rw (configured-locked c v l) at h)));
     }
 

@@ -60,9 +60,30 @@ pub elsewhere : (x : Sensor) (p v : ℕ) → eqb p 0x01 ≡ false → pendingAft
 unfolding pendingAfter
 elsewhere x p v e = rw e
 
+-- a change is pending only where one can be
+abbrev pub Can : Sensor → Type 0
+Can x = x .pending ≡ true → canPend (x .configuration) ≡ true
+
+pub fresh-can : Can freshSensor
+unfolding freshSensor
+fresh-can p = absurd (false≢true p)
+
+pub written-can : (x : Sensor) (p v : ℕ) → Can x → Can (writtenWithPin x p v)
+unfolding writtenWithPin open-fields
+written-can x p v f h =
+    by-test (eqb p 0x01)
+    (λ e. rw (configuration-after x p v, e) (left x v (sym (after-01 x p v e) ∙ h) .can))
+    (λ e. rw (configuration-after x p v, e) (f (sym (elsewhere x p v e) ∙ h)))
+
+pub converted-can : (x : Sensor) (t : ℤ) → Can x → Can (convertedWithPin x t)
+unfolding convertedWithPin open-fields
+converted-can x t f h =
+    rw (configuration-stays x t) (or-cases (x .pending) _ h f (λ c. and-left _ (changes (x .temperature) (converted x t .temperature)) c))
+
+-- what row 6 asks
 pub record Pends (kind : ℕ) (x : Sensor) : Type 0 where
   pub here : x .pending ≡ true → eqb kind 2 ≡ true
-  pub can : x .pending ≡ true → canPend (x .configuration) ≡ true
+  pub can : Can x
 
 pub pends : (s : Slot) → pendingInRange s ≡ true → Pends (s .kind) (s .sensor)
 unfolding pendingInRange sensing
@@ -79,7 +100,7 @@ in-range s f = by-test (s .sensor .pending) (λ p. rw (p, f .here p, f .can p)) 
 module _ (kind : ℕ) where
   pub fresh-pends : Pends kind freshSensor
   unfolding freshSensor
-  fresh-pends = record { here = λ p. absurd (false≢true p); can = λ p. absurd (false≢true p) }
+  fresh-pends = record { here = λ p. absurd (false≢true p); can = fresh-can }
 
   pub word-pends : (v : ℕ) (x : Sensor) → Pends kind x → Pends kind (withWord v x)
   unfolding withWord
@@ -92,17 +113,10 @@ module _ (kind : ℕ) where
   pub written-pends : (x : Sensor) (p v : ℕ) → Pends kind x → Pends kind (writtenWithPin x p v)
   unfolding writtenWithPin open-fields
   written-pends x p v f =
-      by-test (eqb p 0x01)
-      (λ e. record {
-        here = λ h. f .here (left x v (sym (after-01 x p v e) ∙ h) .was);
-        can = λ h. rw (configuration-after x p v, e) (left x v (sym (after-01 x p v e) ∙ h) .can);
-      })
-      (λ e. record { here = λ h. f .here (sym (elsewhere x p v e) ∙ h); can = λ h. rw (configuration-after x p v, e) (f .can (sym (elsewhere x p v e) ∙ h)) })
+      record {
+        here = λ h. f .here (by-test (eqb p 0x01) (λ e. left x v (sym (after-01 x p v e) ∙ h) .was) (λ e. sym (elsewhere x p v e) ∙ h));
+        can = written-can x p v (f .can);
+      }
 
   pub converted-pends : (x : Sensor) (t : ℤ) → eqb kind 2 ≡ true → Pends kind x → Pends kind (convertedWithPin x t)
-  unfolding convertedWithPin open-fields
-  converted-pends x t k f =
-      record {
-        here = λ h. k;
-        can = λ h. rw (configuration-stays x t) (or-cases (x .pending) _ h (f .can) (λ c. and-left _ (changes (x .temperature) (converted x t .temperature)) c));
-      }
+  converted-pends x t k f = record { here = λ h. k; can = converted-can x t (f .can) }

@@ -36,6 +36,10 @@ pub sensing-present : (s : Slot) → sensing s ≡ true → absent s ≡ false
 unfolding sensing absent
 sensing-present s e = ap (λ (k : ℕ). eqb k 0) (eqb-true (s .kind) 2 e)
 
+pub absent-plain : (s : Slot) → absent s ≡ true → sensing s ≡ false
+unfolding sensing absent
+absent-plain s e = ap (λ (k : ℕ). eqb k 2) (eqb-true (s .kind) 0 e)
+
 -- a temperature reaches a slot with a sensor alone
 pub heated-cases : (P : Slot → Type 0) (t : ℤ) (s : Slot) → P (withSensor (convertedWithPin (s .sensor) t) s) → P s → P (heated t s)
 unfolding heated
@@ -43,10 +47,8 @@ heated-cases P t s with without = cond-cases P (sensing s) (λ e. with) (λ e. w
 
 -- so none reaches an absent one
 pub heated-absent : (t : ℤ) (s : Slot) → cond (absent s) s (heated t s) ≡ heated t s
-unfolding heated absent sensing
-heated-absent t s =
-    cond-cases (λ (r : Slot). r ≡ heated t s) (eqb (s .kind) 0)
-    (λ a. sym (cond-false (eqb (s .kind) 2) _ s (ap (λ (k : ℕ). eqb k 2) (eqb-true (s .kind) 0 a)))) (λ a. refl)
+unfolding heated
+heated-absent t s = cond-cases (λ (r : Slot). r ≡ heated t s) (absent s) (λ a. sym (cond-false (sensing s) _ s (absent-plain s a))) (λ a. refl)
 
 -- what is let go is a register's bytes, a command, latched bytes, or nothing
 module _ (P : Slot → Type 0) (p : Phase) (s : Slot) where

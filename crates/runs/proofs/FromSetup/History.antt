@@ -60,26 +60,26 @@ Fresh s = (s .coming ≡ s .protection) × (s .left ≡ 0)
 
 -- slot k of eight set-up slots, after the events es
 module _ (k : ℕ) (below : k < slotCount) (ps : List Pair) (eight : length ps ≡ slotCount) (m : List ℕ) (long : length m ≡ memoryBytes) (es : List Event) where
-  abbrev slot : Bench → Slot
+  abbrev pub slot : Bench → Slot
   slot x = slotAt absentSlot k x
 
   -- the slot that setup made, and the acts of the run
-  abbrev made : Slot
+  abbrev pub made : Slot
   made = slot (begun ps m)
 
-  abbrev acts : List Act
+  abbrev pub acts : List Act
   acts = actsOf (kindsOf (begun ps m .bus)) es
 
-  abbrev bench : Bench
+  abbrev pub bench : Bench
   bench = after es (begun ps m)
 
-  here : k < length (slotsOf (begun ps m))
+  pub here : k < length (slotsOf (begun ps m))
   here = rw (setup-number ps m eight) below
 
-  there : k < length (slotsOf bench)
+  pub there : k < length (slotsOf bench)
   there = rw (number-after es (begun ps m)) here
 
-  slot-there : slot bench ≡ slotAfter k acts made
+  pub slot-there : slot bench ≡ slotAfter k acts made
   slot-there = ap slot (after-kept es (begun ps m) long (setup-in-range ps)) ∙ slot-went absentSlot k acts (begun ps m) here
 
   made-reach : Reach made

@@ -16,6 +16,7 @@ use Rattle.rules.specs.declared.Pair.{Pair}
 use Rattle.rules.specs.declared.Slot.{Slot}
 use Rattle.rules.specs.Modelled.{slotCount, slotBytes, memoryBytes}
 use Rattle.rules.specs.Fresh.{freshSlot, setupSlot, absentSlot}
+use Rattle.rules.specs.Pin.{pinOf}
 use Rattle.rules.specs.Refusals.{goodPair, kindsOf, inRange, emptyBus, setupOf}
 use Rattle.rules.specs.Runs.{Bench, after}
 use Rattle.runs.specs.Exchanges.{actsOf, went, Item, flatten, itemsOf, strike, ownTold}
@@ -44,11 +45,14 @@ module _ (k : ℕ) where
   abbrev pub slot : Bench → Slot
   slot x = slotAt absentSlot k x
 
-  -- at the end: slot k, with its bytes, its protection, counter, registers and all else; and the answers to its own exchanges
+  -- at the end: slot k, with its bytes, its protection, counter, registers and all else; the answers to its own exchanges; and, P8, "The pin of
+  -- slot s joins the things that demand 3 holds equal": asserted or not, its level, and whether a change is pending
   pub record Same (x y : Bench) (r q : List Event) (is js : List Item) : Type 0 where
     pub slots : slot (after r x) ≡ slot (after q y)
     pub bytes : partOf k (after r x) ≡ partOf k (after q y)
     pub answers : ownTold k is x ≡ ownTold k js y
+    pub pins : pinOf (slot (after r x) .sensor) ≡ pinOf (slot (after q y) .sensor)
+    pub pending : slot (after r x) .sensor .pending ≡ slot (after q y) .sensor .pending
 
   pub demand3 : (x y : Bench) (r q : List Event) (is js : List Item) → Ready x → Ready y → Agree absentSlot k x y
       → Parts x r is → Parts y q js → strike k is ≡ strike k js → Same x y r q is js
@@ -56,7 +60,14 @@ module _ (k : ℕ) where
       let n : EndAlike absentSlot k x y is js = apart absentSlot k x y is js a e in
       let f : after r x ≡ went (flatten is) x = after-items x r is z p in
       let g : after q y ≡ went (flatten js) y = after-items y q js w o in
-      record { slots = rw (f, g) (n .slot); bytes = rw (f, g) (n .bytes); answers = n .answers }
+      let s : slot (after r x) ≡ slot (after q y) = rw (f, g) (n .slot) in
+      record {
+        slots = s;
+        bytes = rw (f, g) (n .bytes);
+        answers = n .answers;
+        pins = ap (λ (t : Slot). pinOf (t .sensor)) s;
+        pending = ap (λ (t : Slot). t .sensor .pending) s;
+      }
 
 -- a bench right after setup
 abbrev pub begun : List Pair → List ℕ → Bench
