@@ -50,7 +50,7 @@ unfolding pinNumbers pinOf
 pin-by x p a l q e f g h = λ i. (f ∙ ap (λ (z : Pin). bit (z .asserted)) e) i ∷ (g ∙ ap (λ (z : Pin). bit (z .level)) e) i ∷ h i ∷ []
 
 -- the parts of a slot's numbers
-abbrev pub pinsOf : Slot → List ℕ
+abbrev pinsOf : Slot → List ℕ
 pinsOf s = cond (sensing s) (pinNumbers (s .sensor)) []
 
 abbrev behindMarks : Slot → List ℕ
@@ -151,12 +151,12 @@ numbers-length s z =
     by-kind false = refl
 
 -- the numbers of a slot with noughts behind them, which are 60 whatever its kind: what the code looks at, one by one
-pub wide : List ℕ → List ℕ
-wide xs = xs ++ replicate (60 - length xs) 0
+pub sixty : List ℕ → List ℕ
+sixty xs = xs ++ replicate (60 - length xs) 0
 
-wide-at : (xs : List ℕ) (k : ℕ) → getD (wide xs) k 0 ≡ getD xs k 0
-unfolding wide
-wide-at xs k = padded xs (60 - length xs) k
+sixty-at : (xs : List ℕ) (k : ℕ) → getD (sixty xs) k 0 ≡ getD xs k 0
+unfolding sixty
+sixty-at xs k = padded xs (60 - length xs) k
   where
     noughts : (n k : ℕ) → _≡_ {A = ℕ} (getD (replicate n 0) k 0) 0
     noughts zero k = refl
@@ -168,29 +168,29 @@ wide-at xs k = padded xs (60 - length xs) k
     padded (x ∷ xs) n zero = refl
     padded (x ∷ xs) n (suc k) = padded xs n k
 
-wide-length : (xs : List ℕ) → length xs ≤ 60 → length (wide xs) ≡ 60
-unfolding wide
-wide-length xs h = rw (length-append, length-replicate) (omega arith)
+sixty-length : (xs : List ℕ) → length xs ≤ 60 → length (sixty xs) ≡ 60
+unfolding sixty
+sixty-length xs h = rw (length-append, length-replicate) (omega arith)
 
 -- two slots: of one kind, they have as many numbers; of two, they differ in the first
-wide-alike : (xs ys : List ℕ) → length xs ≡ length ys → same (wide xs) (wide ys) ≡ same xs ys
-unfolding wide
-wide-alike xs ys l =
+sixty-alike : (xs ys : List ℕ) → length xs ≡ length ys → same (sixty xs) (sixty ys) ≡ same xs ys
+unfolding sixty
+sixty-alike xs ys l =
     let n : List ℕ = replicate (60 - length xs) 0 in
-    ap (λ i. same (wide xs) (ys ++ replicate (60 - i) 0)) (sym l) ∙ same-append xs n ys n l ∙ ap (same xs ys &&_) (same-refl n) ∙ and-true (same xs ys)
+    ap (λ i. same (sixty xs) (ys ++ replicate (60 - i) 0)) (sym l) ∙ same-append xs n ys n l ∙ ap (same xs ys &&_) (same-refl n) ∙ and-true (same xs ys)
 
-wide-other : (s t : Slot) → eqb (s .kind) (t .kind) ≡ false → same (wide (numbersOf s)) (wide (numbersOf t)) ≡ same (numbersOf s) (numbersOf t)
-unfolding wide numbersOf plainNumbers same
-wide-other s t e = rw e
+sixty-other : (s t : Slot) → eqb (s .kind) (t .kind) ≡ false → same (sixty (numbersOf s)) (sixty (numbersOf t)) ≡ same (numbersOf s) (numbersOf t)
+unfolding sixty numbersOf plainNumbers same
+sixty-other s t e = rw e
 
-wide-same : (s t : Slot) → Sized s → Sized t → same (wide (numbersOf s)) (wide (numbersOf t)) ≡ same (numbersOf s) (numbersOf t)
+sixty-same : (s t : Slot) → Sized s → Sized t → same (sixty (numbersOf s)) (sixty (numbersOf t)) ≡ same (numbersOf s) (numbersOf t)
 unfolding sensing
-wide-same s t y z =
+sixty-same s t y z =
     by-test (eqb (s .kind) (t .kind))
     (λ e.
     let k : s .kind ≡ t .kind = eqb-true (s .kind) (t .kind) e in
-    wide-alike (numbersOf s) (numbersOf t) (numbers-length s y ∙ ap (λ n. countOf (eqb n 2)) k ∙ sym (numbers-length t z)))
-    (wide-other s t)
+    sixty-alike (numbersOf s) (numbersOf t) (numbers-length s y ∙ ap (λ n. countOf (eqb n 2)) k ∙ sym (numbers-length t z)))
+    (sixty-other s t)
 
 -- whether the first k of two lists of 60 are the same
 pub record Alike (xs ys : List ℕ) (k : ℕ) (all : Bool) : Type 0 where
@@ -199,29 +199,29 @@ pub record Alike (xs ys : List ℕ) (k : ℕ) (all : Bool) : Type 0 where
   pub second : length ys ≡ 60
   pub says : all ≡ same (take k xs) (take k (drop 0 ys))
 
-pub alike-none : (s t : Slot) → Sized s → Sized t → Alike (wide (numbersOf s)) (wide (numbersOf t)) 0 true
+pub alike-none : (s t : Slot) → Sized s → Sized t → Alike (sixty (numbersOf s)) (sixty (numbersOf t)) 0 true
 alike-none s t y z = record {
   within = omega arith;
-  first = wide-length (numbersOf s) (most s y);
-  second = wide-length (numbersOf t) (most t z);
-  says = stands-start (wide (numbersOf s)) (wide (numbersOf t)) 0;
+  first = sixty-length (numbersOf s) (most s y);
+  second = sixty-length (numbersOf t) (most t z);
+  says = stands-start (sixty (numbersOf s)) (sixty (numbersOf t)) 0;
 }
   where
     most : (s : Slot) → Sized s → length (numbersOf s) ≤ 60
     most s y = rw (numbers-length s y) (by-test (sensing s) (λ e. rw e (omega arith)) (λ e. rw e (omega arith)))
 
-pub alike-more : (xs ys : List ℕ) (k : ℕ) (all : Bool) (x y : ℕ) → Alike (wide xs) (wide ys) k all → k < 60 → x ≡ getD xs k 0 → y ≡ getD ys k 0
-    → Alike (wide xs) (wide ys) (k + 1) (all && eqb x y)
+pub alike-more : (xs ys : List ℕ) (k : ℕ) (all : Bool) (x y : ℕ) → Alike (sixty xs) (sixty ys) k all → k < 60 → x ≡ getD xs k 0 → y ≡ getD ys k 0
+    → Alike (sixty xs) (sixty ys) (k + 1) (all && eqb x y)
 alike-more xs ys k all x y g h e f = record {
   within = omega arith;
   first = g .first;
   second = g .second;
-  says = ap₂ _&&_ (g .says) (ap₂ eqb (e ∙ sym (wide-at xs k)) (f ∙ sym (wide-at ys k) ∙ ap (λ i. getD (wide ys) i 0) (sym (zero-add k))))
-      ∙ sym (stands-step (wide xs) (wide ys) 0 k (rw (g .first) h) (omega (arith, g .first, g .second)));
+  says = ap₂ _&&_ (g .says) (ap₂ eqb (e ∙ sym (sixty-at xs k)) (f ∙ sym (sixty-at ys k) ∙ ap (λ i. getD (sixty ys) i 0) (sym (zero-add k))))
+      ∙ sym (stands-step (sixty xs) (sixty ys) 0 k (rw (g .first) h) (omega (arith, g .first, g .second)));
 }
 
-pub alike-all : (s t : Slot) (k : ℕ) (all : Bool) → Sized s → Sized t → Alike (wide (numbersOf s)) (wide (numbersOf t)) k all → 60 ≤ k
+pub alike-all : (s t : Slot) (k : ℕ) (all : Bool) → Sized s → Sized t → Alike (sixty (numbersOf s)) (sixty (numbersOf t)) k all → 60 ≤ k
     → all ≡ same (numbersOf s) (numbersOf t)
 alike-all s t k all y z g h =
-    g .says ∙ stands-end (wide (numbersOf s)) (wide (numbersOf t)) 0 k (omega (arith, g .within, g .first))
-    ∙ stands-whole (wide (numbersOf s)) (wide (numbersOf t)) (g .first ∙ sym (g .second)) ∙ wide-same s t y z
+    g .says ∙ stands-end (sixty (numbersOf s)) (sixty (numbersOf t)) 0 k (omega (arith, g .within, g .first))
+    ∙ stands-whole (sixty (numbersOf s)) (sixty (numbersOf t)) (g .first ∙ sym (g .second)) ∙ sixty-same s t y z

@@ -5,12 +5,12 @@ use native.Mathlib.Omega.{arith}
 use borrow.Author.Needs.{needs}
 use Rattle.proof_lists.specs.Same.{same}
 use Rattle.watch_text.specs.Numbers.{numbersOf}
-use Rattle.watch_text.proofs.numbers.Laws.{Alike, alike-none, alike-more, alike-all, wide}
+use Rattle.watch_text.proofs.numbers.Laws.{Alike, alike-none, alike-more, alike-all, sixty}
 use Rattle.watch_text.proofs.numbers.same_numbers.Statement.{statement}
 use Rattle.watch_text.proofs.numbers.same_numbers.Tie as tie
 
 abbrev Inv-loop : tie.InvT-loop
-Inv-loop a b all₀ k₀ all k = Alike (wide (numbersOf a)) (wide (numbersOf b)) k all
+Inv-loop a b all₀ k₀ all k = Alike (sixty (numbersOf a)) (sixty (numbersOf b)) k all
 
 abbrev μ-loop : tie.MeasureT-loop
 μ-loop a b all₀ k₀ all k = 60 - k
