@@ -1,29 +1,13 @@
-// The show program: a saved form's length and the form on standard input; on standard output a line for each present slot of the bench that the form
-// restores to, as `watch` has it, or `R10` or `short`. It begins as `resume` does; what stands behind the form is not read. The status that a result
-// has, the script `run` gives it.
-ghost use mathlib.Core.Path.{_≡_};
-ghost use Prim.Native.Nat.{_≤_};
-ghost use lib.ListN.{length};
-ghost use lib.Seq.{sets};
-ghost use Rattle.watch_text.specs.Lines.{benchLines};
-use libc::STDOUT_FILENO;
-use rules::Bus;
-
-// All present slots of a bench, put at the front of the output and written.
-fn tell(bus: Bus, out: &mut [u8])
-    requires { ⌜ 23200 ≤ length (now out) ⌝ }
-    ensures { λ _. ⌜ now (out .exit) ≡ sets (now (out .entry)) 0 (benchLines bus) ⌝ }
-{
-    let end = watch_text::lines::put_bench(out, bus);
-    script_streams::opening::write(STDOUT_FILENO, out, end);
-}
-
+// The show program: a saved form's length, the form and records on standard input; on standard output a line for each present slot of the bench that
+// the form restores to, and then for each record what `watch` has, or `R10` or `short`. It begins as `resume` does, by `save_opening`, and goes on as
+// `watch` does, by `watch_streams`: all that decides is said and proved there and in `save_restore`. The status that a result has, the script `run`
+// gives it.
 fn main() {
     let mut mem = [0u8; 4096];
     let mut out = io::large_buffer();
     let begun = save_opening::open(&mut mem, &mut out);
     if begun.on {
         let bus = begun.bus;
-        tell(bus, &mut out);
+        watch_streams::watch(bus, &mut mem, &mut out);
     }
 }

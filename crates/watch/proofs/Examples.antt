@@ -6,8 +6,8 @@ use mathlib.Core.Path.{_≡_, refl}
 use mathlib.Core.List.{List, [], _∷_, _++_, map}
 use lib.ListN.{replicate}
 use Rattle.script_text.specs.Quoted.{quoted}
+use Rattle.watch_streams.specs.Open.{open-watch}
 use Rattle.watch.specs.Watch.{watchOf}
-use Rattle.watch.specs.Open.{open-watch}
 
 -- a memory in slot 0 with a write cycle of two ticks, and a memory with sensor in slot 7 with one of five
 abbrev setup : List ℕ
@@ -19,19 +19,28 @@ still = " protection0=0 protection1=0 protection2=0 protection3=0 coming0=0 comi
 
 -- the sensor's numbers at their defaults, and at a temperature of 100 sixteenths of a degree, which is above all limits
 abbrev cold : String
-cold = " pointer=0 configuration=0 high=0 low=0 critical=0 temperature=0 resolution=1 timeout=1 word=0\n"
+cold = " pointer=0 configuration=0 high=0 low=0 critical=0 temperature=0 resolution=1 timeout=1 word=0"
 
 abbrev warm : String
-warm = " pointer=0 configuration=0 high=0 low=0 critical=0 temperature=49252 resolution=1 timeout=1 word=0\n"
+warm = " pointer=0 configuration=0 high=0 low=0 critical=0 temperature=49252 resolution=1 timeout=1 word=0"
+
+-- the lines of the two slots: the first ends where it has no pin
+abbrev memory : String → List String
+memory phase = "0 kind=1 length=2 left=0 half=0 counter=0 place=0 voltage=0 phase=" ∷ phase ∷ still ∷ cold ∷ "\n" ∷ []
+
+abbrev sensor : String → String → String → List String
+sensor phase registers pin =
+    "7 kind=2 length=5 left=0 half=0 counter=0 place=0 voltage=0 phase=" ∷ phase ∷ still ∷ registers ∷ " asserted=" ∷ pin ∷ "\n" ∷ []
+
+abbrev released : String
+released = "0 level=1 pending=0"
 
 abbrev lines : List String → List ℕ
 lines [] = []
 lines (s ∷ ss) = quoted s ++ lines ss
 
 abbrev first : List String
-first =
-    "0 kind=1 length=2 left=0 half=0 counter=0 place=0 voltage=0 phase=0" ∷ still ∷ cold
-    ∷ "7 kind=2 length=5 left=0 half=0 counter=0 place=0 voltage=0 phase=0" ∷ still ∷ cold ∷ []
+first = memory "0" ++ sensor "0" cold released
 
 -- inputs, and what is written for them: a setup that is cut, a bad one with records behind it, one of which the record is cut; records that change
 -- both slots (a start), one of them (a temperature), and none (a tick, a slot that is not there, an unknown kind)
@@ -45,14 +54,47 @@ table =
     ∷ (
       setup ++ 6 ∷ 0 ∷ 0 ∷ 0 ∷ 9 ∷ 7 ∷ 0 ∷ 100 ∷ 7 ∷ 9 ∷ 0 ∷ 1 ∷ 1 ∷ 0 ∷ 0 ∷ 0 ∷ 12 ∷ [],
       first ++ "-\n"
-          ∷ "-\n" ∷ "7 kind=2 length=5 left=0 half=0 counter=0 place=0 voltage=0 phase=0" ∷ still ∷ warm
-          ∷ "R3\n"
-          ∷ "-\n" ∷ "0 kind=1 length=2 left=0 half=0 counter=0 place=0 voltage=0 phase=1" ∷ still ∷ cold
-          ∷ "7 kind=2 length=5 left=0 half=0 counter=0 place=0 voltage=0 phase=1" ∷ still ∷ warm
-          ∷ "short\n" ∷ [],
+          ∷ "-\n" ∷ sensor "0" warm released
+          ++ "R3\n"
+          ∷ "-\n" ∷ memory "1" ++ sensor "1" warm released
+          ++ "short\n" ∷ [],
     )
     ∷ []
 
 pub watched : map (λ (c : List ℕ × List String). watchOf (c .0)) table ≡ map (λ (c : List ℕ × List String). lines (c .1)) table
-unfolding open-watch
+unfolding open-watch watchOf
 watched = refl
+
+-- The pin of a sensor alone: a start, 3Eh, and 0009h written to register 01h, which enables it in interrupt mode; a temperature that sets the critical
+-- and the high flag, so that a change is pending; and a word of it with bit 5 set, which leaves the pin to the critical flag
+abbrev alone : List ℕ
+alone = replicate 14 0 ++ 2 ∷ 5 ∷ []
+
+abbrev exchange : ℕ → List ℕ
+exchange low = 1 ∷ 0 ∷ 0 ∷ 0 ∷ 2 ∷ 0 ∷ 0 ∷ 0x3E ∷ 2 ∷ 0 ∷ 0 ∷ 1 ∷ 2 ∷ 0 ∷ 0 ∷ 0 ∷ 2 ∷ 0 ∷ 0 ∷ low ∷ []
+
+abbrev enabled : String
+enabled = " pointer=1 configuration=9 high=0 low=0 critical=0 temperature=0 resolution=1 timeout=1 word=0"
+
+abbrev hot : String
+hot = " pointer=1 configuration=9 high=0 low=0 critical=0 temperature=49252 resolution=1 timeout=1 word=0"
+
+abbrev pointed : String
+pointed = " pointer=1 configuration=0 high=0 low=0 critical=0 temperature=0 resolution=1 timeout=1 word=0"
+
+pub pin-watched : watchOf (alone ++ exchange 0x09 ++ 9 ∷ 7 ∷ 0 ∷ 100 ∷ exchange 0x29)
+    ≡ lines
+    (sensor "0" cold released
+    ++ "-\n" ∷ sensor "1" cold released
+    ++ "A\n" ∷ sensor "10" cold released
+    ++ "A\n" ∷ sensor "11" pointed released
+    ++ "A\n" ∷ sensor "12" pointed released
+    ++ "A\n" ∷ sensor "2" enabled released
+    ++ "-\n" ∷ sensor "2" hot "1 level=0 pending=1"
+    ++ "-\n" ∷ sensor "1" hot "1 level=0 pending=1"
+    ++ "A\n" ∷ sensor "10" hot "1 level=0 pending=1"
+    ++ "A\n" ∷ sensor "11" hot "1 level=0 pending=1"
+    ++ "A\n" ∷ sensor "12" hot "1 level=0 pending=1"
+    ++ "A\n" ∷ sensor "2" hot "1 level=0 pending=0")
+unfolding open-watch watchOf
+pin-watched = refl

@@ -1,4 +1,1 @@
 pub mod Watch
-pub mod Steps
-pub mod Reading
-pub mod Open

@@ -1,101 +1,6 @@
 // The watch program: a script on standard input; on standard output the script's lines, and with them a line for each slot whose numbers changed.
-// It begins as the script does, by `opening`, and goes on record by record: what each puts is said and proved here, and what a slot's line is in
-// `watch_text`.
-ghost use mathlib.Core.Path.{_≡_};
-ghost use mathlib.Core.Bool.{true};
-ghost use Prim.Native.Nat.{_≤_};
-ghost use lib.ListN.{length};
-ghost use Rattle.rules.specs.Modelled.{memoryBytes};
-ghost use Rattle.rules.specs.Refusals.{inRange};
-ghost use Rattle.watch.specs.Steps.{stepOf};
-ghost use Rattle.watch.specs.Reading.{Went, Watched};
-use libc::STDIN_FILENO;
+// It begins as the script does, by `opening`, and goes on by `watch_streams`: all that decides is said and proved there and in `watch_text`.
 use libc::STDOUT_FILENO;
-use rules::Bus;
-
-// The bus after a step, and where what it put ends.
-struct Stepped {
-    bus: Bus,
-    end: usize,
-}
-
-// A record is run, and its line and those of the slots that it changed are put at the front of the output; of fewer bytes, with which the input ends,
-// the last line is.
-fn step(bus: Bus, mem: &mut [u8], bytes: &[u8], out: &mut [u8]) -> Stepped
-    requires { ⌜ (inRange bus ≡ true) × (length (now mem) ≡ memoryBytes) × (23204 ≤ length (now out)) ⌝ }
-    ensures { λ r. ⌜ (stepOf (record { bus = bus; memory = now (mem .entry) }) (now (bytes .entry)) (now (out .entry))
-        ≡ (r, now (mem .exit), now (out .exit))) × (r .end ≤ length (now (out .entry))) ⌝ }
-{
-    if bytes.len() < 4 {
-        let end = script_turns::frame::finish(bytes.len(), out);
-        return Stepped { bus, end };
-    }
-    let e = script_text::records::record_at(bytes, 0);
-    let x = bus_event::event_in_range(bus, mem, e);
-    let answer = x.answer;
-    let line = script_text::letters::put_line(out, 0, answer);
-    let next = x.bus;
-    let was = bus.slots;
-    let is = next.slots;
-    let end = watch_text::lines::put_changes(out, line, was, is);
-    Stepped { bus: next, end }
-}
-
-// What goes from one read to the next: the bus, whether what was put is written, and whether to go on.
-struct Going {
-    bus: Bus,
-    told: bool,
-    on: bool,
-}
-
-// Writes the front of the output, as far as its end says. False where the write failed.
-fn tell(out: &[u8], end: usize) -> bool
-    requires { ⌜ end ≤ length (now out) ⌝ }
-{
-    io::write_all(STDOUT_FILENO, &out[..end])
-}
-
-// The bytes of one record are read, or as many as come, and a step is taken with them and told. It goes on after a whole record, unless the write
-// failed.
-fn read_on(bus: Bus, mem: &mut [u8], out: &mut [u8]) -> Going
-    requires { ⌜ (inRange bus ≡ true) × (length (now mem) ≡ memoryBytes) × (length (now out) ≡ 65536) ⌝ }
-    ensures { λ r. ⌜ (inRange (r .bus) ≡ true) × Went (record { bus = bus; memory = now (mem .entry) }) (now (out .entry))
-        r (now (mem .exit)) (now (out .exit)) ⌝ }
-{
-    let mut four = [0u8; 4];
-    let n = io::read_full(STDIN_FILENO, &mut four);
-    let s = step(bus, mem, &four[..n], out);
-    let end = s.end;
-    let told = tell(out, end);
-    let next = s.bus;
-    Going {
-        bus: next,
-        told,
-        on: told & (4 <= n),
-    }
-}
-
-// All present slots, and then record after record, until the input ends or a write fails: what is told of a record is written before the next is
-// waited for. Whether all of it is written. A proved loop has to end, so it counts down from a number that no input uses up.
-fn watch(bus: Bus, mem: &mut [u8], out: &mut [u8]) -> bool
-    requires { ⌜ (inRange bus ≡ true) × (length (now mem) ≡ memoryBytes) × (length (now out) ≡ 65536) ⌝ }
-    ensures { λ r. ⌜ Watched bus (now (mem .entry)) (now (out .entry)) r (now (mem .exit)) (now (out .exit)) ⌝ }
-{
-    let end = watch_text::lines::put_bench(out, bus);
-    let told = tell(out, end);
-    let mut g = Going {
-        bus,
-        told,
-        on: told,
-    };
-    let mut turns = u64::MAX;
-    while g.on & (0 < turns) {
-        let now = g.bus;
-        g = read_on(now, mem, out);
-        turns -= 1;
-    }
-    g.told
-}
 
 fn main() {
     let mut mem = [0u8; 4096];
@@ -103,6 +8,6 @@ fn main() {
     let begun = script_streams::opening::begin(STDOUT_FILENO, &mut mem, &mut out);
     if begun.on {
         let bus = begun.bus;
-        watch(bus, &mut mem, &mut out);
+        watch_streams::watch(bus, &mut mem, &mut out);
     }
 }

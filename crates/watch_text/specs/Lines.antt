@@ -15,7 +15,7 @@ use Rattle.script_text.specs.Decimal.{decimal}
 use Rattle.script_text.specs.Quoted.{quoted}
 use Rattle.watch_text.specs.Numbers.{numbersOf}
 
--- the names of a slot's numbers, in their order
+-- the names of a slot's numbers, in their order; the last three, the pin's, are of numbers that a slot without sensor has not
 unfoldable pub names : List String
 names =
     "kind" ∷ "length" ∷ "left" ∷ "half" ∷ "counter" ∷ "place" ∷ "voltage" ∷ "phase"
@@ -25,7 +25,8 @@ names =
     ∷ "latch8" ∷ "latch9" ∷ "latch10" ∷ "latch11" ∷ "latch12" ∷ "latch13" ∷ "latch14" ∷ "latch15"
     ∷ "mark0" ∷ "mark1" ∷ "mark2" ∷ "mark3" ∷ "mark4" ∷ "mark5" ∷ "mark6" ∷ "mark7"
     ∷ "mark8" ∷ "mark9" ∷ "mark10" ∷ "mark11" ∷ "mark12" ∷ "mark13" ∷ "mark14" ∷ "mark15"
-    ∷ "pointer" ∷ "configuration" ∷ "high" ∷ "low" ∷ "critical" ∷ "temperature" ∷ "resolution" ∷ "timeout" ∷ "word" ∷ []
+    ∷ "pointer" ∷ "configuration" ∷ "high" ∷ "low" ∷ "critical" ∷ "temperature" ∷ "resolution" ∷ "timeout" ∷ "word"
+    ∷ "asserted" ∷ "level" ∷ "pending" ∷ []
 
 -- "`name=number`", behind a space
 unfoldable pub numberText : String → ℕ → List ℕ

@@ -7,6 +7,8 @@ use Rattle.rules.specs.declared.Phase.{Phase}
 use Rattle.rules.specs.declared.Phase.the-variants.{Idle, Control, Deaf, MemoryCounter, MemoryData, MemoryRead, HalfSelected, CommandAddress, CommandData, CommandStop, SensorPointer, SensorHigh, SensorLow, SensorReadHigh, SensorReadLow}
 use Rattle.rules.specs.declared.Sensor.{Sensor}
 use Rattle.rules.specs.declared.Slot.{Slot}
+use Rattle.rules.specs.Modelled.{sensing}
+use Rattle.rules.specs.Pin.{asserted, levelOf}
 
 -- what is on or off is 1 or 0
 unfoldable pub bit : Bool → ℕ
@@ -39,7 +41,13 @@ unfoldable pub sensorNumbers : Sensor → List ℕ
 sensorNumbers x =
     x .pointer ∷ x .configuration ∷ x .high ∷ x .low ∷ x .critical ∷ x .temperature ∷ x .resolution ∷ x .timeout ∷ x .word ∷ []
 
--- all: protection and what is coming block by block, the page latch byte by byte, and which of its bytes were written
+-- "`asserted=`, `level=` and `pending=`, each 0 or 1"
+unfoldable pub pinNumbers : Sensor → List ℕ
+pinNumbers x = bit (asserted x) ∷ bit (levelOf x) ∷ bit (x .pending) ∷ []
+
+-- all: protection and what is coming block by block, the page latch byte by byte, and which of its bytes were written; the pin's "at the end of a
+-- sensor's line", and in no other
 unfoldable pub numbersOf : Slot → List ℕ
 numbersOf s =
-    plainNumbers s ++ (map bit (s .protection) ++ (map bit (s .coming) ++ (s .latch ++ (map bit (s .marks) ++ sensorNumbers (s .sensor)))))
+    plainNumbers s ++ (map bit (s .protection) ++ (map bit (s .coming) ++ (s .latch ++ (map bit (s .marks) ++ (sensorNumbers (s .sensor)
+    ++ cond (sensing s) (pinNumbers (s .sensor)) [])))))

@@ -2,13 +2,15 @@
 ghost use mathlib.Core.Path.{_≡_};
 ghost use lib.ListN.{getD};
 ghost use Rattle.proof_lists.specs.Same.{same};
-ghost use Rattle.watch_text.specs.Numbers.{bit, phaseNumber, plainNumbers, sensorNumbers, numbersOf};
+ghost use Rattle.watch_text.specs.Numbers.{bit, phaseNumber, plainNumbers, sensorNumbers, pinNumbers, numbersOf};
 use rules::Phase;
 use rules::Sensor;
 use rules::Slot;
 
-// How many they are.
-pub const COUNT: usize = 57;
+// How many they are at most, and how many without the pin's, which only a slot with a sensor has.
+pub const COUNT: usize = 60;
+
+const PIN: usize = 57;
 
 // One or none.
 fn one(on: bool) -> u16
@@ -80,6 +82,13 @@ fn sensor_numbers(x: Sensor) -> [u16; 9]
     ]
 }
 
+fn pin_numbers(x: Sensor) -> [u16; 3]
+    ensures { λ r. ⌜ r ≡ pinNumbers x ⌝ }
+{
+    let p = bus_sensor::pin::pin(x);
+    [one(p.asserted), one(p.level), one(x.pending)]
+}
+
 // The number at a place; behind the last there is none, and it is 0.
 pub fn number(s: Slot, k: usize) -> u16
     ensures { λ r. ⌜ r ≡ getD (numbersOf s) k 0 ⌝ }
@@ -100,10 +109,18 @@ pub fn number(s: Slot, k: usize) -> u16
     if k < 48 {
         return one(s.marks[k - 32]);
     }
-    if k < COUNT {
+    if k < PIN {
         let x = s.sensor;
         let all = sensor_numbers(x);
         return all[k - 48];
+    }
+    if s.kind != 2 {
+        return 0;
+    }
+    if k < COUNT {
+        let x = s.sensor;
+        let all = pin_numbers(x);
+        return all[k - PIN];
     }
     0
 }

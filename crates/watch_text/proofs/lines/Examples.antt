@@ -2,7 +2,7 @@
 -- Assumes nothing.
 use Prim.Native.Nat.{ℕ, zero, suc}
 use mathlib.Core.Path.{_≡_, refl, sym}
-use mathlib.Core.Bool.{true, false, false≢true}
+use mathlib.Core.Bool.{Bool, true, false, false≢true}
 use mathlib.Core.List.{List, [], _∷_, _++_}
 use native.Mathlib.Omega.{arith}
 use borrow.Author.Tests.{ne-eqb}
@@ -12,16 +12,16 @@ use Rattle.proof_lists.specs.Same.{same}
 use Rattle.rules.specs.declared.Phase.the-variants.{SensorReadHigh}
 use Rattle.rules.specs.declared.Slot.{Slot}
 use Rattle.rules.specs.Modelled.{absent}
-use Rattle.rules.specs.Fields.{withLeft, holding}
+use Rattle.rules.specs.Fields.{withLeft, withSensor, withPending}
 use Rattle.rules.specs.Fresh.{freshSlot, absentSlot}
 use Rattle.script_text.specs.Quoted.{quoted}
 use Rattle.watch_text.specs.Lines.{slotLine, changeLine, changeLines}
 use Rattle.watch_text.specs.Open.{open-lines}
 
--- no two numbers here are the same where they could be mistaken for one another
-abbrev sample : Slot
-sample = record {
-  kind = 2;
+-- no two numbers here are the same where they could be mistaken for one another: a slot of some kind, with a change pending or none
+abbrev sample : ℕ → Bool → Slot
+sample kind pending = record {
+  kind = kind;
   length = 5;
   left = 3;
   half = 1;
@@ -33,27 +33,43 @@ sample = record {
   latch = 100 ∷ 101 ∷ 102 ∷ 103 ∷ 104 ∷ 105 ∷ 106 ∷ 107 ∷ 108 ∷ 109 ∷ 110 ∷ 111 ∷ 112 ∷ 113 ∷ 114 ∷ 115 ∷ [];
   marks = true ∷ true ∷ false ∷ true ∷ false ∷ false ∷ true ∷ false ∷ false ∷ false ∷ true ∷ false ∷ false ∷ false ∷ false ∷ true ∷ [];
   place = 15;
-  sensor = record { pointer = 7; configuration = 1999; high = 8188; low = 4096; critical = 8184; temperature = 65535; resolution = 4; timeout = 0; word = 1000 };
+  sensor = record { pointer = 7; configuration = 1993; high = 8188; low = 4096; critical = 8184; temperature = 65535; resolution = 4; timeout = 0; word = 1000; pending = pending };
 }
 
-pub sample-line : slotLine 6 sample
-    ≡ quoted "6 kind=2 length=5 left=3 half=1 counter=200 place=15 voltage=1 phase=13 protection0=1 protection1=0 protection2=0 protection3=1"
+-- its line, from its length to its word
+abbrev middle : List ℕ
+middle =
+    quoted " length=5 left=3 half=1 counter=200 place=15 voltage=1 phase=13 protection0=1 protection1=0 protection2=0 protection3=1"
     ++ quoted " coming0=0 coming1=1 coming2=0 coming3=0 latch0=100 latch1=101 latch2=102 latch3=103 latch4=104 latch5=105 latch6=106 latch7=107"
     ++ quoted " latch8=108 latch9=109 latch10=110 latch11=111 latch12=112 latch13=113 latch14=114 latch15=115"
     ++ quoted " mark0=1 mark1=1 mark2=0 mark3=1 mark4=0 mark5=0 mark6=1 mark7=0 mark8=0 mark9=0 mark10=1 mark11=0 mark12=0 mark13=0 mark14=0 mark15=1"
-    ++ quoted " pointer=7 configuration=1999 high=8188 low=4096 critical=8184 temperature=65535 resolution=4 timeout=0 word=1000\n"
+    ++ quoted " pointer=7 configuration=1993 high=8188 low=4096 critical=8184 temperature=65535 resolution=4 timeout=0 word=1000"
+
+-- with a change pending, in interrupt mode and active low; without one, asserted by the critical flag; and without a sensor, which has no pin
+pub sample-line : slotLine 6 (sample 2 true) ≡ quoted "6 kind=2" ++ middle ++ quoted " asserted=1 level=0 pending=1\n"
 unfolding open-lines
 sample-line = refl
 
+pub critical-line : slotLine 6 (sample 2 false) ≡ quoted "6 kind=2" ++ middle ++ quoted " asserted=1 level=0 pending=0\n"
+unfolding open-lines
+critical-line = refl
+
+pub plain-line : slotLine 6 (sample 1 false) ≡ quoted "6 kind=1" ++ middle ++ quoted "\n"
+unfolding open-lines
+plain-line = refl
+
 -- Of eight slots the second and the last changed, the last in its last number alone; the third is as it was; the first, which is absent, changed too
 -- and has no line
+abbrev pended : Slot → Slot
+pended s = withSensor (withPending true (s .sensor)) s
+
 abbrev was : List Slot
 was = absentSlot ∷ freshSlot 1 3 ∷ freshSlot 2 4 ∷ replicate 4 absentSlot ++ freshSlot 2 1 ∷ []
 
 abbrev is : List Slot
-is = withLeft 2 absentSlot ∷ withLeft 2 (freshSlot 1 3) ∷ freshSlot 2 4 ∷ replicate 4 absentSlot ++ holding 1 (freshSlot 2 1) ∷ []
+is = withLeft 2 absentSlot ∷ withLeft 2 (freshSlot 1 3) ∷ freshSlot 2 4 ∷ replicate 4 absentSlot ++ pended (freshSlot 2 1) ∷ []
 
-pub changed-alone : changeLines was is ≡ slotLine 1 (withLeft 2 (freshSlot 1 3)) ++ slotLine 7 (holding 1 (freshSlot 2 1))
+pub changed-alone : changeLines was is ≡ slotLine 1 (withLeft 2 (freshSlot 1 3)) ++ slotLine 7 (pended (freshSlot 2 1))
 unfolding open-lines
 changed-alone = refl
 

@@ -10,7 +10,7 @@ use native.Mathlib.Numerals.{add-one}
 use native.Mathlib.Omega.{arith}
 use borrow.Author.Tests.{eq-eqb, ne-eqb}
 use lib.Dec.{eqb}
-use lib.ListN.{length, getD, drop}
+use lib.ListN.{length, getD, take, drop, List·getD-append}
 use lib.Seq.{sets, drop-cons, drop-drop, getD-drop}
 use Rattle.proof_lists.specs.Each.{allOf, getD-any}
 use Rattle.proof_lists.specs.Same.{same}
@@ -25,6 +25,7 @@ use Rattle.script_text.specs.Quoted.{quoted}
 use Rattle.script_text.proofs.letters.Decimal.{decimal-one, digits-most}
 use Rattle.script_text.proofs.letters.Laws.{Put, put-on}
 use Rattle.watch_text.specs.Numbers.{numbersOf}
+use Rattle.watch_text.proofs.numbers.Laws.{countOf}
 use Rattle.watch_text.specs.Lines.{names, numberText, numberTexts, slotLine, changeLine, changeLinesTo, changeLines, benchLines}
 
 -- a text with the next of some numbers behind each sign
@@ -68,14 +69,38 @@ told-names (name ∷ ss) (n ∷ ns) h l =
     ∙ sym (append-assoc (quoted name) (0x3D ∷ decimal n) (numberTexts ss ns)) in
     ap (λ (l : List ℕ). 0x20 ∷ l) p
 
--- THE NAMES: 483 characters, without a sign in any of them
-pub names-length : length (signed names) ≡ 483
-unfolding signed names quoted
-names-length = refl
+-- THE NAMES, of a slot with a sensor, or without: 509 characters, or 483 of them
+abbrev pub namesFor : Bool → List String
+namesFor b = cond b names (take 57 names)
 
-pub slot-told : (s : Slot) → length (numbersOf s) ≡ 57 → told (signed names) (numbersOf s) ≡ numberTexts names (numbersOf s)
+pub names-length : (b : Bool) → length (signed (namesFor b)) ≡ cond b 509 483
+unfolding signed names quoted
+names-length true = refl
+names-length false = refl
+
+pub names-at : (b : Bool) (i : ℕ) → i < cond b 509 483 → getD (signed names) i 0 ≡ getD (signed (namesFor b)) i 0
+unfolding signed names quoted
+names-at true i h = refl
+names-at false i h = List·getD-append (signed (take 57 names)) (signed (drop 57 names)) 0 i h
+
+pub names-most : (b : Bool) → cond b 509 483 ≤ 509
+names-most true = omega arith
+names-most false = omega arith
+
+-- names for which there is no number are not told
+texts-take : (k : ℕ) (ss : List String) (ns : List ℕ) → length ns ≤ k → numberTexts (take k ss) ns ≡ numberTexts ss ns
+unfolding numberTexts
+texts-take zero [] ns h = refl
+texts-take zero (name ∷ ss) [] h = refl
+texts-take zero (name ∷ ss) (n ∷ ns) h = absurd (omega arith)
+texts-take (suc k) [] ns h = refl
+texts-take (suc k) (name ∷ ss) [] h = refl
+texts-take (suc k) (name ∷ ss) (n ∷ ns) h = ap (numberText name n ++_) (texts-take k ss ns (omega arith))
+
+pub slot-told : (b : Bool) (ns : List ℕ) → length ns ≡ countOf b → told (signed (namesFor b)) ns ≡ numberTexts names ns
 unfolding names quoted allOf
-slot-told s l = told-names names (numbersOf s) refl l
+slot-told true ns l = told-names names ns refl l
+slot-told false ns l = told-names (take 57 names) ns refl l ∙ texts-take 57 names ns (omega arith)
 
 -- the first i characters of a text are put, with the first k numbers behind their signs
 pub record Telling (t ns from₀ : List ℕ) (from i k at : ℕ) (out : List ℕ) : Type 0 where
@@ -160,12 +185,12 @@ unfolding changeLine
 change-some n was is e = rw e
 
 pub untold : (n at : ℕ) (was is : Slot) (out : List ℕ) (alike : Bool) → alike ≡ same (numbersOf was) (numbersOf is) → (eqb (is .kind) 0 || alike) ≡ true
-    → Within 2900 out at (changeLine n was is) at out
+    → Within 3056 out at (changeLine n was is) at out
 unfolding absent
 untold n at was is out alike e t = rw (change-none n was is (rw e at t)) (omega arith, refl, omega arith)
 
 pub told-so : (n at end : ℕ) (was is : Slot) (out o : List ℕ) (alike : Bool) → alike ≡ same (numbersOf was) (numbersOf is) → (eqb (is .kind) 0 || alike) ≡ false
-    → Within 2900 out at (slotLine n is) end o → Within 2900 out at (changeLine n was is) end o
+    → Within 3056 out at (slotLine n is) end o → Within 3056 out at (changeLine n was is) end o
 unfolding absent
 told-so n at end was is out o alike e t p = rw (change-some n was is (rw e at t)) p
 
@@ -184,8 +209,8 @@ unfolding changeLinesTo
 changes-none was is = refl
 
 -- all slots of a bench
-pub bench-by : (b none : Bus) (out o : List ℕ) (end : ℕ) → none ≡ emptyBus → Within 23200 out 0 (changeLines (none .slots) (b .slots)) end o
-    → (end ≡ length (benchLines b)) × (o ≡ sets out 0 (benchLines b)) × (end ≤ 23200)
+pub bench-by : (b none : Bus) (out o : List ℕ) (end : ℕ) → none ≡ emptyBus → Within 24448 out 0 (changeLines (none .slots) (b .slots)) end o
+    → (end ≡ length (benchLines b)) × (o ≡ sets out 0 (benchLines b)) × (end ≤ 24448)
 unfolding benchLines
 bench-by b none out o end e p =
     let t : changeLines (none .slots) (b .slots) ≡ changeLines (emptyBus .slots) (b .slots) = ap (λ (n : Bus). changeLines (n .slots) (b .slots)) e in

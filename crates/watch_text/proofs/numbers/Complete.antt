@@ -1,17 +1,21 @@
 -- The numbers are complete: slots with the same numbers are the same.
 -- Assumes nothing.
 use mathlib.Core.Path.{_≡_, refl, sym, _∙_, ap}
-use mathlib.Core.Bool.{Bool, true, false}
+use mathlib.Core.Bool.{Bool, true, false, false≢true, not, _&&_, _||_}
 use mathlib.Core.List.{List, [], _∷_}
 use Prim.Native.Nat.{ℕ, _+_, _-_, _<_}
 use native.Mathlib.Omega.{arith}
+use lib.Dec.{eqb}
 use lib.ListN.{length, getD}
 use lib.Seq.{ext-getD}
+use Rattle.proof_lists.specs.Tests.{by-test}
 use Rattle.rules.specs.declared.Phase.{Phase}
 use Rattle.rules.specs.declared.Phase.the-variants.{Idle, Control, Deaf, MemoryCounter, MemoryData, MemoryRead, HalfSelected, CommandAddress, CommandData, CommandStop, SensorPointer, SensorHigh, SensorLow, SensorReadHigh, SensorReadLow}
 use Rattle.rules.specs.declared.Slot.{Slot}
-use Rattle.watch_text.specs.Numbers.{bit, phaseNumber, plainNumbers, sensorNumbers, numbersOf}
-use Rattle.watch_text.proofs.numbers.Laws.{Sized, plain-at, protection-at, coming-at, latch-at, mark-at, sensor-at}
+use Rattle.rules.specs.Modelled.{sensing}
+use Rattle.rules.specs.Refusals.{pendingInRange}
+use Rattle.watch_text.specs.Numbers.{bit, phaseNumber, plainNumbers, sensorNumbers, pinNumbers, numbersOf}
+use Rattle.watch_text.proofs.numbers.Laws.{Sized, plain-at, protection-at, coming-at, latch-at, mark-at, sensor-at, pin-at}
 
 -- a bit and a phase, back from their numbers
 bit-back : (a b : Bool) → bit a ≡ bit b → a ≡ b
@@ -44,6 +48,19 @@ phase-back SensorLow = refl
 phase-back SensorReadHigh = refl
 phase-back SensorReadLow = refl
 
+-- of what is pending a slot without sensor says nothing in its line, since nothing can be: row 6 asks for that
+abbrev pub Quiet : Slot → Type 0
+Quiet s = sensing s ≡ false → s .sensor .pending ≡ false
+
+pub in-range-quiet : (s : Slot) → pendingInRange s ≡ true → Quiet s
+unfolding pendingInRange
+in-range-quiet s h e = off (s .sensor .pending) (sensing s) _ h e
+  where
+    off : (p b c : Bool) → (not p || b && c) ≡ true → b ≡ false → p ≡ false
+    off true true c h e = absurd (false≢true (sym e))
+    off true false c h e = absurd (false≢true h)
+    off false b c h e = refl
+
 module _ (s t : Slot) (y : Sized s) (z : Sized t) (e : numbersOf s ≡ numbersOf t) where
   at : (k : ℕ) → getD (numbersOf s) k 0 ≡ getD (numbersOf t) k 0
   at k = ap (λ (l : List ℕ). getD l k 0) e
@@ -51,11 +68,23 @@ module _ (s t : Slot) (y : Sized s) (z : Sized t) (e : numbersOf s ≡ numbersOf
   plain : (k : ℕ) → k < 8 → getD (plainNumbers s) k 0 ≡ getD (plainNumbers t) k 0
   plain k h = sym (plain-at s k h) ∙ at k ∙ plain-at t k h
 
-  sensor : (k : ℕ) → getD (sensorNumbers (s .sensor)) k 0 ≡ getD (sensorNumbers (t .sensor)) k 0
-  sensor k =
+  sensor : (k : ℕ) → k < 9 → getD (sensorNumbers (s .sensor)) k 0 ≡ getD (sensorNumbers (t .sensor)) k 0
+  sensor k h =
       let n : k + 48 - 48 ≡ k = omega arith in
-      sym (ap (λ i. getD (sensorNumbers (s .sensor)) i 0) n) ∙ sensor-at s (k + 48) y (omega arith) ∙ at (k + 48)
-      ∙ sym (sensor-at t (k + 48) z (omega arith)) ∙ ap (λ i. getD (sensorNumbers (t .sensor)) i 0) n
+      sym (ap (λ i. getD (sensorNumbers (s .sensor)) i 0) n) ∙ sensor-at s (k + 48) y (omega arith) (omega arith) ∙ at (k + 48)
+      ∙ sym (sensor-at t (k + 48) z (omega arith) (omega arith)) ∙ ap (λ i. getD (sensorNumbers (t .sensor)) i 0) n
+
+  kinds : s .kind ≡ t .kind
+  unfolding plainNumbers
+  kinds = plain 0 (omega arith)
+
+  pends : Quiet s → Quiet t → s .sensor .pending ≡ t .sensor .pending
+  unfolding sensing pinNumbers
+  pends q r =
+      let k : sensing t ≡ sensing s = ap (λ n. eqb n 2) (sym kinds) in
+      by-test (sensing s)
+      (λ e. bit-back _ _ (pin-at s 59 y (omega arith) e ∙ at 59 ∙ sym (pin-at t 59 z (omega arith) (k ∙ e))))
+      (λ e. q e ∙ sym (r (k ∙ e)))
 
   -- an array of bits from place `from` on
   bits : (from n : ℕ) (p q : List Bool) → length p ≡ n → length q ≡ n
@@ -75,31 +104,32 @@ module _ (s t : Slot) (y : Sized s) (z : Sized t) (e : numbersOf s ≡ numbersOf
       sym (ap (λ j. getD (s .latch) j 0) c) ∙ latch-at s (16 + k) y (omega arith) (omega arith) ∙ at (16 + k)
       ∙ sym (latch-at t (16 + k) z (omega arith) (omega arith)) ∙ ap (λ j. getD (t .latch) j 0) c)
 
-  sensors : s .sensor ≡ t .sensor
+  sensors : Quiet s → Quiet t → s .sensor ≡ t .sensor
   unfolding sensorNumbers
-  sensors = λ i. record {
-    pointer = sensor 0 i;
-    configuration = sensor 1 i;
-    high = sensor 2 i;
-    low = sensor 3 i;
-    critical = sensor 4 i;
-    temperature = sensor 5 i;
-    resolution = sensor 6 i;
-    timeout = sensor 7 i;
-    word = sensor 8 i;
+  sensors q r = λ i. record {
+    pointer = sensor 0 (omega arith) i;
+    configuration = sensor 1 (omega arith) i;
+    high = sensor 2 (omega arith) i;
+    low = sensor 3 (omega arith) i;
+    critical = sensor 4 (omega arith) i;
+    temperature = sensor 5 (omega arith) i;
+    resolution = sensor 6 (omega arith) i;
+    timeout = sensor 7 (omega arith) i;
+    word = sensor 8 (omega arith) i;
+    pending = pends q r i;
   }
 
-  -- EVERY NUMBER IS TOLD: two slots that are told alike are the same slot
-  pub numbers-decide : s ≡ t
+  -- EVERY NUMBER IS TOLD: two slots that are told alike, with nothing pending where there is no sensor, are the same slot
+  pub numbers-decide : Quiet s → Quiet t → s ≡ t
   unfolding plainNumbers
-  numbers-decide =
+  numbers-decide q r =
       let p : s .protection ≡ t .protection = bits 8 4 (s .protection) (t .protection) (y .0) (z .0) (λ k h. protection-at s (8 + k) y (omega arith) (omega arith)) (λ k h. protection-at t (8 + k) z (omega arith) (omega arith)) in
       let c : s .coming ≡ t .coming = bits 12 4 (s .coming) (t .coming) (y .1) (z .1) (λ k h. coming-at s (12 + k) y (omega arith) (omega arith)) (λ k h. coming-at t (12 + k) z (omega arith) (omega arith)) in
       let m : s .marks ≡ t .marks = bits 32 16 (s .marks) (t .marks) (y .3) (z .3) (λ k h. mark-at s (32 + k) y (omega arith) (omega arith)) (λ k h. mark-at t (32 + k) z (omega arith) (omega arith)) in
       let v : s .voltage ≡ t .voltage = bit-back _ _ (plain 6 (omega arith)) in
       let a : s .phase ≡ t .phase = sym (phase-back (s .phase)) ∙ ap phaseOf (plain 7 (omega arith)) ∙ phase-back (t .phase) in
       λ i. record {
-        kind = plain 0 (omega arith) i;
+        kind = kinds i;
         length = plain 1 (omega arith) i;
         left = plain 2 (omega arith) i;
         half = plain 3 (omega arith) i;
@@ -111,5 +141,5 @@ module _ (s t : Slot) (y : Sized s) (z : Sized t) (e : numbersOf s ≡ numbersOf
         latch = latches i;
         marks = m i;
         place = plain 5 (omega arith) i;
-        sensor = sensors i;
+        sensor = sensors q r i;
       }

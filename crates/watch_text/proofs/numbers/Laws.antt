@@ -1,18 +1,23 @@
 -- Where each number of a slot stands among all of them.
 -- Assumes nothing.
 use mathlib.Core.Path.{_≡_, refl, sym, _∙_, ap, ap₂}
-use mathlib.Core.Bool.{Bool, true, false, _&&_}
+use mathlib.Core.Bool.{Bool, true, false, cond, _&&_, and-true}
 use mathlib.Core.List.{List, [], _∷_, _++_, map}
 use Prim.Native.Nat.{ℕ, zero, suc, _+_, _-_, _≤_, _<_}
 use native.Mathlib.Nat.{zero-add}
 use native.Mathlib.Omega.{arith}
+use borrow.Author.Tests.{eqb-true}
 use lib.Dec.{eqb}
-use lib.ListN.{length, getD, take, drop, length-append, length-map, List·getD-append, List·getD-map}
+use lib.ListN.{length, getD, take, drop, replicate, length-append, length-map, length-replicate, List·getD-append, List·getD-map}
 use lib.Seq.{getD-append-add}
-use Rattle.proof_lists.specs.Same.{same, stands-step, stands-start, stands-end, stands-whole}
+use Rattle.proof_lists.specs.Same.{same, same-refl, same-append, stands-step, stands-start, stands-end, stands-whole}
+use Rattle.proof_lists.specs.Tests.{by-test}
+use Rattle.rules.specs.declared.Pin.{Pin}
 use Rattle.rules.specs.declared.Sensor.{Sensor}
 use Rattle.rules.specs.declared.Slot.{Slot}
-use Rattle.watch_text.specs.Numbers.{bit, plainNumbers, sensorNumbers, numbersOf}
+use Rattle.rules.specs.Modelled.{sensing}
+use Rattle.rules.specs.Pin.{pinOf}
+use Rattle.watch_text.specs.Numbers.{bit, plainNumbers, sensorNumbers, pinNumbers, numbersOf}
 
 -- behind the first n of a list stands what follows them
 behind : (xs ys : List ℕ) (n k : ℕ) → length xs ≡ n → n ≤ k → getD (xs ++ ys) k 0 ≡ getD ys (k - n) 0
@@ -35,9 +40,21 @@ pub sensor-length : (x : Sensor) → length (sensorNumbers x) ≡ 9
 unfolding sensorNumbers
 sensor-length x = refl
 
+pub pin-length : (x : Sensor) → length (pinNumbers x) ≡ 3
+unfolding pinNumbers
+pin-length x = refl
+
+pub pin-by : (x : Sensor) (p : Pin) (a l q : ℕ) → p ≡ pinOf x → a ≡ bit (p .asserted) → l ≡ bit (p .level) → q ≡ bit (x .pending)
+    → a ∷ l ∷ q ∷ [] ≡ pinNumbers x
+unfolding pinNumbers pinOf
+pin-by x p a l q e f g h = λ i. (f ∙ ap (λ (z : Pin). bit (z .asserted)) e) i ∷ (g ∙ ap (λ (z : Pin). bit (z .level)) e) i ∷ h i ∷ []
+
 -- the parts of a slot's numbers
+abbrev pub pinsOf : Slot → List ℕ
+pinsOf s = cond (sensing s) (pinNumbers (s .sensor)) []
+
 abbrev behindMarks : Slot → List ℕ
-behindMarks s = sensorNumbers (s .sensor)
+behindMarks s = sensorNumbers (s .sensor) ++ pinsOf s
 
 abbrev behindLatch : Slot → List ℕ
 behindLatch s = map bit (s .marks) ++ behindMarks s
@@ -91,46 +108,120 @@ module _ (s : Slot) (k : ℕ) where
     pub mark-at : 32 ≤ k → k < 48 → bit (getD (s .marks) (k - 32) false) ≡ getD (numbersOf s) k 0
     mark-at h l = sym (from-32 h ∙ among (s .marks) (behindMarks s) (k - 32) (rw (z .3) (omega arith)))
 
-    pub sensor-at : 48 ≤ k → getD (sensorNumbers (s .sensor)) (k - 48) 0 ≡ getD (numbersOf s) k 0
-    sensor-at h =
+    from-48 : 48 ≤ k → getD (numbersOf s) k 0 ≡ getD (behindMarks s) (k - 48) 0
+    from-48 h =
         let e : k - 32 - 16 ≡ k - 48 = omega arith in
-        sym (from-32 (omega arith) ∙ behind (map bit (s .marks)) (behindMarks s) 16 (k - 32) (length-map (s .marks) bit ∙ z .3) (omega arith)
-        ∙ ap (λ i. getD (behindMarks s) i 0) e)
+        from-32 (omega arith) ∙ behind (map bit (s .marks)) (behindMarks s) 16 (k - 32) (length-map (s .marks) bit ∙ z .3) (omega arith)
+        ∙ ap (λ i. getD (behindMarks s) i 0) e
 
-    pub none-at : 57 ≤ k → 0 ≡ getD (numbersOf s) k 0
-    none-at h = past (sensorNumbers (s .sensor)) (k - 48) (rw (sensor-length (s .sensor)) (omega arith)) ∙ sensor-at (omega arith)
+    pub sensor-at : 48 ≤ k → k < 57 → getD (sensorNumbers (s .sensor)) (k - 48) 0 ≡ getD (numbersOf s) k 0
+    sensor-at h l =
+        sym (from-48 h ∙ List·getD-append (sensorNumbers (s .sensor)) (pinsOf s) 0 (k - 48) (rw (sensor-length (s .sensor)) (omega arith)))
+
+    from-57 : 57 ≤ k → getD (numbersOf s) k 0 ≡ getD (pinsOf s) (k - 57) 0
+    from-57 h =
+        let e : k - 48 - 9 ≡ k - 57 = omega arith in
+        from-48 (omega arith) ∙ behind (sensorNumbers (s .sensor)) (pinsOf s) 9 (k - 48) (sensor-length (s .sensor)) (omega arith)
+        ∙ ap (λ i. getD (pinsOf s) i 0) e
+
+    pub pin-at : 57 ≤ k → sensing s ≡ true → getD (pinNumbers (s .sensor)) (k - 57) 0 ≡ getD (numbersOf s) k 0
+    pin-at h e = sym (from-57 h ∙ ap (λ (b : Bool). getD (cond b (pinNumbers (s .sensor)) []) (k - 57) 0) e)
+
+    pub none-at : 57 ≤ k → (sensing s ≡ true → 60 ≤ k) → 0 ≡ getD (numbersOf s) k 0
+    none-at h f =
+        by-test (sensing s) (λ e. past (pinNumbers (s .sensor)) (k - 57) (rw (pin-length (s .sensor)) (let g = f e in omega arith)) ∙ pin-at h e)
+        (λ e. sym (from-57 h ∙ ap (λ (b : Bool). getD (cond b (pinNumbers (s .sensor)) []) (k - 57) 0) e))
       where
         past : (xs : List ℕ) (n : ℕ) → length xs ≤ n → 0 ≡ getD xs n 0
         past [] n h = refl
         past (x ∷ xs) zero h = absurd (omega arith)
         past (x ∷ xs) (suc n) h = past xs n (omega arith)
 
--- how many they are
-pub numbers-length : (s : Slot) → Sized s → length (numbersOf s) ≡ 57
+-- how many they are: with a sensor, and without
+abbrev pub countOf : Bool → ℕ
+countOf b = cond b 60 57
+
+pub numbers-length : (s : Slot) → Sized s → length (numbersOf s) ≡ countOf (sensing s)
 unfolding numbersOf
 numbers-length s z =
-    simp (length-append, length-map) (rw (plain-length s, sensor-length (s .sensor), z .0, z .1, z .2, z .3))
+    simp (length-append, length-map) (rw (plain-length s, sensor-length (s .sensor), z .0, z .1, z .2, z .3) (by-kind (sensing s)))
+  where
+    by-kind : (b : Bool) → 8 + (4 + (4 + (16 + (16 + (9 + length (cond b (pinNumbers (s .sensor)) [])))))) ≡ countOf b
+    by-kind true = ap (λ n. 8 + (4 + (4 + (16 + (16 + (9 + n)))))) (pin-length (s .sensor))
+    by-kind false = refl
 
--- whether the first k of two lists of 57 are the same
+-- the numbers of a slot with noughts behind them, which are 60 whatever its kind: what the code looks at, one by one
+pub wide : List ℕ → List ℕ
+wide xs = xs ++ replicate (60 - length xs) 0
+
+wide-at : (xs : List ℕ) (k : ℕ) → getD (wide xs) k 0 ≡ getD xs k 0
+unfolding wide
+wide-at xs k = padded xs (60 - length xs) k
+  where
+    noughts : (n k : ℕ) → _≡_ {A = ℕ} (getD (replicate n 0) k 0) 0
+    noughts zero k = refl
+    noughts (suc n) zero = refl
+    noughts (suc n) (suc k) = noughts n k
+
+    padded : (xs : List ℕ) (n k : ℕ) → getD (xs ++ replicate n 0) k 0 ≡ getD xs k 0
+    padded [] n k = noughts n k
+    padded (x ∷ xs) n zero = refl
+    padded (x ∷ xs) n (suc k) = padded xs n k
+
+wide-length : (xs : List ℕ) → length xs ≤ 60 → length (wide xs) ≡ 60
+unfolding wide
+wide-length xs h = rw (length-append, length-replicate) (omega arith)
+
+-- two slots: of one kind, they have as many numbers; of two, they differ in the first
+wide-alike : (xs ys : List ℕ) → length xs ≡ length ys → same (wide xs) (wide ys) ≡ same xs ys
+unfolding wide
+wide-alike xs ys l =
+    let n : List ℕ = replicate (60 - length xs) 0 in
+    ap (λ i. same (wide xs) (ys ++ replicate (60 - i) 0)) (sym l) ∙ same-append xs n ys n l ∙ ap (same xs ys &&_) (same-refl n) ∙ and-true (same xs ys)
+
+wide-other : (s t : Slot) → eqb (s .kind) (t .kind) ≡ false → same (wide (numbersOf s)) (wide (numbersOf t)) ≡ same (numbersOf s) (numbersOf t)
+unfolding wide numbersOf plainNumbers same
+wide-other s t e = rw e
+
+wide-same : (s t : Slot) → Sized s → Sized t → same (wide (numbersOf s)) (wide (numbersOf t)) ≡ same (numbersOf s) (numbersOf t)
+unfolding sensing
+wide-same s t y z =
+    by-test (eqb (s .kind) (t .kind))
+    (λ e.
+    let k : s .kind ≡ t .kind = eqb-true (s .kind) (t .kind) e in
+    wide-alike (numbersOf s) (numbersOf t) (numbers-length s y ∙ ap (λ n. countOf (eqb n 2)) k ∙ sym (numbers-length t z)))
+    (wide-other s t)
+
+-- whether the first k of two lists of 60 are the same
 pub record Alike (xs ys : List ℕ) (k : ℕ) (all : Bool) : Type 0 where
-  pub within : k ≤ 57
-  pub first : length xs ≡ 57
-  pub second : length ys ≡ 57
+  pub within : k ≤ 60
+  pub first : length xs ≡ 60
+  pub second : length ys ≡ 60
   pub says : all ≡ same (take k xs) (take k (drop 0 ys))
 
-pub alike-none : (xs ys : List ℕ) → length xs ≡ 57 → length ys ≡ 57 → Alike xs ys 0 true
-alike-none xs ys e f = record { within = omega arith; first = e; second = f; says = stands-start xs ys 0 }
+pub alike-none : (s t : Slot) → Sized s → Sized t → Alike (wide (numbersOf s)) (wide (numbersOf t)) 0 true
+alike-none s t y z = record {
+  within = omega arith;
+  first = wide-length (numbersOf s) (most s y);
+  second = wide-length (numbersOf t) (most t z);
+  says = stands-start (wide (numbersOf s)) (wide (numbersOf t)) 0;
+}
+  where
+    most : (s : Slot) → Sized s → length (numbersOf s) ≤ 60
+    most s y = rw (numbers-length s y) (by-test (sensing s) (λ e. rw e (omega arith)) (λ e. rw e (omega arith)))
 
-pub alike-more : (xs ys : List ℕ) (k : ℕ) (all : Bool) (x y : ℕ) → Alike xs ys k all → k < 57 → x ≡ getD xs k 0 → y ≡ getD ys k 0
-    → Alike xs ys (k + 1) (all && eqb x y)
+pub alike-more : (xs ys : List ℕ) (k : ℕ) (all : Bool) (x y : ℕ) → Alike (wide xs) (wide ys) k all → k < 60 → x ≡ getD xs k 0 → y ≡ getD ys k 0
+    → Alike (wide xs) (wide ys) (k + 1) (all && eqb x y)
 alike-more xs ys k all x y g h e f = record {
   within = omega arith;
   first = g .first;
   second = g .second;
-  says = ap₂ _&&_ (g .says) (ap₂ eqb e (f ∙ ap (λ i. getD ys i 0) (sym (zero-add k))))
-      ∙ sym (stands-step xs ys 0 k (rw (g .first) h) (omega (arith, g .first, g .second)));
+  says = ap₂ _&&_ (g .says) (ap₂ eqb (e ∙ sym (wide-at xs k)) (f ∙ sym (wide-at ys k) ∙ ap (λ i. getD (wide ys) i 0) (sym (zero-add k))))
+      ∙ sym (stands-step (wide xs) (wide ys) 0 k (rw (g .first) h) (omega (arith, g .first, g .second)));
 }
 
-pub alike-all : (xs ys : List ℕ) (k : ℕ) (all : Bool) → Alike xs ys k all → 57 ≤ k → all ≡ same xs ys
-alike-all xs ys k all g h =
-    g .says ∙ stands-end xs ys 0 k (omega (arith, g .within, g .first)) ∙ stands-whole xs ys (g .first ∙ sym (g .second))
+pub alike-all : (s t : Slot) (k : ℕ) (all : Bool) → Sized s → Sized t → Alike (wide (numbersOf s)) (wide (numbersOf t)) k all → 60 ≤ k
+    → all ≡ same (numbersOf s) (numbersOf t)
+alike-all s t k all y z g h =
+    g .says ∙ stands-end (wide (numbersOf s)) (wide (numbersOf t)) 0 k (omega (arith, g .within, g .first))
+    ∙ stands-whole (wide (numbersOf s)) (wide (numbersOf t)) (g .first ∙ sym (g .second)) ∙ wide-same s t y z

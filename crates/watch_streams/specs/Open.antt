@@ -2,9 +2,9 @@
 -- Assumes nothing.
 use Rattle.script_turns.specs.Open.{open-script}
 use Rattle.watch_text.specs.Open.{open-lines}
-use Rattle.watch.specs.Watch
+use Rattle.watch_streams.specs.Texts
 
--- everything: what is written for known bytes computes
+-- what is written for known bytes, from a known bench, computes
 unfoldable pub open-watch : Unit {0}
-unfolding open-script open-lines Watch.recordText Watch.recordTexts Watch.benchText Watch.watchOf
+unfolding open-script open-lines Texts.recordText Texts.recordTexts Texts.benchText Texts.watchedText
 open-watch = tt

@@ -11,7 +11,7 @@ use Rattle.script_text.specs.Records.{recordAt}
 use Rattle.script_text.proofs.records.Laws.{record-later}
 use Rattle.script_turns.specs.Script.{benchTo}
 use Rattle.watch_text.specs.Lines.{changeLines}
-use Rattle.watch.specs.Watch.{recordText, recordTexts}
+use Rattle.watch_streams.specs.Texts.{recordText, recordTexts}
 
 -- the record at a place, behind the first
 later : (bs : List ℕ) (n : ℕ) → recordAt (drop 4 bs) (4 * n) ≡ recordAt bs (4 * suc n)

@@ -1,9 +1,9 @@
 -- What came is what the step is taken with.
 -- Assumes nothing.
 use borrow.Author.Needs.{needs}
-use Rattle.watch.proofs.Laws.{went-by, step-in-range}
-use Rattle.watch.proofs.read_on.Statement.{statement}
-use Rattle.watch.proofs.read_on.Tie as tie
+use Rattle.watch_streams.proofs.Laws.{went-by, step-in-range}
+use Rattle.watch_streams.proofs.read_on.Statement.{statement}
+use Rattle.watch_streams.proofs.read_on.Tie as tie
 
 pub read-on-spec : {M : Type 1} → statement M
 read-on-spec =

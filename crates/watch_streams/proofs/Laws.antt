@@ -25,11 +25,11 @@ use Rattle.script_turns.specs.Frame.{lastLine, finishOf}
 use Rattle.script_turns.proofs.frame.Laws.{last-length}
 use Rattle.script_streams.specs.Reading.{mostReads}
 use Rattle.watch_text.specs.Lines.{changeLines, benchLines}
-use Rattle.watch.specs.declared.Going.{Going}
-use Rattle.watch.specs.declared.Stepped.{Stepped}
-use Rattle.watch.specs.Watch.{recordText}
-use Rattle.watch.specs.Steps.{cut, readText, readNext, stepOf}
-use Rattle.watch.specs.Reading.{benchLeft, outLeft, Went, UpToLast, Exhausted, Watched}
+use Rattle.watch_streams.specs.declared.Going.{Going}
+use Rattle.watch_streams.specs.declared.Stepped.{Stepped}
+use Rattle.watch_streams.specs.Texts.{recordText}
+use Rattle.watch_streams.specs.Steps.{cut, readText, readNext, stepOf}
+use Rattle.watch_streams.specs.Reading.{benchLeft, outLeft, Went, UpToLast, Exhausted, Watched}
 
 -- fewer bytes than a record has
 pub cut-by : (b : Bus) (m bs out o : List ℕ) (end : ℕ) → length bs < 4 → finishOf (length bs) out ≡ (end, o)

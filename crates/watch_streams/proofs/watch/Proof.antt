@@ -9,9 +9,9 @@ use lib.Dec.{ltb}
 use lib.ListN.{length}
 use Rattle.rules.specs.Refusals.{inRange}
 use Rattle.proof_lists.specs.Tests.{and-left, and-right}
-use Rattle.watch.proofs.Laws.{Ongoing, ongoing-none, ongoing-more, watched-by}
-use Rattle.watch.proofs.watch.Statement.{statement}
-use Rattle.watch.proofs.watch.Tie as tie
+use Rattle.watch_streams.proofs.Laws.{Ongoing, ongoing-none, ongoing-more, watched-by}
+use Rattle.watch_streams.proofs.watch.Statement.{statement}
+use Rattle.watch_streams.proofs.watch.Tie as tie
 
 abbrev Inv-loop : tie.InvT-loop
 Inv-loop mem₀ out₀ end told g₀ turns₀ mem out g turns =

@@ -3,9 +3,9 @@
 use native.Mathlib.Omega.{arith}
 use borrow.Author.Needs.{needs}
 use Rattle.script_text.proofs.letters.Laws.{line-length}
-use Rattle.watch.proofs.Laws.{cut-by, step-by}
-use Rattle.watch.proofs.step.Statement.{statement}
-use Rattle.watch.proofs.step.Tie as tie
+use Rattle.watch_streams.proofs.Laws.{cut-by, step-by}
+use Rattle.watch_streams.proofs.step.Statement.{statement}
+use Rattle.watch_streams.proofs.step.Tie as tie
 
 pub step-spec : {M : Type 1} → statement M
 step-spec =

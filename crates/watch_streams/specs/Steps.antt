@@ -1,4 +1,4 @@
--- The program's steps, on the bytes that were read and the buffers that are lent. What a step has written is the front of the output, as far as its
+-- The steps of watching, on the bytes that were read and the buffers that are lent. What a step has written is the front of the output, as far as its
 -- end says.
 -- Assumes nothing.
 use Prim.Native.Nat.{ℕ}
@@ -10,8 +10,8 @@ use lib.Seq.{sets}
 use Rattle.rules.specs.Runs.{Bench, next}
 use Rattle.script_text.specs.Records.{recordAt}
 use Rattle.script_turns.specs.Frame.{lastLine}
-use Rattle.watch.specs.declared.Stepped.{Stepped}
-use Rattle.watch.specs.Watch.{recordText}
+use Rattle.watch_streams.specs.declared.Stepped.{Stepped}
+use Rattle.watch_streams.specs.Texts.{recordText}
 
 -- what is read at a time is the bytes of one record, or fewer: then the input has ended
 abbrev pub cut : List ℕ → Bool

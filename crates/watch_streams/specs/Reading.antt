@@ -11,8 +11,8 @@ use Rattle.rules.specs.declared.Bus.{Bus}
 use Rattle.rules.specs.Runs.{Bench}
 use Rattle.script_streams.specs.Reading.{mostReads}
 use Rattle.watch_text.specs.Lines.{benchLines}
-use Rattle.watch.specs.declared.Going.{Going}
-use Rattle.watch.specs.Steps.{cut, readText, readNext}
+use Rattle.watch_streams.specs.declared.Going.{Going}
+use Rattle.watch_streams.specs.Steps.{cut, readText, readNext}
 
 -- read after read: the bench, the output, and what is put at its front, one after another
 unfoldable pub benchLeft : Bench → List (List ℕ) → Bench
@@ -52,7 +52,7 @@ Exhausted [] = ⊥
 Exhausted (c ∷ []) = cut c ≡ true
 Exhausted (c ∷ d ∷ cs) = (length c ≡ 4) × Exhausted (d ∷ cs)
 
--- what the program leaves from the setup on. Where all that was put is told, the last read brought less than a record, unless that many were made
+-- what is left of all of it, from a bench on. Where all that was put is told, the last read brought less than a record, unless that many were made
 pub record Watched (b : Bus) (m out : List ℕ) (told : Bool) (stored written : List ℕ) : Type 0 where
   pub reads : List (List ℕ)
   pub memory : stored ≡ (benchLeft (record { bus = b; memory = m }) reads) .memory

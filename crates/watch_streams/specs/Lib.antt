@@ -1,0 +1,4 @@
+pub mod Texts
+pub mod Steps
+pub mod Reading
+pub mod Open
