@@ -132,6 +132,11 @@ fn block(bus: Bus, mem: &[u8], length: usize, n: u32, k: u32) {
     report::part(bus_block::block(parts::first(mem, length), bus, s, b));
 }
 
+fn pin(bus: Bus, n: u32) {
+    let s = SlotNo((n % 256) as u8);
+    report::looked(bus_pin::pin(bus, s));
+}
+
 // What looks, and leaves all as it is.
 fn look(b: Bench, mem: &[u8; 8192], shelf: &[u8; 8192], t: [u32; 38]) {
     let pairs = b.pairs;
@@ -144,6 +149,7 @@ fn look(b: Bench, mem: &[u8; 8192], shelf: &[u8; 8192], t: [u32; 38]) {
         names::FORM => report::at(shelf, x, y),
         names::RECORD => report::record(shelf, x),
         names::BLOCK => block(bus, mem, b.length, x, y),
+        names::PIN => pin(bus, x),
         names::CHECK => check(pairs, mem, b.length, t),
         _ => {}
     }

@@ -6,6 +6,8 @@ use super::state;
 use libc::STDOUT_FILENO;
 use rules::Answer;
 use rules::Bus;
+use rules::Looked;
+use rules::Pin;
 use rules::Slot;
 
 // A byte, and the word of a number behind a space.
@@ -57,7 +59,7 @@ fn which(k: usize) -> usize {
 
 // A number of a slot: its name, of several which one, and what it is; a phase has a word.
 fn entry(k: usize, v: u16)
-    requires { ⌜ k < 58 ⌝ }
+    requires { ⌜ k < 59 ⌝ }
 {
     word(names::NAMES + k);
     let i = which(k);
@@ -66,7 +68,7 @@ fn entry(k: usize, v: u16)
         io::print_decimal(STDOUT_FILENO, i as u64);
     }
     if k == 8 {
-        word(names::NAMES + 58 + (v % 16) as usize);
+        word(names::NAMES + 59 + (v % 16) as usize);
         return;
     }
     sign(b' ');
@@ -78,7 +80,7 @@ pub fn slot(bus: Bus, n: u32) {
     let slots = bus.slots;
     let s = slots[(n % 8) as usize];
     sign(b':');
-    for k in 1..58usize {
+    for k in 1..59usize {
         let v = state::peek(s, k);
         if v != 0 {
             entry(k, v);
@@ -109,11 +111,35 @@ pub fn answer(a: Answer) {
     }
 }
 
+// The pin of a slot, or the refusal.
+pub fn looked(l: Looked) {
+    match l {
+        Looked::Stands(p) => stands(p),
+        Looked::Refused(r) => answer(Answer::Refused(r)),
+    }
+}
+
+// Whether it is asserted, and its level.
+fn stands(p: Pin) {
+    sign(b':');
+    word(if p.asserted {
+        names::ASSERTED
+    } else {
+        names::RELEASED
+    });
+    word(if p.level { names::HIGH } else { names::LOW });
+}
+
+// Whether two slots have the same numbers, and of both or of neither a change is pending.
+fn alike(a: Slot, b: Slot) -> bool {
+    watch_text::numbers::same_numbers(a, b) & (state::peek(a, 58) == state::peek(b, 58))
+}
+
 // Which slots are not the same: each is told by its number. Whether there is none.
 fn unlike(was: [Slot; 8], now: [Slot; 8]) -> bool {
     let mut none = true;
     for i in 0..8usize {
-        if !watch_text::numbers::same_numbers(was[i], now[i]) {
+        if !alike(was[i], now[i]) {
             count(i);
             none = false;
         }

@@ -1,6 +1,6 @@
 // What the tries of `edges` hand in: a memory, and numbers of a slot. These are counted 1 to 57, in the order of `watch_text::numbers`: kind,
 // length, ticks left, half, counter, place, voltage and phase, protection from 9, what is to come from 13, the latch from 17 and its marks from 33,
-// and the sensor from 49.
+// and the sensor from 49; 58 is whether a change is pending, which a try hands in, and tells, of a slot without sensor too.
 ghost use Prim.Native.Nat.{_≤_};
 use super::names::MISSING;
 use super::names::UNKNOWN;
@@ -41,6 +41,10 @@ pub fn wide(b: u8) -> u16 {
 pub fn peek(s: Slot, k: usize) -> u16 {
     if k == 0 {
         return 0;
+    }
+    if k == 58 {
+        let x = s.sensor;
+        return if x.pending { 1 } else { 0 };
     }
     watch_text::numbers::number(s, k - 1)
 }
@@ -93,6 +97,7 @@ fn poke_sensor(old: Sensor, k: usize, v: u16) -> Sensor {
         55 => x.resolution = low(v),
         56 => x.timeout = low(v),
         57 => x.word = v,
+        58 => x.pending = v != 0,
         _ => {}
     }
     x
@@ -132,7 +137,7 @@ pub fn hand_in(old: Slot, t: [u32; 38]) -> Handed {
         let v = t[i];
         if v < WORD {
             slot = poke(slot, at, v as u16);
-            ok = ok & (0 < at) & (at < 58) & (peek(slot, at) == v as u16);
+            ok = ok & (0 < at) & (at < 59) & (peek(slot, at) == v as u16);
             at = at % 64 + 1;
         } else {
             ok = ok & (v != UNKNOWN);
