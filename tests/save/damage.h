@@ -153,11 +153,12 @@ static void change_ones(void)
     unsigned char ones[SLOTS + 2] = { 0 };
     int sensors = sensors_in_form();
     int many = sensors + (one_in(6) ? 1 : sensors > 0 && one_in(6) ? -1 : 0);
+    int other = ONE_OF(numbers);
 
     for (int i = 0; i < many; i++)
         ones[i] = (unsigned char)below(2);
     if (many > 0 && one_in(4))
-        ones[below(many)] = (unsigned char)ONE_OF(numbers);
+        ones[below(many)] = (unsigned char)other;
     put_ones(ones, many);
 }
 
@@ -174,14 +175,14 @@ static void damage_pending(void)
 {
     static const unsigned char none[SLOTS];
     static const int bits[] = { 0, 2, 3 };
-    int sensors = sensors_in_form(), bit = ONE_OF(bits);
+    int sensors = sensors_in_form(), bit = ONE_OF(bits), tag = between(4, 6);
 
     begin("what is pending");
     switch (below(6)) {
     case 0: put_ones(none, sensors); break;
     case 1: bad_length = field_at(4); ADD_WHAT(", left out"); break;
     case 2: if (sensors > 0) change_mode(below(sensors), bit); break;
-    case 3: put_behind(between(4, 6), one_in(2) ? 1 : HEAD); break;
+    case 3: put_behind(tag, one_in(2) ? 1 : HEAD); break;
     default: change_ones(); break;
     }
 }
