@@ -3,7 +3,7 @@
 use Prim.Native.Nat.{ℕ, _+_, _*_, _/_, _%_}
 use native.Mathlib.Omega.{arith}
 use mathlib.Core.Path.{_≡_, refl, sym, _∙_, ap}
-use mathlib.Core.Bool.{Bool, true, false, false≢true, not, cond}
+use mathlib.Core.Bool.{Bool, true, false, false≢true, cond}
 use borrow.Author.Tests.{eqb-true, eqb-false, eq-eqb, not-false, not-true}
 use lib.Dec.{T, eqb}
 use lib.IntN.{ℤ, pos, negsuc}
@@ -12,7 +12,7 @@ use Rattle.proof_lists.specs.Tests.{by-test}
 use Rattle.rules.specs.declared.Sensor.{Sensor}
 use Rattle.rules.specs.Pin.{criticalSet, highSet, lowSet, changes}
 use Rattle.rules.specs.Sensor.{steppedOf, shutDown, criticalFlag, highFlag, lowFlag, converted}
-use Rattle.rules.proofs.Registers.Told.{Tells, converted-tells}
+use Rattle.rules.proofs.Registers.Told.{converted-tells}
 
 digit : (b : Bool) → eqb (cond b 1 0) 1 ≡ b
 digit true = refl
