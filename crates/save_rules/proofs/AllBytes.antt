@@ -5,7 +5,7 @@ use Prim.Native.Nat.{ℕ, _+_, _/_, _%_}
 use mathlib.Core.Path.{_≡_, refl}
 use mathlib.Core.Bool.{Bool, true, false}
 use mathlib.Core.List.{List, [], _∷_, map, _++_}
-use lib.ListN.{length, take, set, replicate}
+use lib.ListN.{take, set, replicate}
 use Rattle.proof_lists.specs.Each.{mapFrom}
 use Rattle.rules.specs.declared.Answer.the-variants as answer
 use Rattle.rules.specs.declared.Bus.{Bus}

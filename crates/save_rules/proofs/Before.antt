@@ -13,7 +13,7 @@ use Rattle.rules.specs.declared.Slot.{Slot}
 use Rattle.rules.specs.Modelled.{slotCount, slotBytes, memoryBytes, absent, sensing}
 use Rattle.rules.specs.Fresh.{absentSlot}
 use Rattle.rules.specs.Refusals.{inRange}
-use Rattle.save_rules.specs.Form.{pendingField, fields, fieldCount, fixedCount, fieldAt, wholeField, isThere, fieldBytes, formTo, formOf}
+use Rattle.save_rules.specs.Form.{pendingField, fields, fixedCount, fieldAt, wholeField, isThere, fieldBytes, formTo, formOf}
 use Rattle.save_rules.specs.Reading.{busIn, memoryIn, restored, accepted}
 use Rattle.save_rules.specs.Rested.{restedBus, Typed}
 use Rattle.save_rules.specs.Open.{open-saved}

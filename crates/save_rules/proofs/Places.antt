@@ -2,7 +2,7 @@
 -- these go by what the slots need and by their kinds alone.
 -- Assumes nothing.
 use Prim.Native.Nat.{ℕ, zero, suc, _+_, _-_, _*_, _/_, _%_, _≤_, _<_}
-use native.Mathlib.Nat.{add-zero, add-assoc, zero-add, mul-suc}
+use native.Mathlib.Nat.{add-zero, zero-add, mul-suc}
 use native.Mathlib.Omega.{arith}
 use borrow.Author.Tests.{eqb-true, eqb-false, eq-eqb, ne-eqb}
 use mathlib.Core.Path.{_≡_, refl, sym, _∙_, ap, ap₂}
@@ -13,7 +13,7 @@ use lib.ListN.{length, getD, take, drop, length-append, length-take, length-drop
 use lib.Seq.{getD-append-add, getD-take, getD-drop, ext-getD}
 use Rattle.proof_lists.specs.Each.{length-mapFrom, mapFrom-at}
 use Rattle.proof_lists.specs.Parts.{part, length-part}
-use Rattle.proof_lists.specs.Tests.{cond-cases, by-test, or-left-false, or-right-false}
+use Rattle.proof_lists.specs.Tests.{cond-cases, by-test}
 use Rattle.rules.specs.declared.Bus.{Bus}
 use Rattle.rules.specs.declared.Slot.{Slot}
 use Rattle.rules.specs.Modelled.{slotCount, slotBytes, memoryBytes, absent, sensing}
