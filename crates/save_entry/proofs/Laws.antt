@@ -24,10 +24,10 @@ use Rattle.rules.specs.Fresh.{absentSlot}
 use Rattle.rules.specs.Refusals.{wrongLength, slotInRange, inRange}
 use Rattle.rules.proofs.Phase.{the-type}
 use Rattle.save_rules.specs.declared.Saved.the-variants.{Form, Refused}
-use Rattle.save_rules.specs.Form.{wordOf, fieldCount, fieldAt, shareOf, shares, fieldBytes, formTo, formOf}
-use Rattle.save_rules.specs.Reading.{offset, begins}
+use Rattle.save_rules.specs.Form.{wordOf, fieldCount, fieldAt, shareOf, shares, wholeField, isThere, fieldBytes, formTo, formOf}
+use Rattle.save_rules.specs.Reading.{offset, span, begins}
 use Rattle.save_rules.specs.Saving.{isIdle, quiet, allQuiet, saveOf}
-use Rattle.save_rules.proofs.Places.{length-shares, length-field, length-form, length-formOf, offset-up, begins-up}
+use Rattle.save_rules.proofs.Places.{length-shares, length-whole, field-there, field-none, length-field, length-form, length-formOf, offset-up, begins-up}
 
 -- any other phase, by its place among the variants, is not idle
 pub not-idle : (p : Phase) → OneOf (1 ∷ 2 ∷ 3 ∷ 4 ∷ 5 ∷ 6 ∷ 7 ∷ 8 ∷ 9 ∷ 10 ∷ 11 ∷ 12 ∷ 13 ∷ 14 ∷ []) (tagOf the-type p) → false ≡ isIdle p
@@ -84,16 +84,27 @@ module _ (t i n : ℕ) (ss : List Slot) (d : Slot) (m : List ℕ) (h : i < lengt
 
 -- a field: its tag, its length, the shares
 pub field-put : (t tag count at one two end : ℕ) (ss : List Slot) (m out o p q : List ℕ) → length m ≡ memoryBytes → tag ≡ fieldAt t .tag → count ≡ offset t slotCount ss
-    → Put out at (tag ∷ []) one o → Put o one (wordOf count) two p → Put p two (shares t slotCount ss m) end q → Put out at (fieldBytes t ss m) end q
-unfolding fieldBytes
+    → Put out at (tag ∷ []) one o → Put o one (wordOf count) two p → Put p two (shares t slotCount ss m) end q → Put out at (wholeField t ss m) end q
+unfolding wholeField
 field-put t tag count at one two end ss m out o p q l e f x y z =
     rw (length-shares ss m l t slotCount (omega arith), ← e, ← f)
     (put-on out p q at two end (tag ∷ wordOf count) (shares t slotCount ss m) (put-on out o p at one two (tag ∷ []) (wordOf count) x y) z)
 
 -- its room, part by part
 pub field-room : (t : ℕ) (ss : List Slot) (m : List ℕ) → length m ≡ memoryBytes
-    → (length (fieldBytes t ss m) ≡ 3 + length (shares t slotCount ss m)) × (length (shares t slotCount ss m) ≡ offset t slotCount ss)
-field-room t ss m l = let e = length-shares ss m l t slotCount (omega arith) in (omega (arith, length-field ss m l t, e), e)
+    → (length (wholeField t ss m) ≡ 3 + length (shares t slotCount ss m)) × (length (shares t slotCount ss m) ≡ offset t slotCount ss)
+field-room t ss m l = let e = length-shares ss m l t slotCount (omega arith) in (omega (arith, length-whole ss m l t, e), e)
+
+-- it is put whole if it is there, and otherwise nothing is
+module _ (t : ℕ) (ss : List Slot) (m : List ℕ) (there : Bool) (sized : length m ≡ memoryBytes) (e : there ≡ isThere t ss) where
+  pub room-there : (at n : ℕ) → there ≡ true → at + length (fieldBytes t ss m) ≤ n → at + length (wholeField t ss m) ≤ n
+  room-there at n i h = rw (field-there ss m sized t (sym e ∙ i)) at h
+
+  pub put-there : (at end : ℕ) (out o : List ℕ) → there ≡ true → Put out at (wholeField t ss m) end o → Put out at (fieldBytes t ss m) end o
+  put-there at end out o i p = rw (field-there ss m sized t (sym e ∙ i)) p
+
+  pub put-none : (at : ℕ) (out : List ℕ) → there ≡ false → Put out at (fieldBytes t ss m) at out
+  put-none at out i = rw (field-none ss m sized t (sym e ∙ i)) (omega arith, refl)
 
 -- one field more
 pub form-step : (t mid end : ℕ) (ss : List Slot) (m out o p : List ℕ) → Put out 0 (formTo t ss m) mid o → Put o mid (fieldBytes t ss m) end p
@@ -105,7 +116,7 @@ pub form-room : (t : ℕ) (ss : List Slot) (m : List ℕ) → length m ≡ memor
     → length (formTo t ss m) + length (fieldBytes t ss m) ≤ length (formTo fieldCount ss m)
 form-room t ss m l h = omega (arith, length-form ss m l t, length-field ss m l t, length-form ss m l fieldCount, begins-up ss (suc t) fieldCount h, next)
   where
-    next : begins (suc t) ss ≡ begins t ss + 3 + offset t slotCount ss
+    next : begins (suc t) ss ≡ begins t ss + span t ss
     next = unfold begins in refl
 
 -- the entry, row by row

@@ -6,7 +6,7 @@ ghost use lib.ListN.{length};
 ghost use lib.Seq.{sets};
 ghost use Rattle.proof_lists.specs.Each.{allOf};
 ghost use Rattle.rules.specs.Modelled.{slotCount, memoryBytes};
-ghost use Rattle.save_rules.specs.Form.{fieldCount, shares, fieldBytes, formTo};
+ghost use Rattle.save_rules.specs.Form.{fieldCount, shares, wholeField, fieldBytes, formTo};
 ghost use Rattle.save_rules.specs.Saving.{isIdle, quiet, saveOf};
 ghost use Rattle.save_rules.specs.Reading.{begins};
 use rules::Bus;
@@ -60,15 +60,27 @@ fn put_shares(t: usize, slots: [Slot; 8], memory: &[u8], out: &mut [u8], at: usi
 }
 
 // The field in row t, put at a place: tag, length, contents; the place after it.
-fn put_field(t: usize, slots: [Slot; 8], memory: &[u8], out: &mut [u8], at: usize) -> usize
-    requires { ⌜ (length (now memory) ≡ memoryBytes) × (at + length (fieldBytes t slots (now memory)) ≤ length (now out)) ⌝ }
-    ensures { λ r. ⌜ (r ≡ at + length (fieldBytes t slots (now (memory .entry))))
-        × (now (out .exit) ≡ sets (now (out .entry)) at (fieldBytes t slots (now (memory .entry)))) ⌝ }
+fn put_whole(t: usize, slots: [Slot; 8], memory: &[u8], out: &mut [u8], at: usize) -> usize
+    requires { ⌜ (length (now memory) ≡ memoryBytes) × (at + length (wholeField t slots (now memory)) ≤ length (now out)) ⌝ }
+    ensures { λ r. ⌜ (r ≡ at + length (wholeField t slots (now (memory .entry))))
+        × (now (out .exit) ≡ sets (now (out .entry)) at (wholeField t slots (now (memory .entry)))) ⌝ }
 {
     let count = save_fields::offsets::offset(t, slots, 8);
     let length = script_text::letters::put_one(out, at, save_fields::shares::tag(t));
     let contents = save_fields::shares::put_word(out, length, count as u16);
     put_shares(t, slots, memory, out, contents)
+}
+
+// The same if it is there at all, and otherwise nothing.
+fn put_field(t: usize, slots: [Slot; 8], memory: &[u8], out: &mut [u8], at: usize) -> usize
+    requires { ⌜ (length (now memory) ≡ memoryBytes) × (at + length (fieldBytes t slots (now memory)) ≤ length (now out)) ⌝ }
+    ensures { λ r. ⌜ (r ≡ at + length (fieldBytes t slots (now (memory .entry))))
+        × (now (out .exit) ≡ sets (now (out .entry)) at (fieldBytes t slots (now (memory .entry)))) ⌝ }
+{
+    if save_fields::offsets::is_there(t, slots) {
+        return put_whole(t, slots, memory, out, at);
+    }
+    at
 }
 
 // The whole form, put at the beginning; the place after it.
@@ -78,7 +90,7 @@ fn put_form(slots: [Slot; 8], memory: &[u8], out: &mut [u8]) -> usize
         × (now (out .exit) ≡ sets (now (out .entry)) 0 (formTo fieldCount slots (now (memory .entry)))) ⌝ }
 {
     let mut end = 0;
-    for t in 0..4usize {
+    for t in 0..5usize {
         end = put_field(t, slots, memory, out, end);
     }
     end
@@ -99,7 +111,7 @@ pub fn save(bus: Bus, memory: &[u8], buffer: &mut [u8]) -> Saved
     if !all_quiet(slots) {
         return Saved::Refused(Refusal::Busy);
     }
-    if buffer.len() < save_fields::offsets::begins(4, slots) {
+    if buffer.len() < save_fields::offsets::begins(5, slots) {
         return Saved::Refused(Refusal::TooShort);
     }
     let n = put_form(slots, memory, buffer);

@@ -1,5 +1,5 @@
 // A slot's share of each field of a saved form: how many bytes it is, put into a lent output, and read from a form. The table of fields stands in the
-// crate `save_rules`, and its rows are 0 to 3; the row of a field is its tag less 1.
+// crate `save_rules`, and its rows are 0 to 4; the row of a field is its tag less 1.
 ghost use mathlib.Core.Path.{_≡_};
 ghost use mathlib.Core.Bool.{cond};
 ghost use Prim.Native.Nat.{_+_, _≤_};
@@ -7,7 +7,7 @@ ghost use lib.Dec.{eqb};
 ghost use lib.ListN.{length, getD};
 ghost use lib.Seq.{sets};
 ghost use Rattle.rules.specs.Modelled.{absent, sensing};
-ghost use Rattle.rules.specs.Fields.{withSensor};
+ghost use Rattle.rules.specs.Fields.{withSensor, withPending};
 ghost use Rattle.rules.specs.Fresh.{setupSlot};
 ghost use Rattle.script_text.specs.Records.{pairAt};
 ghost use Rattle.save_rules.specs.Form.{wordOf, wordAt, bitsOf, bitsIn, stateFrom, registersTo, sensorFrom, fieldAt, shareOf};
@@ -23,7 +23,18 @@ pub fn tag(t: usize) -> u8
         1 => 2,
         2 => 3,
         3 => 4,
+        4 => 5,
         _ => 1,
+    }
+}
+
+// Whether a slot needs the field in row t: P5's every slot, the fifth one with a sensor in which a change is pending.
+pub fn needed(t: usize, s: Slot) -> bool
+    ensures { λ r. ⌜ r ≡ fieldAt t .needed s ⌝ }
+{
+    match t {
+        4 => (s.kind == 2) & s.sensor.pending,
+        _ => true,
     }
 }
 
@@ -42,6 +53,7 @@ pub fn size(t: usize, kind: u8) -> usize
         1 => choose(kind == 0, 0, Slot::BYTES),
         2 => choose(kind == 0, 0, 4),
         3 => choose(kind == 2, 15, 0),
+        4 => choose(kind == 2, 1, 0),
         _ => 2,
     }
 }
@@ -145,6 +157,18 @@ fn put_sensor(s: Slot, memory: &[u8], out: &mut [u8], at: usize) -> usize
     put_registers(x, out, end)
 }
 
+// Whether a change is pending in the sensor.
+fn put_pending(s: Slot, memory: &[u8], out: &mut [u8], at: usize) -> usize
+    requires { ⌜ at + length (shareOf 4 s (now memory)) ≤ length (now out) ⌝ }
+    ensures { λ r. ⌜ (r ≡ at + length (shareOf 4 s (now (memory .entry))))
+        × (now (out .exit) ≡ sets (now (out .entry)) at (shareOf 4 s (now (memory .entry)))) ⌝ }
+{
+    if s.kind != 2 {
+        return at;
+    }
+    script_text::letters::put_one(out, at, bit(s.sensor.pending))
+}
+
 // A slot's share of the field in row t, with the slot's memory, put at a place; the place after it.
 pub fn put(t: usize, s: Slot, memory: &[u8], out: &mut [u8], at: usize) -> usize
     requires { ⌜ at + length (shareOf t s (now memory)) ≤ length (now out) ⌝ }
@@ -155,12 +179,13 @@ pub fn put(t: usize, s: Slot, memory: &[u8], out: &mut [u8], at: usize) -> usize
         1 => put_memory(s, memory, out, at),
         2 => put_state(s, memory, out, at),
         3 => put_sensor(s, memory, out, at),
+        4 => put_pending(s, memory, out, at),
         _ => put_setup(s, memory, out, at),
     }
 }
 
 // The byte at a place of a form, and 0 behind its end.
-fn byte_at(form: &[u8], at: usize) -> u8
+pub fn byte_at(form: &[u8], at: usize) -> u8
     ensures { λ r. ⌜ r ≡ getD (now (form .entry)) at 0 ⌝ }
 {
     if at < form.len() {
@@ -232,6 +257,7 @@ fn sensor_at(form: &[u8], at: usize) -> Sensor
         resolution,
         timeout,
         word: 0,
+        pending: false,
     }
 }
 
@@ -247,6 +273,19 @@ fn read_sensor(form: &[u8], at: usize, s: Slot) -> Slot
     Slot { sensor, ..s }
 }
 
+// A slot with what is pending there, if it has a sensor.
+fn read_pending(form: &[u8], at: usize, s: Slot) -> Slot
+    ensures { λ r. ⌜ r ≡ cond (sensing s) (withSensor (withPending (eqb (getD (now (form .entry)) at 0) 1) (s .sensor)) s) s ⌝ }
+{
+    if s.kind != 2 {
+        return s;
+    }
+    let pending = byte_at(form, at) == 1;
+    let old = s.sensor;
+    let sensor = Sensor { pending, ..old };
+    Slot { sensor, ..s }
+}
+
 // A slot with what its share of the field in row t, from a place of a form on, says of it.
 pub fn read(t: usize, form: &[u8], at: usize, s: Slot) -> Slot
     requires { ⌜ at ≤ 65520 ⌝ }
@@ -256,6 +295,7 @@ pub fn read(t: usize, form: &[u8], at: usize, s: Slot) -> Slot
         1 => s,
         2 => read_state(form, at, s),
         3 => read_sensor(form, at, s),
+        4 => read_pending(form, at, s),
         _ => read_setup(form, at),
     }
 }

@@ -1,7 +1,7 @@
 -- Laws of reading and comparing, one field and one share more at each turn; and the entry, row by row.
 -- Assumes nothing.
 use mathlib.Core.Path.{_≡_, refl, sym, _∙_, ap, ap₂}
-use mathlib.Core.Bool.{Bool, true, false, not, _&&_}
+use mathlib.Core.Bool.{Bool, true, false, not, cond, _&&_}
 use mathlib.Core.List.{List, [], _∷_, _++_}
 use Prim.Native.Nat.{ℕ, suc, _+_, _-_, _*_, _≤_, _<_}
 use native.Mathlib.Nat.{add-zero}
@@ -24,11 +24,11 @@ use Rattle.rules.specs.declared.Slot.{Slot}
 use Rattle.rules.specs.Modelled.{slotCount, slotBytes, memoryBytes, absent}
 use Rattle.rules.specs.Fresh.{absentSlot}
 use Rattle.rules.specs.Refusals.{wrongLength, slotInRange, inRange}
-use Rattle.save_rules.specs.Form.{wordOf, memoryField, fields, fieldCount, fieldAt, shareOf, formOf}
-use Rattle.save_rules.specs.Reading.{sizeIn, offset, begins, place, memoryRow, busIn, storedTo, memoryIn, accepted, restoreOf}
-use Rattle.save_rules.proofs.Places.{length-share, share-within, begins-up, size-most, most-other}
+use Rattle.save_rules.specs.Form.{wordOf, memoryField, fields, fieldCount, fieldAt, shareOf, isThere, formOf}
+use Rattle.save_rules.specs.Reading.{sizeIn, offset, span, begins, place, tagged, readShares, readField, memoryRow, busIn, storedTo, memoryIn, accepted, restoreOf}
+use Rattle.save_rules.proofs.Places.{length-share, fixed-there, span-there, share-within, begins-up, size-most, most-other}
 use Rattle.save_fields.proofs.offsets.Laws.{size-fits, offset-small, begins-small}
-use Rattle.save_restore.specs.Tallied.{shareTallies, sharesTally, fieldTallies, fieldsTally, tallies}
+use Rattle.save_restore.specs.Tallied.{shareTallies, sharesTally, headTallies, fieldTallies, fieldsTally, tallies}
 use Rattle.save_restore.proofs.Tally.{share-any, tallies-same}
 
 -- reading a field, slot by slot
@@ -54,12 +54,25 @@ pub read-step : (t i : ℕ) (f : List ℕ) (ss all : List Slot) (r d : Slot) →
     → r ≡ fieldAt t .reads f (place t i ss) (getD ss i d) → set all i r ≡ mapTo (readBy t f ss) 0 (i + 1) ss
 read-step t i f ss all r d h e p = ap₂ (λ (l : List Slot) (x : Slot). set l i x) e p ∙ mapTo-step (readBy t f ss) i ss d h
 
+-- a field is read where its tag stands
+pub tagged-by : (t at b tag : ℕ) (f : List ℕ) (ss : List Slot) → at ≡ begins t ss → b ≡ getD f at 0 → tag ≡ fieldAt t .tag → eqb b tag ≡ tagged t f ss
+unfolding tagged
+tagged-by t at b tag f ss e h g = rw (h, e, g)
+
+pub read-it : (t : ℕ) (f : List ℕ) (ss rs : List Slot) (r : Bool) → r ≡ tagged t f ss → r ≡ true → rs ≡ readShares t f ss → rs ≡ readField t f ss
+unfolding readField
+read-it t f ss rs r e i h = rw (← e, i) h
+
+pub leave-it : (t : ℕ) (f : List ℕ) (ss : List Slot) (r : Bool) → r ≡ tagged t f ss → r ≡ false → ss ≡ readField t f ss
+unfolding readField
+leave-it t f ss r e i = rw (← e, i)
+
 -- a share stands inside a form that is as long as its slots say
-pub share-inside : (t k at n : ℕ) (ss : List Slot) (f : List ℕ) (d : Slot) → t < fieldCount → k < slotCount → length ss ≡ slotCount → length f ≡ begins fieldCount ss
+pub share-inside : (t k at n : ℕ) (ss : List Slot) (f : List ℕ) (d : Slot) → t < fieldCount → isThere t ss ≡ true → k < slotCount → length ss ≡ slotCount → length f ≡ begins fieldCount ss
     → at ≡ place t k ss → n ≡ fieldAt t .size ((getD ss k d) .kind) → at + n ≤ length f
-share-inside t k at n ss f d h l g w e p =
+share-inside t k at n ss f d h i l g w e p =
     let q : n ≡ sizeIn t (getD ss k absentSlot) = unfold sizeIn in p ∙ ap (λ (s : Slot). fieldAt t .size (s .kind)) (getD-any ss k d absentSlot (omega arith)) in
-    omega (arith, share-within ss t k h l)
+    omega (arith, share-within ss t k h i l)
 
 -- comparing, share by share and field by field
 pub tally-none : (t : ℕ) (ss : List Slot) (f : List ℕ) → true ≡ sharesTally t 0 ss f
@@ -75,10 +88,18 @@ pub fields-none : (ss : List Slot) (f : List ℕ) → true ≡ fieldsTally 0 ss 
 unfolding fieldsTally
 fields-none ss f = refl
 
-pub fields-step : (t : ℕ) (ss : List Slot) (f : List ℕ) (ok a b : Bool) → ok ≡ fieldsTally t ss f
-    → a ≡ stands (fieldAt t .tag ∷ wordOf (offset t slotCount ss)) f (begins t ss) → b ≡ sharesTally t slotCount ss f → (ok && (a && b)) ≡ fieldsTally (t + 1) ss f
-unfolding fieldsTally fieldTallies
-fields-step t ss f ok a b p q r = rw (add-one, p, q, r)
+pub fields-step : (t : ℕ) (ss : List Slot) (f : List ℕ) (ok r : Bool) → ok ≡ fieldsTally t ss f → r ≡ fieldTallies t ss f → (ok && r) ≡ fieldsTally (t + 1) ss f
+unfolding fieldsTally
+fields-step t ss f ok r p q = rw (add-one, p, q)
+
+pub field-there : (t : ℕ) (ss : List Slot) (f : List ℕ) (i a b : Bool) → i ≡ isThere t ss → i ≡ true → a ≡ headTallies t ss f → b ≡ sharesTally t slotCount ss f
+    → (a && b) ≡ fieldTallies t ss f
+unfolding fieldTallies
+field-there t ss f i a b e h p q = rw (← e, h, p, q)
+
+pub field-none : (t : ℕ) (ss : List Slot) (f : List ℕ) (i : Bool) → i ≡ isThere t ss → i ≡ false → true ≡ fieldTallies t ss f
+unfolding fieldTallies
+field-none t ss f i e h = rw (← e, h)
 
 pub tallies-not : (ss : List Slot) (f : List ℕ) (n : ℕ) → n ≡ begins fieldCount ss → (length f ≡ n → ⊥) → false ≡ tallies ss f
 unfolding tallies
@@ -89,10 +110,10 @@ unfolding tallies
 tallies-all ss f n ok e h p = rw (eq-eqb (length f) (begins fieldCount ss) (h ∙ e)) p
 
 -- a field's head stands inside the form
-pub head-within : (t : ℕ) (ss : List Slot) → t < fieldCount → begins t ss + 3 ≤ begins fieldCount ss
-head-within t ss h = omega (arith, begins-up ss (suc t) fieldCount h, next)
+pub head-within : (t : ℕ) (ss : List Slot) → t < fieldCount → isThere t ss ≡ true → begins t ss + 3 ≤ begins fieldCount ss
+head-within t ss h i = omega (arith, begins-up ss (suc t) fieldCount h, span-there t ss i, next)
   where
-    next : begins (suc t) ss ≡ begins t ss + 3 + offset t slotCount ss
+    next : begins (suc t) ss ≡ begins t ss + span t ss
     next = unfold begins in refl
 
 -- a share that is not memory has at most fifteen bytes, as many as the table says
@@ -129,15 +150,15 @@ unfolding wordOf
 head-put tag count one two o p x y = (put-on (replicate 3 0) o p 0 one two (tag ∷ []) (wordOf count) x y) .1
 
 pub head-by : (t tag count one two at : ℕ) (ss : List Slot) (f o p : List ℕ) (r : Bool) → tag ≡ fieldAt t .tag → count ≡ offset t slotCount ss → at ≡ begins t ss
-    → Put (replicate 3 0) 0 (tag ∷ []) one o → Put o one (wordOf count) two p → r ≡ stands p f at
-    → r ≡ stands (fieldAt t .tag ∷ wordOf (offset t slotCount ss)) f (begins t ss)
+    → Put (replicate 3 0) 0 (tag ∷ []) one o → Put o one (wordOf count) two p → r ≡ stands p f at → r ≡ headTallies t ss f
+unfolding headTallies
 head-by t tag count one two at ss f o p r a b c x y q = rw (← a, ← b, ← c, ← head-put tag count one two o p x y) q
 
-pub head-fits : (t tag count one two at : ℕ) (ss : List Slot) (f o p : List ℕ) → (t < fieldCount) × (length f ≡ begins fieldCount ss) → at ≡ begins t ss
+pub head-fits : (t tag count one two at : ℕ) (ss : List Slot) (f o p : List ℕ) → (t < fieldCount) × (isThere t ss ≡ true) × (length f ≡ begins fieldCount ss) → at ≡ begins t ss
     → Put (replicate 3 0) 0 (tag ∷ []) one o → Put o one (wordOf count) two p → at + length p ≤ length f
 head-fits t tag count one two at ss f o p h e x y =
     let three : length p ≡ 3 = unfold wordOf in ap length (head-put tag count one two o p x y) in
-    omega (arith, h .1, head-within t ss (h .0))
+    omega (arith, h .2, head-within t ss (h .0) (h .1))
 
 -- storing the form's memory, slot by slot
 pub stored-none : (f : List ℕ) (ss : List Slot) (m : List ℕ) → m ≡ storedTo 0 f ss m
@@ -158,7 +179,7 @@ pub stored-turn : (i at n : ℕ) (f : List ℕ) (ss : List Slot) (m o part : Lis
     → take (slotBytes * i) o ++ (part ++ drop (slotBytes * i + n - slotBytes * i) (drop (slotBytes * i) o)) ≡ storedTo (i + 1) f ss m
 stored-turn i at n f ss m o part d h g w l e p q c =
     let src = take (at + n - at) (drop at f) in
-    let inside : at + n ≤ length f = share-inside memoryRow i at n ss f d (omega arith) h g w e p in
+    let inside : at + n ≤ length f = share-inside memoryRow i at n ss f d (omega arith) (fixed-there memoryRow ss (omega arith)) h g w e p in
     let small : n ≤ slotBytes = size-fits memoryRow ((getD ss i d) .kind) n p in
     let long : length src ≡ n = rw (length-take, length-drop) (omega arith) in
     let whole : at + n - at ≡ n = omega arith in

@@ -15,20 +15,21 @@ use Rattle.proof_lists.specs.Tests.{by-test}
 use Rattle.rules.specs.declared.Slot.{Slot}
 use Rattle.rules.specs.Modelled.{slotCount, slotBytes, memoryBytes, absent}
 use Rattle.rules.specs.Fresh.{absentSlot}
-use Rattle.save_rules.specs.Form.{wordOf, setupField, memoryField, stateField, sensorField, fields, fieldCount, fieldAt, shareOf, shares, fieldBytes, formTo}
-use Rattle.save_rules.specs.Reading.{sizeIn, offset, begins, place, memoryRow, storedTo}
-use Rattle.save_rules.proofs.Places.{length-shares, length-form, share-within, begins-up}
+use Rattle.save_rules.specs.Form.{wordOf, setupField, memoryField, stateField, sensorField, pendingField, fields, fieldCount, fieldAt, shareOf, shares, wholeField, isThere, fieldBytes, formTo}
+use Rattle.save_rules.specs.Reading.{sizeIn, offset, span, begins, place, memoryRow, storedTo}
+use Rattle.save_rules.proofs.Places.{fixed-there, span-there, field-there, field-none, length-shares, length-form, share-within, begins-up}
 use Rattle.save_rules.proofs.Bytes.{length-stored, part-stored, whole-in}
-use Rattle.save_restore.specs.Tallied.{shareTallies, sharesTally, fieldTallies, fieldsTally, tallies}
+use Rattle.save_restore.specs.Tallied.{shareTallies, sharesTally, headTallies, fieldTallies, fieldsTally, tallies}
 
 -- only the share of memory goes by the memory
 pub share-any : (t : ℕ) (s : Slot) (p q : List ℕ) → (t ≡ memoryRow → ⊥) → shareOf t s p ≡ shareOf t s q
-unfolding shareOf fieldAt fields setupField stateField sensorField
+unfolding shareOf fieldAt fields setupField stateField sensorField pendingField
 share-any zero s p q h = refl
 share-any (suc zero) s p q h = absurd (h refl)
 share-any (suc (suc zero)) s p q h = refl
 share-any (suc (suc (suc zero))) s p q h = refl
-share-any (suc (suc (suc (suc t)))) s p q h = refl
+share-any (suc (suc (suc (suc zero)))) s p q h = refl
+share-any (suc (suc (suc (suc (suc t))))) s p q h = refl
 
 module _ (ss : List Slot) (f m : List ℕ) (sized : length m ≡ memoryBytes) (whole : length f ≡ begins fieldCount ss) where
   -- the memory that the form has for these slots
@@ -44,7 +45,7 @@ module _ (ss : List Slot) (f m : List ℕ) (sized : length m ≡ memoryBytes) (w
   memory-tallies k h = by-test (absent (getD ss k absentSlot))
       (λ a. rw a (stands-none f (place memoryRow k ss)))
       (λ a.
-      let w : place memoryRow k ss + sizeIn memoryRow (getD ss k absentSlot) ≤ begins fieldCount ss = share-within ss memoryRow k (omega arith) h in
+      let w : place memoryRow k ss + sizeIn memoryRow (getD ss k absentSlot) ≤ begins fieldCount ss = share-within ss memoryRow k (omega arith) (fixed-there memoryRow ss (omega arith)) h in
       let s : sizeIn memoryRow (getD ss k absentSlot) ≡ slotBytes = unfold sizeIn fieldAt fields memoryField absent in rw a in
       let p : part slotBytes k own ≡ take slotBytes (drop (place memoryRow k ss) f)
       = part-stored f ss m sized slotCount k h (omega arith) (λ j i. whole-in f ss j (omega arith) i) ∙ ap (λ (b : Bool). cond b (part slotBytes k m) (take slotBytes (drop (place memoryRow k ss) f))) a in
@@ -58,28 +59,35 @@ module _ (ss : List Slot) (f m : List ℕ) (sized : length m ≡ memoryBytes) (w
       (λ e. rw e (ap (λ (l : List ℕ). stands l f (place t k ss)) (share-any t (getD ss k absentSlot) [] (part slotBytes k own) (eqb-false t memoryRow e))))
 
   -- those of a field
-  shares-tally : (t k : ℕ) → t < fieldCount → k ≤ slotCount → sharesTally t k ss f ≡ stands (shares t k ss own) f (begins t ss + 3)
+  shares-tally : (t k : ℕ) → t < fieldCount → isThere t ss ≡ true → k ≤ slotCount → sharesTally t k ss f ≡ stands (shares t k ss own) f (begins t ss + 3)
   unfolding sharesTally shares place
-  shares-tally t zero h l = sym (stands-none f (begins t ss + 3))
-  shares-tally t (suc k) h l =
+  shares-tally t zero h i l = sym (stands-none f (begins t ss + 3))
+  shares-tally t (suc k) h i l =
       let n : length (shares t k ss own) ≡ offset t k ss = length-shares ss own own-sized t k (omega arith) in
-      let w : place t k ss + sizeIn t (getD ss k absentSlot) ≤ begins fieldCount ss = share-within ss t k h l in
+      let w : place t k ss + sizeIn t (getD ss k absentSlot) ≤ begins fieldCount ss = share-within ss t k h i l in
       let r : begins t ss + 3 + length (shares t k ss own) ≤ length f = omega arith in
-      ap₂ _&&_ (shares-tally t k h (omega arith)) (share-tallies t k l ∙ ap (λ (i : ℕ). stands (shareOf t (getD ss k absentSlot) (part slotBytes k own)) f (begins t ss + 3 + i)) (sym n))
+      ap₂ _&&_ (shares-tally t k h i (omega arith)) (share-tallies t k l ∙ ap (λ (i : ℕ). stands (shareOf t (getD ss k absentSlot) (part slotBytes k own)) f (begins t ss + 3 + i)) (sym n))
       ∙ sym (stands-append (shares t k ss own) (shareOf t (getD ss k absentSlot) (part slotBytes k own)) f (begins t ss + 3) r)
 
   -- a field
-  field-tallies : (t : ℕ) → t < fieldCount → fieldTallies t ss f ≡ stands (fieldBytes t ss own) f (begins t ss)
-  unfolding fieldTallies fieldBytes
-  field-tallies t h =
+  whole-field : (t : ℕ) → t < fieldCount → isThere t ss ≡ true → (headTallies t ss f && sharesTally t slotCount ss f) ≡ stands (wholeField t ss own) f (begins t ss)
+  unfolding headTallies wholeField
+  whole-field t h i =
       let n : length (shares t slotCount ss own) ≡ offset t slotCount ss = length-shares ss own own-sized t slotCount (omega arith) in
       let b : begins (suc t) ss ≤ begins fieldCount ss = begins-up ss (suc t) fieldCount h in
-      let e : begins (suc t) ss ≡ begins t ss + 3 + offset t slotCount ss = unfold begins in refl in
+      let e : begins (suc t) ss ≡ begins t ss + span t ss = unfold begins in refl in
+      let s : span t ss ≡ 3 + offset t slotCount ss = span-there t ss i in
       let three : length (fieldAt t .tag ∷ wordOf (offset t slotCount ss)) ≡ 3 = unfold wordOf in refl in
       rw n
       (ap₂ _&&_ {y = stands (fieldAt t .tag ∷ wordOf (offset t slotCount ss)) f (begins t ss)} refl
-      (shares-tally t slotCount h (omega arith) ∙ ap (λ (i : ℕ). stands (shares t slotCount ss own) f (begins t ss + i)) (sym three))
+      (shares-tally t slotCount h i (omega arith) ∙ ap (λ (i : ℕ). stands (shares t slotCount ss own) f (begins t ss + i)) (sym three))
       ∙ sym (stands-append (fieldAt t .tag ∷ wordOf (offset t slotCount ss)) (shares t slotCount ss own) f (begins t ss) (omega arith)))
+
+  field-tallies : (t : ℕ) → t < fieldCount → fieldTallies t ss f ≡ stands (fieldBytes t ss own) f (begins t ss)
+  unfolding fieldTallies
+  field-tallies t h = by-test (isThere t ss)
+      (λ i. rw (i, field-there ss own own-sized t i) (whole-field t h i))
+      (λ i. rw (i, field-none ss own own-sized t i) (sym (stands-none f (begins t ss))))
 
   -- the fields
   fields-tally : (t : ℕ) → t ≤ fieldCount → fieldsTally t ss f ≡ stands (formTo t ss own) f 0

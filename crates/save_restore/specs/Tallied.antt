@@ -2,7 +2,7 @@
 -- form's own, whatever they are, and are not looked at.
 -- Assumes nothing.
 use Prim.Native.Nat.{ℕ, zero, suc}
-use mathlib.Core.Bool.{Bool, true, _&&_, _||_}
+use mathlib.Core.Bool.{Bool, true, cond, _&&_, _||_}
 use mathlib.Core.List.{List, [], _∷_}
 use lib.Dec.{eqb}
 use lib.ListN.{length, getD}
@@ -10,7 +10,7 @@ use Rattle.proof_lists.specs.Same.{stands}
 use Rattle.rules.specs.declared.Slot.{Slot}
 use Rattle.rules.specs.Modelled.{slotCount}
 use Rattle.rules.specs.Fresh.{absentSlot}
-use Rattle.save_rules.specs.Form.{wordOf, fieldCount, fieldAt, shareOf}
+use Rattle.save_rules.specs.Form.{wordOf, fieldCount, fieldAt, shareOf, isThere}
 use Rattle.save_rules.specs.Reading.{offset, begins, place, memoryRow}
 
 -- a slot's share of a field, from a place on
@@ -22,9 +22,13 @@ unfoldable pub sharesTally : ℕ → ℕ → List Slot → List ℕ → Bool
 sharesTally t zero ss f = true
 sharesTally t (suc k) ss f = sharesTally t k ss f && shareTallies t (getD ss k absentSlot) f (place t k ss)
 
--- a field: tag and length, then the shares
+-- its tag and its length, before them
+unfoldable pub headTallies : ℕ → List Slot → List ℕ → Bool
+headTallies t ss f = stands (fieldAt t .tag ∷ wordOf (offset t slotCount ss)) f (begins t ss)
+
+-- a field, if it is there
 unfoldable pub fieldTallies : ℕ → List Slot → List ℕ → Bool
-fieldTallies t ss f = stands (fieldAt t .tag ∷ wordOf (offset t slotCount ss)) f (begins t ss) && sharesTally t slotCount ss f
+fieldTallies t ss f = cond (isThere t ss) (headTallies t ss f && sharesTally t slotCount ss f) true
 
 -- the fields in rows 0 to t - 1
 unfoldable pub fieldsTally : ℕ → List Slot → List ℕ → Bool

@@ -1,23 +1,32 @@
 // Reading a saved form: a bench restored, or the form refused. What a form is, and what holds of it, stands in the crate `save_rules`.
 ghost use mathlib.Core.Path.{_≡_};
-ghost use mathlib.Core.List.{_∷_};
+ghost use mathlib.Core.Bool.{true};
 ghost use Prim.Native.Nat.{_+_, _≤_, _<_};
 ghost use lib.ListN.{length};
 ghost use Rattle.proof_lists.specs.Same.{stands};
 ghost use Rattle.rules.specs.Modelled.{slotCount, memoryBytes};
-ghost use Rattle.save_rules.specs.Form.{wordOf, fieldCount, fieldAt};
-ghost use Rattle.save_rules.specs.Reading.{sizeIn, offset, begins, readField, busIn, storedTo, restoreOf};
-ghost use Rattle.save_restore.specs.Tallied.{shareTallies, sharesTally, fieldTallies, tallies};
+ghost use Rattle.save_rules.specs.Form.{fieldCount, isThere};
+ghost use Rattle.save_rules.specs.Reading.{sizeIn, begins, tagged, readShares, readField, busIn, storedTo, restoreOf};
+ghost use Rattle.save_restore.specs.Tallied.{shareTallies, sharesTally, headTallies, fieldTallies, tallies};
 use rules::Answer;
 use rules::Bus;
 use rules::Outcome;
 use rules::Refusal;
 use rules::Slot;
 
+// Whether a form has the field in row t: its tag stands where it would begin.
+fn tagged(t: usize, form: &[u8], slots: [Slot; 8]) -> bool
+    requires { ⌜ t < 5 ⌝ }
+    ensures { λ r. ⌜ r ≡ tagged t (now (form .entry)) slots ⌝ }
+{
+    let at = save_fields::offsets::begins(t, slots);
+    save_fields::shares::byte_at(form, at) == save_fields::shares::tag(t)
+}
+
 // Slots with what the field in row t of a form says of each.
-fn read_field(t: usize, form: &[u8], slots: [Slot; 8]) -> [Slot; 8]
-    requires { ⌜ t < 4 ⌝ }
-    ensures { λ r. ⌜ r ≡ readField t (now (form .entry)) slots ⌝ }
+fn read_shares(t: usize, form: &[u8], slots: [Slot; 8]) -> [Slot; 8]
+    requires { ⌜ t < 5 ⌝ }
+    ensures { λ r. ⌜ r ≡ readShares t (now (form .entry)) slots ⌝ }
 {
     let mut at = save_fields::offsets::begins(t, slots) + 3;
     let mut all = slots;
@@ -30,9 +39,20 @@ fn read_field(t: usize, form: &[u8], slots: [Slot; 8]) -> [Slot; 8]
     all
 }
 
+// The same where the form has that field, and otherwise the slots as they are.
+fn read_field(t: usize, form: &[u8], slots: [Slot; 8]) -> [Slot; 8]
+    requires { ⌜ t < 5 ⌝ }
+    ensures { λ r. ⌜ r ≡ readField t (now (form .entry)) slots ⌝ }
+{
+    if tagged(t, form, slots) {
+        return read_shares(t, form, slots);
+    }
+    slots
+}
+
 // The same of a bus.
 fn read_row(t: usize, form: &[u8], bus: Bus) -> Bus
-    requires { ⌜ t < 4 ⌝ }
+    requires { ⌜ t < 5 ⌝ }
     ensures { λ r. ⌜ r ≡ record { slots = readField t (now (form .entry)) (bus .slots) } ⌝ }
 {
     let old = bus.slots;
@@ -45,7 +65,7 @@ fn read_form(form: &[u8]) -> Bus
     ensures { λ r. ⌜ r ≡ busIn (now (form .entry)) ⌝ }
 {
     let mut bus = bus_setup::empty_bus();
-    for t in 0..4usize {
+    for t in 0..5usize {
         bus = read_row(t, form, bus);
     }
     bus
@@ -77,9 +97,9 @@ fn share_tallies(t: usize, s: Slot, form: &[u8], at: usize) -> bool
     stands(&room[..n], form, at)
 }
 
-// Whether the shares of all slots stand where they should.
+// Whether the shares of all slots stand where they should, in a field that is there.
 fn shares_tally(t: usize, slots: [Slot; 8], form: &[u8]) -> bool
-    requires { ⌜ (t < 4) × (length (now form) ≡ begins fieldCount slots) ⌝ }
+    requires { ⌜ (t < 5) × (isThere t slots ≡ true) × (length (now form) ≡ begins fieldCount slots) ⌝ }
     ensures { λ r. ⌜ r ≡ sharesTally t slotCount slots (now (form .entry)) ⌝ }
 {
     let mut at = save_fields::offsets::begins(t, slots) + 3;
@@ -94,8 +114,8 @@ fn shares_tally(t: usize, slots: [Slot; 8], form: &[u8]) -> bool
 
 // Whether the tag and the length of the field in row t do.
 fn head_tallies(t: usize, slots: [Slot; 8], form: &[u8]) -> bool
-    requires { ⌜ (t < 4) × (length (now form) ≡ begins fieldCount slots) ⌝ }
-    ensures { λ r. ⌜ r ≡ stands (fieldAt t .tag ∷ wordOf (offset t slotCount slots)) (now (form .entry)) (begins t slots) ⌝ }
+    requires { ⌜ (t < 5) × (isThere t slots ≡ true) × (length (now form) ≡ begins fieldCount slots) ⌝ }
+    ensures { λ r. ⌜ r ≡ headTallies t slots (now (form .entry)) ⌝ }
 {
     let at = save_fields::offsets::begins(t, slots);
     let count = save_fields::offsets::offset(t, slots, 8);
@@ -105,17 +125,28 @@ fn head_tallies(t: usize, slots: [Slot; 8], form: &[u8]) -> bool
     stands(&room, form, at)
 }
 
+// Whether the field in row t does, if it is there at all.
+fn field_tallies(t: usize, slots: [Slot; 8], form: &[u8]) -> bool
+    requires { ⌜ (t < 5) × (length (now form) ≡ begins fieldCount slots) ⌝ }
+    ensures { λ r. ⌜ r ≡ fieldTallies t slots (now (form .entry)) ⌝ }
+{
+    if save_fields::offsets::is_there(t, slots) {
+        let head = head_tallies(t, slots, form);
+        return head & shares_tally(t, slots, form);
+    }
+    true
+}
+
 // Whether a form is what a saving of these slots gives, but for the bytes of memory, which may be any.
 fn tallies(slots: [Slot; 8], form: &[u8]) -> bool
     ensures { λ r. ⌜ r ≡ tallies slots (now (form .entry)) ⌝ }
 {
-    if form.len() != save_fields::offsets::begins(4, slots) {
+    if form.len() != save_fields::offsets::begins(5, slots) {
         return false;
     }
     let mut ok = true;
-    for t in 0..4usize {
-        let head = head_tallies(t, slots, form);
-        ok = ok & (head & shares_tally(t, slots, form));
+    for t in 0..5usize {
+        ok = ok & field_tallies(t, slots, form);
     }
     ok
 }

@@ -1,8 +1,9 @@
--- A form in full, byte by byte, and what is refused of it: a bench with a memory in slot 0 and a memory with sensor in slot 2; and the longest form.
+-- A form in full, byte by byte, and what is refused of it: a bench with a memory in slot 0 and a memory with sensor in slot 2, without a pending change, so
+-- as P5 has it, and P8's field 5 with three sensors; and the longest form.
 -- Assumes nothing.
 use Prim.Native.Nat.{ℕ, _+_, _/_, _%_}
 use mathlib.Core.Path.{_≡_, refl}
-use mathlib.Core.Bool.{true, false}
+use mathlib.Core.Bool.{Bool, true, false}
 use mathlib.Core.List.{List, [], _∷_, map, _++_}
 use lib.ListN.{length, take, set, replicate}
 use Rattle.proof_lists.specs.Each.{mapFrom}
@@ -15,7 +16,7 @@ use Rattle.rules.specs.declared.Slot.{Slot}
 use Rattle.rules.specs.Modelled.{memoryBytes}
 use Rattle.rules.specs.Events.{refusalNumber}
 use Rattle.rules.specs.Refusals.{wrongLength}
-use Rattle.rules.specs.Fields.{inPhase, withLeft, pointing}
+use Rattle.rules.specs.Fields.{inPhase, withLeft, pointing, withConfiguration, withPending}
 use Rattle.rules.specs.Fresh.{noBlocks, freshSensor, absentSlot, atRest}
 use Rattle.save_rules.specs.declared.Saved.{Saved}
 use Rattle.save_rules.specs.declared.Saved.the-variants.{Form, Refused}
@@ -26,7 +27,7 @@ use Rattle.save_rules.specs.Open.{open-saved}
 
 -- slot 0: length 3, half 1, counter 80h, block 1 protected, high voltage off; slot 2: length 5, blocks 0 and 2 protected, high voltage on
 abbrev registers : Sensor
-registers = record { pointer = 5; configuration = 0x0241; high = 0x0500; low = 0x0104; critical = 0x0640; temperature = 0xC190; resolution = 3; timeout = 1; word = 0 }
+registers = record { pointer = 5; configuration = 0x0241; high = 0x0500; low = 0x0104; critical = 0x0640; temperature = 0xC190; resolution = 3; timeout = 1; word = 0; pending = false }
 
 abbrev memoryOne : Slot
 memoryOne = atRest 1 3 1 0x80 (false ∷ true ∷ false ∷ false ∷ []) false freshSensor
@@ -35,7 +36,7 @@ abbrev sampleBus : Bus
 sampleBus = record { slots = memoryOne ∷ absentSlot ∷ atRest 2 5 0 0x07 (true ∷ false ∷ true ∷ false ∷ []) true registers ∷ replicate 5 absentSlot }
 
 -- memory: A0h, A1h, A2h in slots 0, 1 and 2
-abbrev sampleMemory : List ℕ
+abbrev pub sampleMemory : List ℕ
 sampleMemory = replicate 512 0xA0 ++ replicate 512 0xA1 ++ replicate 512 0xA2 ++ replicate 2560 0xFF
 
 abbrev pub sampleForm : List ℕ
@@ -60,6 +61,36 @@ pub record Sample : Type 0 where
 pub sample : Sample
 unfolding open-saved
 sample = record { form = refl; saved = refl; accepts = refl; bus = refl; memory = refl }
+
+-- P8's field 5: three sensors, in slots 2, 5 and 7, whose pins are enabled in interrupt mode (register 01h is 0249h); a change is pending in the first and in
+-- the last. "tag 5, a byte for each sensor, 1 if a change is pending": all before it is as it is for the same bench with nothing pending, which has no such
+-- field ("present only when one is 1") and is read as it stands.
+abbrev sensing : Bool → Slot
+sensing on = atRest 2 5 0 0x07 (true ∷ false ∷ true ∷ false ∷ []) true (withPending on (withConfiguration 0x0249 registers))
+
+abbrev pub threeBus : Bool → Bool → Bool → Bus
+threeBus p q r = record { slots = memoryOne ∷ absentSlot ∷ sensing p ∷ absentSlot ∷ absentSlot ∷ sensing q ∷ absentSlot ∷ sensing r ∷ [] }
+
+abbrev ofThree : List ℕ → List ℕ
+ofThree bs = bs ++ bs ++ bs
+
+abbrev pub threeForm : List ℕ
+threeForm =
+    (0x01 ∷ 0x00 ∷ 0x10 ∷ 1 ∷ 3 ∷ 0 ∷ 0 ∷ 2 ∷ 5 ∷ 0 ∷ 0 ∷ 0 ∷ 0 ∷ 2 ∷ 5 ∷ 0 ∷ 0 ∷ 2 ∷ 5 ∷ [])
+    ++ (0x02 ∷ 0x08 ∷ 0x00 ∷ []) ++ replicate 512 0xA0 ++ replicate 512 0xA2 ++ replicate 1024 0xFF
+    ++ (0x03 ∷ 0x00 ∷ 0x10 ∷ 0x02 ∷ 1 ∷ 0x80 ∷ 0 ∷ []) ++ ofThree (0x05 ∷ 0 ∷ 0x07 ∷ 1 ∷ [])
+    ++ (0x04 ∷ 0x00 ∷ 0x2D ∷ []) ++ ofThree (0x05 ∷ 0x02 ∷ 0x49 ∷ 0x05 ∷ 0x00 ∷ 0x01 ∷ 0x04 ∷ 0x06 ∷ 0x40 ∷ 0xC1 ∷ 0x90 ∷ 0x00 ∷ 0x03 ∷ 0x00 ∷ 0x01 ∷ [])
+
+pub record Three : Type 0 where
+  pub before : formOf (threeBus false false false) sampleMemory ≡ threeForm
+  pub form : formOf (threeBus true false true) sampleMemory ≡ threeForm ++ 0x05 ∷ 0x00 ∷ 0x03 ∷ 1 ∷ 0 ∷ 1 ∷ []
+  pub bus-before : busIn threeForm ≡ threeBus false false false
+  pub bus : busIn (threeForm ++ 0x05 ∷ 0x00 ∷ 0x03 ∷ 1 ∷ 0 ∷ 1 ∷ []) ≡ threeBus true false true
+  pub other : busIn (threeForm ++ 0x05 ∷ 0x00 ∷ 0x03 ∷ 0 ∷ 1 ∷ 0 ∷ []) ≡ threeBus false true false
+
+pub three : Three
+unfolding open-saved
+three = record { before = refl; form = refl; bus-before = refl; bus = refl; other = refl }
 
 -- Saving refused: slot 1, which is present, in a write cycle or in an exchange; with these a wrong memory and a number out of range come first; and a buffer
 -- that is one byte short comes last. An absent slot may be in any phase.
@@ -93,6 +124,13 @@ state = 0x03 ∷ 0x00 ∷ 0x04 ∷ 0x0F ∷ 1 ∷ 0xFF ∷ 1 ∷ []
 abbrev sensor : List ℕ
 sensor = 0x04 ∷ 0x00 ∷ 0x0F ∷ 0x09 ∷ 0x02 ∷ 0x41 ∷ 0x05 ∷ 0x00 ∷ 0x01 ∷ 0x04 ∷ 0x06 ∷ 0x40 ∷ 0xC1 ∷ 0x90 ∷ 0x00 ∷ 0x03 ∷ 0x00 ∷ 0x01 ∷ []
 
+-- the same sensor with its pin enabled in interrupt mode, and its field 5
+abbrev pinned : List ℕ
+pinned = set sensor 5 0x49
+
+abbrev five : List ℕ
+five = 0x05 ∷ 0x00 ∷ 0x01 ∷ 0x01 ∷ []
+
 -- and that of a bench without slots, whose other fields are empty
 abbrev noPairs : List ℕ
 noPairs = 0x01 ∷ 0x00 ∷ 0x10 ∷ replicate 16 0
@@ -100,13 +138,15 @@ noPairs = 0x01 ∷ 0x00 ∷ 0x10 ∷ replicate 16 0
 abbrev empty : ℕ → List ℕ
 empty tag = tag ∷ 0x00 ∷ 0x00 ∷ []
 
--- both are accepted, and nothing that differs from one of them in one of these ways
+-- these are accepted, and nothing that differs from one of them in one of these ways
 abbrev Departs : List ℕ → Type 0
 Departs f = accepted f blank ≡ false
 
 pub record Table : Type 0 where
   pub right : accepted (pairs ++ bytes ++ state ++ sensor) blank ≡ true
   pub no-slot : accepted (noPairs ++ empty 2 ++ empty 3 ++ empty 4) blank ≡ true
+  pub not-pending : accepted (pairs ++ bytes ++ state ++ pinned) blank ≡ true
+  pub is-pending : accepted (pairs ++ bytes ++ state ++ pinned ++ five) blank ≡ true
   -- tags
   pub wrong-tag : Departs (set pairs 0 0x05 ++ bytes ++ state ++ sensor)
   pub wrong-order : Departs (noPairs ++ empty 2 ++ empty 4 ++ empty 3)
@@ -135,12 +175,31 @@ pub record Table : Type 0 where
   pub wrong-resolution : Departs (pairs ++ bytes ++ state ++ set sensor 15 0x04)
   pub high-timeout : Departs (pairs ++ bytes ++ state ++ set sensor 16 0x01)
   pub wrong-timeout : Departs (pairs ++ bytes ++ state ++ set sensor 17 0x02)
+  -- field 5: of zeros, another number than 0 or 1
+  pub zeros : Departs (pairs ++ bytes ++ state ++ pinned ++ set five 3 0x00)
+  pub another-number : Departs (pairs ++ bytes ++ state ++ pinned ++ set five 3 0x02)
+  -- a 1 where no change can be pending: bit 3 of 01h at 0, bit 0 at 0, bit 2 at 1; and in a slot without sensor
+  pub not-enabled : Departs (pairs ++ bytes ++ state ++ sensor ++ five)
+  pub comparator : Departs (pairs ++ bytes ++ state ++ set sensor 5 0x48 ++ five)
+  pub critical-alone : Departs (pairs ++ bytes ++ state ++ set sensor 5 0x4D ++ five)
+  pub no-sensor : Departs (set pairs 3 1 ++ bytes ++ state ++ empty 4 ++ five)
+  -- its length wrong; cut short; with a byte behind it; and another tag in its place
+  pub five-long : Departs (pairs ++ bytes ++ state ++ pinned ++ 0x05 ∷ 0x00 ∷ 0x02 ∷ 0x01 ∷ 0x00 ∷ [])
+  pub five-length : Departs (pairs ++ bytes ++ state ++ pinned ++ set five 2 0x02)
+  pub five-cut : Departs (pairs ++ bytes ++ state ++ pinned ++ take 3 five)
+  pub behind-five : Departs (pairs ++ bytes ++ state ++ pinned ++ five ++ 0x00 ∷ [])
+  pub tag-6 : Departs (pairs ++ bytes ++ state ++ pinned ++ set five 0 0x06)
+  -- "bit 4 reads whether the pin is asserted (saved as 0)"; and bit 5
+  pub pin-saved : Departs (pairs ++ bytes ++ state ++ set sensor 5 0x59 ++ five)
+  pub clear-saved : Departs (pairs ++ bytes ++ state ++ set sensor 5 0x69 ++ five)
 
 pub departures : Table
 unfolding open-saved
 departures = record {
   right = refl;
   no-slot = refl;
+  not-pending = refl;
+  is-pending = refl;
   wrong-tag = refl;
   wrong-order = refl;
   twice = refl;
@@ -164,6 +223,19 @@ departures = record {
   wrong-resolution = refl;
   high-timeout = refl;
   wrong-timeout = refl;
+  zeros = refl;
+  another-number = refl;
+  not-enabled = refl;
+  comparator = refl;
+  critical-alone = refl;
+  no-sensor = refl;
+  five-long = refl;
+  five-length = refl;
+  five-cut = refl;
+  behind-five = refl;
+  tag-6 = refl;
+  pin-saved = refl;
+  clear-saved = refl;
 }
 
 -- Reading: a memory of another length comes first, then a form that is not accepted; both leave the bus, and every byte of the memory, though all but the form's last
@@ -218,13 +290,17 @@ pub numbers : map {B = ℕ × ℕ} (λ (r : Saved). (savedNumber r, savedValue r
 unfolding savedNumber savedValue refusalNumber
 numbers = refl
 
--- The longest form: eight memories with sensors, told apart by counter and pointer. Byte j of slot k is j / (k + 1), modulo 256, so that no two places have the same
--- bytes in all slots. Every field has the slots in their order, and the memory has each slot's bytes in theirs.
-abbrev numbered : ℕ → Slot
-numbered k = atRest 2 5 0 k noBlocks false (pointing k freshSensor)
+-- The longest form: eight memories with sensors, told apart by counter, pointer and what is pending. Byte j of slot k is j / (k + 1), modulo 256, so that no two
+-- places have the same bytes in all slots. Every field has the slots in their order, and the memory has each slot's bytes in theirs. With nothing pending it is the
+-- longest that P5 has.
+abbrev numbered : Bool → ℕ → Slot
+numbered on k = atRest 2 5 0 k noBlocks false (withPending on (withConfiguration 0x0009 (pointing k freshSensor)))
 
 abbrev fullBus : Bus
-fullBus = record { slots = map numbered (0 ∷ 1 ∷ 2 ∷ 3 ∷ 4 ∷ 5 ∷ 6 ∷ 7 ∷ []) }
+fullBus = record { slots = numbered true 0 ∷ numbered true 1 ∷ numbered false 2 ∷ numbered true 3 ∷ numbered false 4 ∷ numbered false 5 ∷ numbered false 6 ∷ numbered true 7 ∷ [] }
+
+abbrev calmBus : Bus
+calmBus = record { slots = map (numbered false) (0 ∷ 1 ∷ 2 ∷ 3 ∷ 4 ∷ 5 ∷ 6 ∷ 7 ∷ []) }
 
 abbrev fullMemory : List ℕ
 fullMemory = mapFrom (λ n b. n % 512 / (n / 512 + 1) % 256) 0 blank
@@ -232,18 +308,23 @@ fullMemory = mapFrom (λ n b. n % 512 / (n / 512 + 1) % 256) 0 blank
 abbrev ofEach : (ℕ → List ℕ) → List ℕ
 ofEach f = f 0 ++ f 1 ++ f 2 ++ f 3 ++ f 4 ++ f 5 ++ f 6 ++ f 7
 
-abbrev fullForm : List ℕ
-fullForm =
+abbrev calmForm : List ℕ
+calmForm =
     (0x01 ∷ 0x00 ∷ 0x10 ∷ []) ++ ofEach (λ k. 2 ∷ 5 ∷ [])
     ++ (0x02 ∷ 0x10 ∷ 0x00 ∷ []) ++ fullMemory
     ++ (0x03 ∷ 0x00 ∷ 0x20 ∷ []) ++ ofEach (λ k. 0x00 ∷ 0 ∷ k ∷ 0 ∷ [])
-    ++ (0x04 ∷ 0x00 ∷ 0x78 ∷ []) ++ ofEach (λ k. k ∷ replicate 11 0x00 ++ 0x01 ∷ 0x00 ∷ 0x01 ∷ [])
+    ++ (0x04 ∷ 0x00 ∷ 0x78 ∷ []) ++ ofEach (λ k. k ∷ 0x00 ∷ 0x09 ∷ replicate 9 0x00 ++ 0x01 ∷ 0x00 ∷ 0x01 ∷ [])
+
+abbrev fullForm : List ℕ
+fullForm = calmForm ++ 0x05 ∷ 0x00 ∷ 0x08 ∷ 1 ∷ 1 ∷ 0 ∷ 1 ∷ 0 ∷ 0 ∷ 0 ∷ 1 ∷ []
 
 pub record Full : Type 0 where
-  pub saved : saveOf fullBus fullMemory (replicate 4276 0xEE) ≡ (Form 4276, fullForm)
-  pub short : saveOf fullBus fullMemory (replicate 4275 0xEE) ≡ (Refused TooShort, replicate 4275 0xEE)
+  pub saved : saveOf fullBus fullMemory (replicate 4287 0xEE) ≡ (Form 4287, fullForm)
+  pub short : saveOf fullBus fullMemory (replicate 4286 0xEE) ≡ (Refused TooShort, replicate 4286 0xEE)
   pub bus : busIn fullForm ≡ fullBus
+  pub calm-saved : saveOf calmBus fullMemory (replicate 4276 0xEE) ≡ (Form 4276, calmForm)
+  pub calm-bus : busIn calmForm ≡ calmBus
 
 pub full : Full
 unfolding open-saved
-full = record { saved = refl; short = refl; bus = refl }
+full = record { saved = refl; short = refl; bus = refl; calm-saved = refl; calm-bus = refl }

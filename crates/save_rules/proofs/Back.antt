@@ -23,12 +23,12 @@ use Rattle.rules.specs.Refusals.{wrongLength, slotInRange, inRange}
 use Rattle.rules.proofs.Range.Kept.{InRange, facts, test}
 use Rattle.save_rules.specs.declared.Saved.{Saved}
 use Rattle.save_rules.specs.declared.Saved.the-variants.{Form}
-use Rattle.save_rules.specs.Form.{fieldCount, fieldAt, shareOf, formOf}
+use Rattle.save_rules.specs.Form.{fieldCount, fieldAt, shareOf, isThere, formOf}
 use Rattle.save_rules.specs.Saving.{allQuiet, saveOf, savedValue}
-use Rattle.save_rules.specs.Reading.{sizeIn, begins, place, readTo, busIn, memoryRow, memoryIn, accepted, restoreOf}
+use Rattle.save_rules.specs.Reading.{sizeIn, begins, place, tagged, readTo, busIn, memoryRow, memoryIn, accepted, restoreOf}
 use Rattle.save_rules.specs.Rested.{rested, restedBus, Typed}
-use Rattle.save_rules.proofs.Places.{share-at, bytes-of-form, length-form, same-place, begins-by-kinds, place-by-kinds, same-form, length-readTo, read-at}
-use Rattle.save_rules.proofs.Stages.{stage, stage-next, stage-size, share-rested, rested-in-range, rested-kind}
+use Rattle.save_rules.proofs.Places.{none-asks, tagged-there, share-at, bytes-of-form, length-form, SameSize, SameNeed, same-there, same-begins, same-tagged, same-place, begins-by-kinds, place-by-kinds, same-form, length-readTo, read-at, not-read}
+use Rattle.save_rules.proofs.Stages.{stage, stage-next, stage-same, stage-size, stage-needs, share-rested, rested-in-range, rested-kind, rested-needs}
 use Rattle.save_rules.proofs.Bytes.{part-read}
 
 -- what is kept of an absent slot is an absent slot
@@ -57,17 +57,42 @@ module _ (b : Bus) (m : List ℕ) (typed : Typed b) (ranged : inRange b ≡ true
   unfolding inRange
   in-range k h = facts (slot k) (allOf-at slotInRange k ss absentSlot (rw (typed .slots) h) ranged)
 
-  -- each field read in its turn
-  read-stage : (t : ℕ) → t ≤ fieldCount → (k : ℕ) → k < slotCount → getD (readTo t (formOf b m)) k absentSlot ≡ stage t (slot k)
+  -- each field read in its turn: one that is there is read, and one that is not says nothing, which is what it would say
+  abbrev Read : ℕ → Type 0
+  Read t = (k : ℕ) → k < slotCount → getD (readTo t (formOf b m)) k absentSlot ≡ stage t (slot k)
+
+  read-sizes : (t : ℕ) → Read t → (u : ℕ) → u ≤ t → SameSize (readTo t (formOf b m)) ss u
+  read-sizes t r u g j i = ap (sizeIn u) (r j i) ∙ stage-size t u (slot j) g
+
+  read-needs : (t : ℕ) → Read t → (u : ℕ) → u < t → SameNeed (readTo t (formOf b m)) ss u
+  read-needs t r u g j i = ap (λ (s : Slot). fieldAt u .needed s) (r j i) ∙ stage-needs t u (slot j) g
+
+  read-tagged : (t : ℕ) → t < fieldCount → Read t → tagged t (formOf b m) (readTo t (formOf b m)) ≡ isThere t ss
   unfolding formOf
-  read-stage zero l k h = unfold readTo stage in getD-replicate slotCount k absentSlot absentSlot h
-  read-stage (suc t) l k h =
+  read-tagged t l r =
       let f = formOf b m in
-      let p : place t k (readTo t f) ≡ place t k ss
-      = same-place (readTo t f) ss t k (omega arith) (λ u g j i. ap (sizeIn u) (read-stage t (omega arith) j i) ∙ stage-size t u (slot j) g) in
-      read-at t k f h
-      ∙ ap₂ (fieldAt t .reads f) p (read-stage t (omega arith) k h)
-      ∙ stage-next (slot k) (part slotBytes k m) f (place t k ss) t l (in-range k h) (four-blocks k h) (λ j g. share-at ss m sized t k j l h g)
+      let p : begins t (readTo t f) ≡ begins t ss
+      = same-begins (readTo t f) ss t (λ u g. read-sizes t r u (omega arith)) (λ u g. same-there (readTo t f) ss u (read-needs t r u g)) in
+      same-tagged (readTo t f) ss t f p ∙ tagged-there ss m sized t l
+
+  read-next : (t : ℕ) → t < fieldCount → Read t → Read (suc t)
+  unfolding formOf
+  read-next t l r k h =
+      let f = formOf b m in
+      by-test (isThere t ss)
+      (λ e.
+      let p : place t k (readTo t f) ≡ place t k ss = same-place (readTo t f) ss t k (omega arith) (read-sizes t r) (read-needs t r) in
+      read-at t k f (read-tagged t l r ∙ e) h
+      ∙ ap₂ (fieldAt t .reads f) p (r k h)
+      ∙ stage-next (slot k) (part slotBytes k m) f (place t k ss) t l (in-range k h) (four-blocks k h) (λ j g. share-at ss m sized t k j l e h g))
+      (λ e.
+      ap (λ (rs : List Slot). getD rs k absentSlot) (not-read t f (read-tagged t l r ∙ e))
+      ∙ r k h
+      ∙ stage-same t (slot k) l (none-asks t ss e k h))
+
+  read-stage : (t : ℕ) → t ≤ fieldCount → Read t
+  read-stage zero l k h = unfold readTo stage in getD-replicate slotCount k absentSlot absentSlot h
+  read-stage (suc t) l k h = read-next t l (read-stage t (omega arith)) k h
 
   -- "What was saved reads back the same, the rest as fresh"
   slots-back : readTo fieldCount (formOf b m) ≡ map rested ss
@@ -82,7 +107,7 @@ module _ (b : Bus) (m : List ℕ) (typed : Typed b) (ranged : inRange b ≡ true
   unfolding busIn restedBus
   bus-back = λ i. record { slots = slots-back i }
 
-  -- the bus read has the kinds of the one that was saved, so that everything stands where it did
+  -- the bus read has the kinds and the needs of the one that was saved, so that everything stands where it did
   slot-back : (k : ℕ) → getD (busIn (formOf b m) .slots) k absentSlot ≡ rested (slot k)
   unfolding restedBus
   slot-back k = ap (λ (c : Bus). getD (c .slots) k absentSlot) bus-back ∙ rested-at ss k
@@ -90,9 +115,14 @@ module _ (b : Bus) (m : List ℕ) (typed : Typed b) (ranged : inRange b ≡ true
   kind-back : (k : ℕ) → k < slotCount → (getD (busIn (formOf b m) .slots) k absentSlot) .kind ≡ (slot k) .kind
   kind-back k h = ap (λ (s : Slot). s .kind) (slot-back k) ∙ rested-kind (slot k)
 
+  need-back : (t : ℕ) → SameNeed (busIn (formOf b m) .slots) ss t
+  need-back t k h = ap (λ (s : Slot). fieldAt t .needed s) (slot-back k) ∙ rested-needs t (slot k)
+
   length-back : begins fieldCount (busIn (formOf b m) .slots) ≡ length (formOf b m)
   unfolding formOf
-  length-back = begins-by-kinds (busIn (formOf b m) .slots) ss kind-back fieldCount ∙ sym (length-form ss m sized fieldCount)
+  length-back =
+      let rs = busIn (formOf b m) .slots in
+      begins-by-kinds rs ss kind-back fieldCount (λ u l. same-there rs ss u (need-back u)) ∙ sym (length-form ss m sized fieldCount)
 
   module _ (n : List ℕ) (wide : length n ≡ memoryBytes) where
     -- the bytes of present slots as they were saved, "absent slots' bytes untouched"
@@ -100,7 +130,7 @@ module _ (b : Bus) (m : List ℕ) (typed : Typed b) (ranged : inRange b ≡ true
     part-back k h =
         let rs = busIn (formOf b m) .slots in
         let a : absent (getD rs k absentSlot) ≡ absent (slot k) = unfold absent in ap (λ (j : ℕ). eqb j 0) (kind-back k h) in
-        let p : place memoryRow k rs ≡ place memoryRow k ss = place-by-kinds rs ss kind-back memoryRow k (omega arith) in
+        let p : place memoryRow k rs ≡ place memoryRow k ss = place-by-kinds rs ss kind-back memoryRow k (omega arith) (λ u l. need-back u) in
         part-read (formOf b m) n k wide (omega (arith, length-back)) h
         ∙ ap₂ (λ (c : Bool) (at : ℕ). cond c (part slotBytes k n) (take slotBytes (drop at (formOf b m)))) a p
         ∙ by-test (absent (slot k)) (λ e. rw e) (λ e. rw e (unfold formOf in bytes-of-form ss m sized k h e))
@@ -112,6 +142,7 @@ module _ (b : Bus) (m : List ℕ) (typed : Typed b) (ranged : inRange b ≡ true
         same-form (busIn (formOf b m) .slots) ss (memoryIn (formOf b m) n) m fieldCount
         (λ t k h. ap (λ (s : Slot). shareOf t s (part slotBytes k (memoryIn (formOf b m) n))) (slot-back k)
         ∙ share-rested t (slot k) (part slotBytes k m) _ (in-range k h) (λ a. part-back k h ∙ rw a))
+        need-back
 
     range-back : inRange (busIn (formOf b m)) ≡ true
     range-back = ap inRange bus-back ∙ rested-bus-in-range b ranged

@@ -1,6 +1,6 @@
 -- Numbers as the form writes them: a word of two bytes, a byte of bits, and registers that fit in a byte.
 -- Assumes nothing.
-use Prim.Native.Nat.{ℕ, zero, suc, _+_, _*_, _/_, _%_, _^_, _≤_, _<_}
+use Prim.Native.Nat.{ℕ, zero, suc, _+_, _*_, _/_, _%_, _^_, min, _≤_, _<_}
 use native.Mathlib.Nat.{pow-suc, mul-comm, div-one, div-div-eq-div-mul}
 use native.Mathlib.Omega.{arith}
 use mathlib.Core.Path.{_≡_, refl, sym, _∙_, ap, ap₂}
@@ -11,6 +11,7 @@ use lib.Dec.{eqb}
 use lib.ListN.{length, getD}
 use borrow.Author.Tests.{eqb-true, eq-eqb, ne-eqb}
 use Rattle.rules.specs.Refusals.{keptIn}
+use Rattle.rules.proofs.Registers.Masks.{and-bit}
 use Rattle.save_rules.specs.Form.{bitsOf, bitsIn}
 
 -- "with the high byte first": a word is its two bytes
@@ -61,3 +62,12 @@ bits-small (b ∷ bs) = let i = bits-small bs in let c = bit-small b in rw pow-s
 pub kept-small : (bits v : ℕ) → keptIn bits v ≡ true → v ≤ bits
 unfolding keptIn
 kept-small bits v e = let h : bitAnd v bits ≤ bits = and-le-r v bits in let f : bitAnd v bits ≡ v = eqb-true (bitAnd v bits) v e in omega arith
+
+-- and a bit that is not among them is 0
+pub not-kept : (bits v k : ℕ) → keptIn bits v ≡ true → bits / 2 ^ k % 2 ≡ 0 → v / 2 ^ k % 2 ≡ 0
+unfolding keptIn
+not-kept bits v k e h =
+    let f : bitAnd v bits ≡ v = eqb-true (bitAnd v bits) v e in
+    let b : v / 2 ^ k % 2 ≡ min (v / 2 ^ k % 2) (bits / 2 ^ k % 2) = ap (λ (n : ℕ). n / 2 ^ k % 2) (sym f) ∙ and-bit k v bits in
+    let m : min (v / 2 ^ k % 2) (bits / 2 ^ k % 2) ≡ 0 = rw h (omega arith) in
+    b ∙ m

@@ -17,7 +17,7 @@ use Rattle.rules.specs.Modelled.{slotCount, slotBytes, memoryBytes, absent}
 use Rattle.rules.specs.Fresh.{absentSlot}
 use Rattle.save_rules.specs.Form.{memoryField, fields, fieldCount, fieldAt}
 use Rattle.save_rules.specs.Reading.{sizeIn, begins, place, memoryRow, storedTo, memoryIn, busIn}
-use Rattle.save_rules.proofs.Places.{share-within}
+use Rattle.save_rules.proofs.Places.{fixed-there, share-within}
 
 module _ (f : List ℕ) (ss : List Slot) (m : List ℕ) where
   -- slot k's bytes in the form
@@ -62,7 +62,7 @@ module _ (f : List ℕ) (ss : List Slot) (m : List ℕ) where
 pub whole-in : (f : List ℕ) (ss : List Slot) (k : ℕ) → begins fieldCount ss ≤ length f → k < slotCount → absent (getD ss k absentSlot) ≡ false
     → length (take slotBytes (drop (place memoryRow k ss) f)) ≡ slotBytes
 whole-in f ss k h l a =
-    let w : place memoryRow k ss + sizeIn memoryRow (getD ss k absentSlot) ≤ begins fieldCount ss = share-within ss memoryRow k (omega arith) l in
+    let w : place memoryRow k ss + sizeIn memoryRow (getD ss k absentSlot) ≤ begins fieldCount ss = share-within ss memoryRow k (omega arith) (fixed-there memoryRow ss (omega arith)) l in
     let s : sizeIn memoryRow (getD ss k absentSlot) ≡ slotBytes = unfold sizeIn fieldAt fields memoryField absent in rw a in
     rw (length-take, length-drop) (omega arith)
 

@@ -6,6 +6,7 @@ pub mod Bytes
 pub mod Saves
 pub mod Back
 pub mod Once
+pub mod Before
 pub mod OneForm
 pub mod Clerks
 pub mod Onward

@@ -17,9 +17,9 @@ use Rattle.rules.specs.Fresh.{freshSlot, setupSlot, absentSlot, atRest}
 use Rattle.rules.specs.Refusals.{inRange}
 use Rattle.rules.specs.Runs.{Bench}
 use Rattle.save_rules.specs.declared.Saved.the-variants.{Form}
-use Rattle.save_rules.specs.Form.{setupField, memoryField, stateFrom, stateField, sensorField, fields, fieldCount, fieldAt, formOf}
+use Rattle.save_rules.specs.Form.{setupField, memoryField, stateFrom, stateField, sensorField, pendingField, fields, fieldCount, fieldAt, formOf}
 use Rattle.save_rules.specs.Saving.{isIdle, quiet, allQuiet, saveOf}
-use Rattle.save_rules.specs.Reading.{begins, place, readField, readTo, busIn, memoryIn, restored, accepted}
+use Rattle.save_rules.specs.Reading.{begins, place, tagged, readShares, readField, readTo, busIn, memoryIn, restored, accepted}
 use Rattle.save_rules.specs.Rested.{rested, restedBus, Typed}
 use Rattle.save_rules.proofs.Bits.{length-bits}
 use Rattle.save_rules.proofs.Places.{length-readTo, length-formOf}
@@ -31,18 +31,20 @@ abbrev FourBits : Slot → Type 0
 FourBits s = length (s .protection) ≡ 4
 
 reads-blocks : (t : ℕ) (f : List ℕ) (at : ℕ) (s : Slot) → FourBits s → FourBits (fieldAt t .reads f at s)
-unfolding fieldAt fields setupField memoryField stateField stateFrom sensorField setupSlot freshSlot open-fields
+unfolding fieldAt fields setupField memoryField stateField stateFrom sensorField pendingField setupSlot freshSlot open-fields
 reads-blocks zero f at s h = refl
 reads-blocks (suc zero) f at s h = h
 reads-blocks (suc (suc zero)) f at s h = cond-cases FourBits (absent s) (λ a. h) (λ a. length-bits 4 (getD f at 0))
 reads-blocks (suc (suc (suc zero))) f at s h = cond-cases FourBits (sensing s) (λ a. h) (λ a. h)
-reads-blocks (suc (suc (suc (suc t)))) f at s h = refl
+reads-blocks (suc (suc (suc (suc zero)))) f at s h = cond-cases FourBits (sensing s) (λ a. h) (λ a. h)
+reads-blocks (suc (suc (suc (suc (suc t))))) f at s h = refl
 
 blocks-read : (t : ℕ) (f : List ℕ) → Every FourBits (readTo t f)
-unfolding readTo readField
+unfolding readTo readField readShares
 blocks-read zero f = every-replicate FourBits slotCount absentSlot (unfold absentSlot freshSlot in refl)
-blocks-read (suc t) f =
-    every-mapFrom FourBits (λ k s. fieldAt t .reads f (place t k (readTo t f)) s) (λ k s h. reads-blocks t f (place t k (readTo t f)) s h) 0 (readTo t f) (blocks-read t f)
+blocks-read (suc t) f = cond-cases (Every FourBits) (tagged t f (readTo t f))
+    (λ e. every-mapFrom FourBits (λ k s. fieldAt t .reads f (place t k (readTo t f)) s) (λ k s h. reads-blocks t f (place t k (readTo t f)) s h) 0 (readTo t f) (blocks-read t f))
+    (λ e. blocks-read t f)
 
 pub typed-read : (f : List ℕ) → Typed (busIn f)
 unfolding busIn
@@ -73,7 +75,7 @@ module _ (f n : List ℕ) (accepts : accepted f n ≡ true) where
     pub length-restored : length (memoryIn f n) ≡ memoryBytes
     length-restored = length-read f n ∙ sized
 
-    -- it is as long as the kinds of its slots say
+    -- it is as long as the kinds and the needs of its slots say
     pub accepted-length : length f ≡ begins fieldCount (busIn f .slots)
     unfolding restored
     accepted-length = sym (ap length written-again) ∙ length-formOf (busIn f) (memoryIn f n) length-restored

@@ -34,7 +34,7 @@ use Rattle.save_rules.specs.Form.{formOf}
 use Rattle.save_rules.specs.Saving.{quiet, allQuiet}
 use Rattle.save_rules.specs.Reading.{busIn, memoryIn, restored, accepted}
 use Rattle.save_rules.specs.Rested.{rested, restedBus, Typed}
-use Rattle.runs.proofs.FromSetup.Plain.{FourBlocks, slot-blocks, setup-blocks, Plain, next-plain, setup-plain}
+use Rattle.runs.proofs.FromSetup.Plain.{FourBlocks, slot-blocks, setup-blocks, Plain, slot-plain, setup-plain}
 use Rattle.save_rules.proofs.Bytes.{length-read}
 use Rattle.save_rules.proofs.Saves.{quiet-idle}
 use Rattle.save_rules.proofs.Back.{ReadsBack, reads-back}
@@ -72,7 +72,7 @@ next-calm e x c = record {
   ranged = next-in-range e x (c .ranged);
   blocks = next-everywhere FourBlocks slot-blocks e x (c .blocks);
   reach = next-everywhere Reach slot-reach e x (c .reach);
-  plain = next-plain e x (c .plain);
+  plain = next-everywhere Plain slot-plain e x (c .plain);
 }
 
 pub after-calm : (es : List Event) (x : Bench) → Calm x → Calm (after es x)

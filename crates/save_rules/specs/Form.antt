@@ -1,8 +1,8 @@
--- Request P5, "Saving a bench overnight": the saved form, as a table of fields over the slots. Writing, reading and what is proved of them go by
--- this table alone.
+-- Request P5, "Saving a bench overnight", with what P8 adds to it: the saved form, as a table of fields over the slots. Writing, reading and what is
+-- proved of them go by this table alone.
 -- Assumes nothing.
 use Prim.Native.Nat.{ℕ, zero, suc, _+_, _*_, _/_, _%_}
-use mathlib.Core.Bool.{Bool, cond}
+use mathlib.Core.Bool.{Bool, true, false, cond, _&&_, _||_}
 use mathlib.Core.List.{List, [], _∷_, _++_}
 use lib.Dec.{eqb}
 use lib.ListN.{length, getD}
@@ -11,7 +11,7 @@ use Rattle.rules.specs.declared.Bus.{Bus}
 use Rattle.rules.specs.declared.Sensor.{Sensor}
 use Rattle.rules.specs.declared.Slot.{Slot}
 use Rattle.rules.specs.Modelled.{slotCount, slotBytes, absent, sensing}
-use Rattle.rules.specs.Fields.{inHalf, atCounter, withVoltage, protecting, expecting, withSensor}
+use Rattle.rules.specs.Fields.{inHalf, atCounter, withVoltage, protecting, expecting, withSensor, withPending}
 use Rattle.rules.specs.Fresh.{setupSlot, absentSlot}
 use Rattle.rules.specs.Sensor.{registerOf}
 use Rattle.script_text.specs.Records.{pairAt}
@@ -33,18 +33,25 @@ unfoldable pub bitsIn : ℕ → ℕ → List Bool
 bitsIn zero v = []
 bitsIn (suc n) v = eqb (v % 2) 1 ∷ bitsIn n (v / 2)
 
--- A field of the form: its tag; how many bytes a slot of each kind has in it; what these are, of a slot with its 512 bytes; and a slot with what the
--- bytes from a place on say of it. (A slot's memory is no part of the slot: what is read of it is Reading.memoryIn.)
+-- A field of the form: its tag; whether a slot needs it (P8: "present only when one is 1": it is in the form exactly if a slot needs it); how many
+-- bytes a slot of each kind has in it; what these are, of a slot with its 512 bytes; and a slot with what the bytes from a place on say of it. (A
+-- slot's memory is no part of the slot: what is read of it is Reading.memoryIn.)
 pub record Field : Type 0 where
   pub tag : ℕ
+  pub needed : Slot → Bool
   pub size : ℕ → ℕ
   pub writes : Slot → List ℕ → List ℕ
   pub reads : List ℕ → ℕ → Slot → Slot
+
+-- P5's fields are in every form
+abbrev pub always : Slot → Bool
+always s = true
 
 -- "1 the eight setup pairs, an absent slot's length as 0" (as a state in range has it: row 6)
 unfoldable pub setupField : Field
 setupField = record {
   tag = 1;
+  needed = always;
   size = λ kind. 2;
   writes = λ s m. s .kind ∷ s .length ∷ [];
   reads = λ f at s. setupSlot (pairAt f at);
@@ -54,6 +61,7 @@ setupField = record {
 unfoldable pub memoryField : Field
 memoryField = record {
   tag = 2;
+  needed = always;
   size = λ kind. cond (eqb kind 0) 0 slotBytes;
   writes = λ s m. cond (absent s) [] m;
   reads = λ f at s. s;
@@ -71,6 +79,7 @@ stateFrom f at s =
 unfoldable pub stateField : Field
 stateField = record {
   tag = 3;
+  needed = always;
   size = λ kind. cond (eqb kind 0) 0 4;
   writes = λ s m. cond (absent s) [] (stateBytes s);
   reads = λ f at s. cond (absent s) s (stateFrom f at s);
@@ -88,7 +97,8 @@ registersTo (suc n) x = registersTo n x ++ wordOf (registerOf x (getD savedRegis
 unfoldable pub sensorBytes : Sensor → List ℕ
 sensorBytes x = x .pointer ∷ registersTo 7 x
 
--- registers 08h and 09h are held in a byte: of theirs the low byte is read (a high byte that is not 0 would not be written so)
+-- registers 08h and 09h are held in a byte: of theirs the low byte is read (a high byte that is not 0 would not be written so); that a change is
+-- pending is not told here
 unfoldable pub sensorFrom : List ℕ → ℕ → Sensor
 sensorFrom f at = record {
   pointer = getD f at 0;
@@ -100,22 +110,39 @@ sensorFrom f at = record {
   resolution = getD f (at + 12) 0;
   timeout = getD f (at + 14) 0;
   word = 0x0000;
+  pending = false;
 }
 
 unfoldable pub sensorField : Field
 sensorField = record {
   tag = 4;
+  needed = always;
   size = λ kind. cond (eqb kind 2) 15 0;
   writes = λ s m. cond (sensing s) (sensorBytes (s .sensor)) [];
   reads = λ f at s. cond (sensing s) (withSensor (sensorFrom f at) s) s;
 }
 
+-- P8: "tag 5, a byte for each sensor, 1 if a change is pending, present only when one is 1". (Of a byte that is neither 0 nor 1 nothing is pending,
+-- and it would not be written so.)
+unfoldable pub pendingField : Field
+pendingField = record {
+  tag = 5;
+  needed = λ s. sensing s && s .sensor .pending;
+  size = λ kind. cond (eqb kind 2) 1 0;
+  writes = λ s m. cond (sensing s) (cond (s .sensor .pending) 1 0 ∷ []) [];
+  reads = λ f at s. cond (sensing s) (withSensor (withPending (eqb (getD f at 0) 1) (s .sensor)) s) s;
+}
+
 -- "a run of fields [..] Tags in ascending order, each once"
 unfoldable pub fields : List Field
-fields = setupField ∷ memoryField ∷ stateField ∷ sensorField ∷ []
+fields = setupField ∷ memoryField ∷ stateField ∷ sensorField ∷ pendingField ∷ []
 
 abbrev pub fieldCount : ℕ
-fieldCount = 4
+fieldCount = 5
+
+-- so many of them are P5's
+abbrev pub fixedCount : ℕ
+fixedCount = 4
 
 -- the field in row t of the table, and a slot's share of it
 unfoldable pub fieldAt : ℕ → Field
@@ -130,8 +157,20 @@ shares t zero ss m = []
 shares t (suc k) ss m = shares t k ss m ++ shareOf t (getD ss k absentSlot) (part slotBytes k m)
 
 -- "one-byte tag, two-byte length with the high byte first, contents"
+unfoldable pub wholeField : ℕ → List Slot → List ℕ → List ℕ
+wholeField t ss m = fieldAt t .tag ∷ wordOf (length (shares t slotCount ss m)) ++ shares t slotCount ss m
+
+-- whether one of slots 0 to k - 1 needs the field in row t; and whether it is there at all
+unfoldable pub neededTo : ℕ → ℕ → List Slot → Bool
+neededTo t zero ss = false
+neededTo t (suc k) ss = neededTo t k ss || fieldAt t .needed (getD ss k absentSlot)
+
+unfoldable pub isThere : ℕ → List Slot → Bool
+isThere t ss = neededTo t slotCount ss
+
+-- "present only when": else there is nothing of it
 unfoldable pub fieldBytes : ℕ → List Slot → List ℕ → List ℕ
-fieldBytes t ss m = fieldAt t .tag ∷ wordOf (length (shares t slotCount ss m)) ++ shares t slotCount ss m
+fieldBytes t ss m = cond (isThere t ss) (wholeField t ss m) []
 
 -- the fields in rows 0 to t - 1, one behind the other
 unfoldable pub formTo : ℕ → List Slot → List ℕ → List ℕ

@@ -1,8 +1,9 @@
--- Request P5, "Saving a bench overnight": reading.
+-- Request P5, "Saving a bench overnight", with what P8 adds to it: reading.
 -- Assumes nothing.
 use Prim.Native.Nat.{ℕ, zero, suc, _+_, _*_}
 use mathlib.Core.Bool.{Bool, not, cond, _&&_}
 use mathlib.Core.List.{List}
+use lib.Dec.{eqb}
 use lib.ListN.{getD, take, drop, replicate}
 use lib.Seq.{sets}
 use Rattle.proof_lists.specs.Each.{mapFrom}
@@ -16,9 +17,10 @@ use Rattle.rules.specs.Modelled.{slotCount, slotBytes, absent}
 use Rattle.rules.specs.Fresh.{absentSlot}
 use Rattle.rules.specs.Refusals.{wrongLength, inRange}
 use Rattle.rules.specs.Runs.{Bench}
-use Rattle.save_rules.specs.Form.{fieldCount, fieldAt, formOf}
+use Rattle.save_rules.specs.Form.{fieldCount, fieldAt, isThere, formOf}
 
--- how many bytes a slot has in the field in row t; how many slots 0 to k - 1 have; and where that field begins
+-- how many bytes a slot has in the field in row t; how many slots 0 to k - 1 have; how many the field takes, with its tag and its length, if it is
+-- there; and where it begins
 unfoldable pub sizeIn : ℕ → Slot → ℕ
 sizeIn t s = fieldAt t .size (s .kind)
 
@@ -26,17 +28,28 @@ unfoldable pub offset : ℕ → ℕ → List Slot → ℕ
 offset t zero ss = 0
 offset t (suc k) ss = offset t k ss + sizeIn t (getD ss k absentSlot)
 
+unfoldable pub span : ℕ → List Slot → ℕ
+span t ss = cond (isThere t ss) (3 + offset t slotCount ss) 0
+
 unfoldable pub begins : ℕ → List Slot → ℕ
 begins zero ss = 0
-begins (suc t) ss = begins t ss + 3 + offset t slotCount ss
+begins (suc t) ss = begins t ss + span t ss
 
 -- where slot k's share of the field in row t stands in a form: behind the fields and shares before it, whose sizes go by the slots' kinds
 unfoldable pub place : ℕ → ℕ → List Slot → ℕ
 place t k ss = begins t ss + 3 + offset t k ss
 
--- "the rest as fresh": from absent slots on, each field in its turn says what it has to say of each slot
+-- whether a form has the field in row t: its tag stands where it would begin
+unfoldable pub tagged : ℕ → List ℕ → List Slot → Bool
+tagged t f ss = eqb (getD f (begins t ss) 0) (fieldAt t .tag)
+
+-- what it says of each slot
+unfoldable pub readShares : ℕ → List ℕ → List Slot → List Slot
+readShares t f ss = mapFrom (λ k s. fieldAt t .reads f (place t k ss) s) 0 ss
+
+-- "the rest as fresh": from absent slots on, each field that the form has says in its turn what it has to say
 unfoldable pub readField : ℕ → List ℕ → List Slot → List Slot
-readField t f ss = mapFrom (λ k s. fieldAt t .reads f (place t k ss) s) 0 ss
+readField t f ss = cond (tagged t f ss) (readShares t f ss) ss
 
 unfoldable pub readTo : ℕ → List ℕ → List Slot
 readTo zero f = replicate slotCount absentSlot
@@ -64,7 +77,7 @@ unfoldable pub restored : List ℕ → List ℕ → Bench
 restored f m = record { bus = busIn f; memory = memoryIn f m }
 
 -- "every form that is accepted is the one the writer would give": a departure is a byte that the writer would not put there, one that is missing,
--- or one too many; "or number out of range": of row 6
+-- or one too many (so too a field 5 of which no byte is 1); "or number out of range": of row 6 (P8: "a 1 where no change can be pending")
 unfoldable pub accepted : List ℕ → List ℕ → Bool
 accepted f m = inRange (busIn f) && same (formOf (busIn f) (memoryIn f m)) f
 

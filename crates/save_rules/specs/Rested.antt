@@ -10,8 +10,8 @@ use Rattle.rules.specs.declared.Slot.{Slot}
 use Rattle.rules.specs.Modelled.{slotCount, absent, sensing}
 use Rattle.rules.specs.Fresh.{freshSensor, absentSlot, atRest}
 
--- "What was saved reads back the same, the rest as fresh": of a slot at rest its kind, length, half, counter, protection, voltage, and the registers
--- of its sensor if it has one; of an absent slot nothing
+-- "What was saved reads back the same, the rest as fresh": of a slot at rest its kind, length, half, counter, protection, voltage, and of its sensor,
+-- if it has one, the registers and whether a change is pending; of an absent slot nothing
 unfoldable pub rested : Slot → Slot
 rested s =
     cond (absent s) absentSlot

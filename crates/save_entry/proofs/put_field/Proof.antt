@@ -1,28 +1,21 @@
--- Tag, length and shares, one behind the other.
+-- There, or not.
 -- Assumes nothing.
-use native.Mathlib.Omega.{arith}
 use borrow.Author.Needs.{needs}
-use Rattle.save_rules.specs.Form.{wordOf}
-use Rattle.save_fields.proofs.offsets.Laws.{offset-small}
-use Rattle.save_entry.proofs.Laws.{field-put, field-room}
+use Rattle.save_entry.proofs.Laws.{room-there, put-there, put-none}
 use Rattle.save_entry.proofs.put_field.Statement.{statement}
 use Rattle.save_entry.proofs.put_field.Tie as tie
 
 pub put-field-spec : {M : Type 1} → statement M
-unfolding wordOf
 put-field-spec =
     tie.close
     (tie.spec
     (λ c κs. search needs)
-    (λ c κs. search needs)
-    (λ c κs. let s = c .before .before .before .before .before in let r = field-room (s .args .t) (s .args .slots) (s .args .memory .now) (s .pre .0) in omega (arith, s .pre .1, r .0))
-    (λ c. let s = c .before .before .before .before .before .before .before .before .before in omega (arith, c .before .before .before .before .before .before .offset .ensures, offset-small (s .args .t) 8 (s .args .slots)))
-    (λ c κs. let s = c .before .before .before .before .before .before .before .before .before in let r = field-room (s .args .t) (s .args .slots) (s .args .memory .now) (s .pre .0) in omega (arith, s .pre .1, r .0, c .before .before .before .put-one .ensures .0))
-    (λ c κs.
-    let s = c .before .before .before .before .before .before .before .before .before .before .before .before .before in
-    let r = field-room (s .args .t) (s .args .slots) (s .args .memory .now) (s .pre .0) in
-    (s .pre .0, omega (arith, s .pre .1, r .0, c .before .before .before .put-word .ensures .0, c .before .before .before .before .before .before .before .put-one .ensures .0)))
+    (λ c κs. (search needs, search room-there))
     (λ c. search needs)
     (λ c.
-    let s = c .before .before .before .before .before .before .before .before .before .before .before .before .before .before .before .before in
-    field-put _ _ _ _ _ _ _ (s .args .slots) (s .args .memory .now) (s .args .out .now) _ _ _ (s .pre .0) (c .before .before .before .before .before .before .before .before .before .before .before .tag .ensures) (c .before .before .before .before .before .before .before .before .before .before .before .before .before .offset .ensures) (c .before .before .before .before .before .before .before .before .before .before .put-one .ensures) (c .before .before .before .before .before .before .put-word .ensures) (c .before .before .put-shares .ensures)))
+    let i = c .before .before .before .before in
+    let s = i .before .before .before .before in
+    put-there (s .args .t) (s .args .slots) (s .args .memory .now) _ (s .pre .0) (i .before .is-there .ensures) (s .args .at) _ (s .args .out .now) _ (i .if1 .taken) (c .before .before .put-whole .ensures))
+    (λ c.
+    let s = c .before .before .before .before in
+    put-none (s .args .t) (s .args .slots) (s .args .memory .now) _ (s .pre .0) (c .before .is-there .ensures) (s .args .at) (s .args .out .now) (c .if1 .left)))

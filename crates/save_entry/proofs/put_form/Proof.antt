@@ -14,10 +14,10 @@ use Rattle.save_entry.proofs.put_form.Statement.{statement}
 use Rattle.save_entry.proofs.put_form.Tie as tie
 
 abbrev Inv-loop : tie.InvT-loop
-Inv-loop slots memory out₀ end₀ t₀ out end t = (t ≤ 4) × (length memory ≡ memoryBytes) × (length (formTo fieldCount slots memory) ≤ length out₀) × (length out ≡ length out₀) × (end ≡ length (formTo t slots memory)) × (out ≡ sets out₀ 0 (formTo t slots memory))
+Inv-loop slots memory out₀ end₀ t₀ out end t = (t ≤ fieldCount) × (length memory ≡ memoryBytes) × (length (formTo fieldCount slots memory) ≤ length out₀) × (length out ≡ length out₀) × (end ≡ length (formTo t slots memory)) × (out ≡ sets out₀ 0 (formTo t slots memory))
 
 abbrev μ-loop : tie.MeasureT-loop
-μ-loop slots memory out₀ end₀ t₀ out end t = 4 - t
+μ-loop slots memory out₀ end₀ t₀ out end t = fieldCount - t
 
 pub put-form-spec : {M : Type 1} → statement M
 put-form-spec =

@@ -1,7 +1,7 @@
 -- Laws of the table of fields, row by row, and of what is put and read of a slot's share.
 -- Assumes nothing.
 use mathlib.Core.Path.{_≡_, refl, sym, _∙_, ap}
-use mathlib.Core.Bool.{Bool, false, cond}
+use mathlib.Core.Bool.{Bool, true, false, cond, _&&_}
 use mathlib.Core.List.{List, [], _∷_, _++_}
 use Prim.Native.Nat.{ℕ, zero, suc, _+_, _*_, _≤_}
 use native.Mathlib.Numerals.{add-one}
@@ -13,9 +13,9 @@ use Rattle.script_text.proofs.letters.Laws.{Put, put-on}
 use Rattle.rules.specs.declared.Sensor.{Sensor}
 use Rattle.rules.specs.declared.Slot.{Slot}
 use Rattle.rules.specs.Modelled.{absent, sensing}
-use Rattle.rules.specs.Fields.{inHalf, atCounter, withVoltage, expecting, protecting, withSensor}
+use Rattle.rules.specs.Fields.{inHalf, atCounter, withVoltage, expecting, protecting, withSensor, withPending}
 use Rattle.rules.specs.Sensor.{registerOf}
-use Rattle.save_rules.specs.Form.{bitsOf, bitsIn, wordOf, stateFrom, sensorFrom, Field, fieldAt, fields, setupField, memoryField, stateField, sensorField, shareOf, stateBytes, savedRegisters, sensorBytes, registersTo}
+use Rattle.save_rules.specs.Form.{bitsOf, bitsIn, wordOf, stateFrom, sensorFrom, Field, fieldAt, fields, setupField, memoryField, stateField, sensorField, pendingField, shareOf, stateBytes, savedRegisters, sensorBytes, registersTo}
 
 -- the rows; where the row is none of the others' it is the first
 pub row-1 : (t : ℕ) → t ≡ 1 → fieldAt t ≡ memoryField
@@ -30,13 +30,28 @@ pub row-3 : (t : ℕ) → t ≡ 3 → fieldAt t ≡ sensorField
 unfolding fieldAt fields
 row-3 t e = rw e
 
-pub row-0 : (t : ℕ) → (t ≡ 1 → ⊥) → (t ≡ 2 → ⊥) → (t ≡ 3 → ⊥) → fieldAt t ≡ setupField
+pub row-4 : (t : ℕ) → t ≡ 4 → fieldAt t ≡ pendingField
 unfolding fieldAt fields
-row-0 zero a b c = refl
-row-0 (suc zero) a b c = absurd (a refl)
-row-0 (suc (suc zero)) a b c = absurd (b refl)
-row-0 (suc (suc (suc zero))) a b c = absurd (c refl)
-row-0 (suc (suc (suc (suc t)))) a b c = refl
+row-4 t e = rw e
+
+pub row-0 : (t : ℕ) → (t ≡ 1 → ⊥) → (t ≡ 2 → ⊥) → (t ≡ 3 → ⊥) → (t ≡ 4 → ⊥) → fieldAt t ≡ setupField
+unfolding fieldAt fields
+row-0 zero a b c d = refl
+row-0 (suc zero) a b c d = absurd (a refl)
+row-0 (suc (suc zero)) a b c d = absurd (b refl)
+row-0 (suc (suc (suc zero))) a b c d = absurd (c refl)
+row-0 (suc (suc (suc (suc zero)))) a b c d = absurd (d refl)
+row-0 (suc (suc (suc (suc (suc t))))) a b c d = refl
+
+-- the fields before the fifth are needed by every slot
+pub row-fixed : (t : ℕ) (s : Slot) → (t ≡ 4 → ⊥) → true ≡ fieldAt t .needed s
+unfolding fieldAt fields setupField memoryField stateField sensorField
+row-fixed zero s h = refl
+row-fixed (suc zero) s h = refl
+row-fixed (suc (suc zero)) s h = refl
+row-fixed (suc (suc (suc zero))) s h = refl
+row-fixed (suc (suc (suc (suc zero)))) s h = absurd (h refl)
+row-fixed (suc (suc (suc (suc (suc t))))) s h = refl
 
 -- four blocks as bits
 pub bits-four : (p : List Bool) → length p ≡ 4
@@ -77,6 +92,14 @@ no-sensor s m e = rw (ne-eqb (s .kind) 2 e)
 pub sensor-share : (s : Slot) (m : List ℕ) → s .kind ≡ 2 → shareOf 3 s m ≡ (s .sensor .pointer ∷ []) ++ registersTo 7 (s .sensor)
 unfolding shareOf fieldAt fields sensorField sensorBytes sensing
 sensor-share s m e = rw (eq-eqb (s .kind) 2 e)
+
+pub no-pending : (s : Slot) (m : List ℕ) → (s .kind ≡ 2 → ⊥) → shareOf 4 s m ≡ []
+unfolding shareOf fieldAt fields pendingField sensing
+no-pending s m e = rw (ne-eqb (s .kind) 2 e)
+
+pub pending-share : (s : Slot) (m : List ℕ) → s .kind ≡ 2 → shareOf 4 s m ≡ cond (s .sensor .pending) 1 0 ∷ []
+unfolding shareOf fieldAt fields pendingField sensing
+pending-share s m e = rw (eq-eqb (s .kind) 2 e)
 
 -- nothing is put, or what is the same
 pub none-put : (out : List ℕ) (at : ℕ) (x : List ℕ) → x ≡ [] → Put out at x at out
@@ -131,10 +154,20 @@ pub sensor-put : (s : Slot) (m : List ℕ) (at mid end : ℕ) (out o p : List �
     → Put o mid (registersTo 7 (s .sensor)) end p → Put out at (shareOf 3 s m) end p
 sensor-put s m at mid end out o p e x y = rw (sensor-share s m e) (put-on out o p at mid end (s .sensor .pointer ∷ []) (registersTo 7 (s .sensor)) x y)
 
+-- a pending change, as it is put and read
+pub pending-put : (s : Slot) (m : List ℕ) (v at end : ℕ) (out o : List ℕ) → s .kind ≡ 2 → (v ≡ cond (s .sensor .pending) 1 0) × (v ≤ 1)
+    → Put out at (v ∷ []) end o → Put out at (shareOf 4 s m) end o
+pending-put s m v at end out o e f x = rw (pending-share s m e, ← f .0) x
+
+pub pended : (f : List ℕ) (at : ℕ) (s : Slot) (v : ℕ) → s .kind ≡ 2 → v ≡ getD f at 0
+    → withSensor (withPending (eqb v 1) (s .sensor)) s ≡ cond (sensing s) (withSensor (withPending (eqb (getD f at 0) 1) (s .sensor)) s) s
+unfolding sensing
+pended f at s v h e = rw (eq-eqb (s .kind) 2 h, e)
+
 -- a slot's share, by its row
 pub share-row : (t u : ℕ) (s : Slot) (m : List ℕ) → t ≡ u → shareOf t s m ≡ shareOf u s m
 share-row t u s m e = ap (λ (k : ℕ). shareOf k s m) e
 
-pub share-first : (t : ℕ) (s : Slot) (m : List ℕ) → (t ≡ 1 → ⊥) → (t ≡ 2 → ⊥) → (t ≡ 3 → ⊥) → shareOf t s m ≡ shareOf 0 s m
+pub share-first : (t : ℕ) (s : Slot) (m : List ℕ) → (t ≡ 1 → ⊥) → (t ≡ 2 → ⊥) → (t ≡ 3 → ⊥) → (t ≡ 4 → ⊥) → shareOf t s m ≡ shareOf 0 s m
 unfolding shareOf fieldAt fields
-share-first t s m a b c = ap (λ (x : Field). x .writes s m) (row-0 t a b c)
+share-first t s m a b c d = ap (λ (x : Field). x .writes s m) (row-0 t a b c d)

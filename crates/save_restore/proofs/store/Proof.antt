@@ -10,6 +10,7 @@ use Rattle.rules.proofs.Past.{noSlot}
 use Rattle.save_rules.specs.Form.{fieldCount}
 use Rattle.save_rules.specs.Reading.{begins, place, memoryRow, storedTo}
 use Rattle.save_rules.proofs.Bytes.{length-stored}
+use Rattle.save_rules.proofs.Places.{fixed-there}
 use Rattle.save_fields.proofs.offsets.Laws.{begins-small, size-fits}
 use Rattle.save_restore.proofs.Laws.{place-first, place-step, place-small, share-inside, stored-none, stored-turn}
 use Rattle.save_restore.proofs.store.Statement.{statement}
@@ -41,7 +42,7 @@ store-spec =
     (λ c.
     let l = c .before .before .before .loop in
     let a = c .before .before .before .before .before .before .before .args in
-    let w = share-inside 1 (l .i) (l .at) _ (a .t1) (a .form .now) noSlot (omega arith) (omega arith) (l .inv .1) (l .inv .2) (l .inv .5) (c .size .ensures) in
+    let w = share-inside 1 (l .i) (l .at) _ (a .t1) (a .form .now) noSlot (omega arith) (fixed-there 1 (a .t1) (omega arith)) (omega arith) (l .inv .1) (l .inv .2) (l .inv .5) (c .size .ensures) in
     omega (arith, w))
     (λ c. search needs)
     (λ c. search needs)

@@ -13,10 +13,10 @@ use Rattle.save_restore.proofs.tallies.Statement.{statement}
 use Rattle.save_restore.proofs.tallies.Tie as tie
 
 abbrev Inv-loop : tie.InvT-loop
-Inv-loop slots form ok₀ t₀ ok t = (t ≤ 4) × (length form ≡ begins fieldCount slots) × (ok ≡ fieldsTally t slots form)
+Inv-loop slots form ok₀ t₀ ok t = (t ≤ 5) × (length form ≡ begins fieldCount slots) × (ok ≡ fieldsTally t slots form)
 
 abbrev μ-loop : tie.MeasureT-loop
-μ-loop slots form ok₀ t₀ ok t = 4 - t
+μ-loop slots form ok₀ t₀ ok t = 5 - t
 
 pub tallies-spec : {M : Type 1} → statement M
 tallies-spec =
@@ -28,8 +28,7 @@ tallies-spec =
     (λ c. tallies-not _ _ _ (c .before .begins .ensures) (λ z. omega (arith, c .if1 .taken, z)))
     (λ c. (omega arith, omega (arith, c .if1 .left, c .before .begins .ensures), fields-none _ _))
     (λ c κs. let l = c .before .loop in (omega arith, l .inv .1))
-    (λ c κs. let l = c .before .before .loop in (omega arith, l .inv .1))
     (λ c. search needs)
     (λ c. search needs)
-    (λ c. let l = c .before .before .before .loop in (omega arith, l .inv .1, fields-step (l .t) _ _ (l .ok) _ _ (l .inv .2) (c .before .head-tallies .ensures) (c .shares-tally .ensures)))
-    (λ c. let l = c .before .loop in let e : l .t ≡ 4 = omega arith in tallies-all _ _ _ (l .ok) refl (l .inv .1) (rw (← e) (l .inv .2))))
+    (λ c. let l = c .before .before .loop in (omega arith, l .inv .1, fields-step (l .t) _ _ (l .ok) _ (l .inv .2) (c .field-tallies .ensures)))
+    (λ c. let l = c .before .loop in let e : l .t ≡ 5 = omega arith in tallies-all _ _ _ (l .ok) refl (l .inv .1) (rw (← e) (l .inv .2))))
