@@ -123,7 +123,7 @@ static void change_sensor(void)
     }
 }
 
-/* One of the bits by which a change can pend: 3, 2 or 0 of a configuration. */
+/* One of the low bits of a configuration: by 3, 2 and 0 a change can pend. */
 static void change_mode(int sensor, int bit)
 {
     size_t at = field_at(3) + HEAD + (size_t)(OF_SENSOR * sensor) + 2;

@@ -490,35 +490,46 @@ static void add_ending(const char *ending, int n)
     }
 }
 
-/* A sensor with a cycle of two ticks, and so many others. */
-static void try_ending(const char *ending, int others)
+enum others { NO_SLOT, NO_OTHER, SEVEN_SENSORS, A_SENSOR_AND_MEMORIES };
+
+/* What slot i is beside the sensor n. */
+static int kind_beside(enum others others, int n, int i)
 {
+    if (i == n || others <= NO_OTHER)
+        return i == n && others != NO_SLOT ? MEMORY_WITH_SENSOR : ABSENT;
+    if (others == SEVEN_SENSORS || i == (n + 1) % SLOTS)
+        return MEMORY_WITH_SENSOR;
+    return between(ABSENT, MEMORY);
+}
+
+/* A sensor with a cycle of two ticks, and others. */
+static void try_ending(const char *ending, enum others others)
+{
+    static const char *const told[] = { "no slot", "one slot", "eight slots", "two sensors and memories" };
     int n = below(SLOTS);
 
-    memset(input, 0, SETUP);
-    for (int i = 0; i < SLOTS; i++)
-        if (i == n ? others >= 0 : others > 0) {
-            input[2 * i] = MEMORY_WITH_SENSOR;
-            input[2 * i + 1] = 2;
-        }
+    for (int i = 0; i < SLOTS; i++) {
+        input[2 * i] = (unsigned char)kind_beside(others, n, i);
+        input[2 * i + 1] = input[2 * i] == ABSENT ? 0 : 2;
+    }
     add_ending(ending, n);
     memcpy(input + SETUP, tail, tail_length);
     length = SETUP + tail_length;
-    SAY_WHAT("%s, in the end \"%s\" on slot %d", others < 0 ? "no slot" : others ? "eight slots" : "one slot", ending, n);
+    SAY_WHAT("%s, in the end \"%s\" on slot %d", told[others], ending, n);
     try_save();
 }
 
 static void sweep_phases(void)
 {
     for (int i = 0; i < (int)(sizeof endings / sizeof endings[0]); i++) {
-        try_ending(endings[i], 0);
+        try_ending(endings[i], NO_OTHER);
         if (every == 1 || one_in(4))
-            try_ending(endings[i], 1);
+            try_ending(endings[i], SEVEN_SENSORS);
         if (every == 1 || one_in(8))
-            try_ending(endings[i], -1);
+            try_ending(endings[i], NO_SLOT);
     }
     for (int i = 0; i < (int)(sizeof pin_endings / sizeof pin_endings[0]); i++)
-        try_ending(pin_endings[i], 1);
+        try_ending(pin_endings[i], i % 2 ? SEVEN_SENSORS : A_SENSOR_AND_MEMORIES);
 }
 
 /* ---- Every byte of small forms --------------------------------------------------- */
@@ -637,7 +648,7 @@ static void sweep_ends(int n)
 
 /* Tag 5, of as many sensors as there are: of every sort of numbers, one too long
  * or too short, left out, twice, with something behind it, before tag 4; and
- * with the bits by which a change can pend turned over. */
+ * with each of bits 5:0 of a configuration turned over. */
 static void sweep_pending(void)
 {
     static const unsigned char ones[][3] = { { 0, 0 }, { 1, 0 }, { 0, 1 }, { 1, 1 }, { 2, 0 }, { 0, 2 }, { 2, 1 }, { 1, 2 }, { 255, 1 } };
@@ -650,9 +661,11 @@ static void sweep_pending(void)
             put_ones(ones[i / 3], sensors + i % 3 - 1);
         try_small(1);
     }
-    for (int i = 0; i < 4 * sensors; i++) {
+    for (int i = 0; i < 12 * sensors; i++) {
         begin("a small form");
-        change_mode(i / 4, i % 4);
+        if (i % 2)
+            put_ones(ones[3], sensors);
+        change_mode(i / 12, i / 2 % 6);
         try_small(1);
     }
     for (int tag = 0; tag <= 7; tag++) {

@@ -499,6 +499,11 @@ static void part_limits(int n)
     set_register(n, 2, high & 0xFFFF);
 }
 
+/* Between the high and the low limit, and between the critical and the high one,
+ * where a flag that was set stays. */
+static int below_high(int n) { return within((limit[n][0] - hysteresis(n) + limit[n][1]) / 2); }
+static int below_critical(int n) { return within((limit[n][2] - hysteresis(n) + limit[n][0]) / 2); }
+
 /* To where the high or the low flag is sure, or neither, or the critical one
  * alone changes; or to any limit. */
 static int a_move(int n)
@@ -508,8 +513,8 @@ static int a_move(int n)
     switch (below(8)) {
     case 0: case 1: return within(limit[n][0] + far);
     case 2: case 3: return within(limit[n][1] - far);
-    case 4: return within((limit[n][0] - hysteresis(n) + limit[n][1]) / 2);
-    case 5: return within((limit[n][2] - hysteresis(n) + limit[n][0]) / 2);
+    case 4: return below_high(n);
+    case 5: return below_critical(n);
     case 6: return within(limit[n][2] + (one_in(2) ? far : -far));
     default: return a_temperature(n);
     }
@@ -633,14 +638,18 @@ static void shut_down(int n)
     configure(n, bits_now(n), one_in(4) ? 0x0020 : 0);
 }
 
-/* Above the critical limit, perhaps cleared there, and below it again, where
- * the high flag may stay. */
+/* From where no flag is to above the critical limit, perhaps cleared there, and
+ * below it again, where the high flag stays. */
 static void over_critical(int n)
 {
+    set_register(n, 4, (limit[n][0] + hysteresis(n) + between(4, 20) * 4) & 0xFFFF);
+    record(TEMPERATURE, n, below_high(n));
+    if (one_in(2))
+        configure(n, 0x0009, 0x0020);
     record(TEMPERATURE, n, within(limit[n][2] + below(20)));
     if (one_in(2))
         configure(n, bits_now(n), one_in(3) ? 0 : 0x0020);
-    record(TEMPERATURE, n, within((limit[n][2] - hysteresis(n) + limit[n][0]) / 2));
+    record(TEMPERATURE, n, below_critical(n));
     look_at_pin(n);
 }
 
