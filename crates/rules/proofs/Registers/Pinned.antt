@@ -13,28 +13,26 @@ use Rattle.proof_lists.specs.Tests.{cond-cases, and-left, and-right, both, or-c
 use Rattle.rules.specs.declared.Act.{Act}
 use Rattle.rules.specs.declared.Act.the-variants.{Start, Byte, Read, Stop, Timeout, Tick, Voltage, Power, Temperature}
 use Rattle.rules.specs.declared.Cut.{Cut}
-use Rattle.rules.specs.declared.Heard.{Heard}
-use Rattle.rules.specs.declared.Heard.the-variants as heard
 use Rattle.rules.specs.declared.Phase.{Phase}
 use Rattle.rules.specs.declared.Phase.the-variants.{Idle, Control, Deaf, MemoryCounter, MemoryData, MemoryRead, HalfSelected, CommandAddress, CommandData, CommandStop, SensorPointer, SensorHigh, SensorLow, SensorReadHigh, SensorReadLow}
 use Rattle.rules.specs.declared.Sensor.{Sensor}
 use Rattle.rules.specs.declared.Slot.{Slot}
-use Rattle.rules.specs.Control.{acksControl, heardOf, obeyed}
-use Rattle.rules.specs.Fields.{withSensor}
+use Rattle.rules.specs.Control.{acksControl, heardOf}
+use Rattle.rules.specs.Fields.{withSensor, withWord}
 use Rattle.rules.specs.Fresh.{freshSensor, freshSlot, powered}
-use Rattle.rules.specs.Memory.{guarded, anyMark}
+use Rattle.rules.specs.Memory.{guarded}
 use Rattle.rules.specs.Modelled.{absent, sensing}
 use Rattle.rules.specs.Open.{open-fields, open-memory, open-control, open-slot}
 use Rattle.rules.specs.Pin.{pinEnabled, interrupting, criticalAlone, asserted, canPend, changes, clearing, pendingAfter, convertedWithPin, writtenWithPin}
 use Rattle.rules.specs.Power.{powerCut}
 use Rattle.rules.specs.Runs.{slotAfter}
 use Rattle.rules.specs.Sensor.{configured, converted}
-use Rattle.rules.specs.Slot.{standing, commanding, letGo, lost, byteIn, readIn, stopIn, switched, heated, presentNext, slotNext}
+use Rattle.rules.specs.Slot.{standing, commanding, letGo, lost, byteIn, switched, heated, presentNext, slotNext}
 use Rattle.rules.proofs.Registers.Locks.{locked, configured-keeps}
 use Rattle.rules.proofs.Registers.Masks.{same-bit}
 use Rattle.rules.proofs.Registers.Pending.{Can, fresh-can, written-can, converted-can}
-use Rattle.rules.proofs.Registers.SensorSteps.{Respected, step-respects}
-use Rattle.rules.proofs.Run.Cases.{next-cases, absent-plain, absent-stands, let-go-cases}
+use Rattle.rules.proofs.Registers.SensorSteps.{gone, obeyed-goes, read-goes, stop-goes, Respected, step-respects}
+use Rattle.rules.proofs.Run.Cases.{next-cases, absent-plain, absent-stands}
 use Rattle.rules.proofs.Run.Joined.{slots-joined}
 
 -- slot n converts a temperature, and the high or the low flag is then not what it was, while a change can be pending
@@ -88,58 +86,15 @@ drops (Temperature k t) s = false
 abbrev Stays : Slot → Slot → Type 0
 Stays s r = r .sensor .pending ≡ s .sensor .pending
 
-gone : (p : Phase) (s : Slot) → Stays s (letGo p s)
-unfolding open-fields open-memory
-gone p s = let-go-cases (Stays s) p s refl refl refl refl
+abbrev Unmoved : Sensor → Sensor → Type 0
+Unmoved x y = y .pending ≡ x .pending
 
-obeyed-stays : (h : Heard) (s : Slot) → Stays s (obeyed h s)
-unfolding open-fields obeyed
-obeyed-stays (heard.Memory k false) s = refl
-obeyed-stays (heard.Memory k true) s = refl
-obeyed-stays (heard.Sensor k false) s = refl
-obeyed-stays (heard.Sensor k true) s = refl
-obeyed-stays (heard.Protect k) s = refl
-obeyed-stays heard.ClearAll s = refl
-obeyed-stays (heard.ReadProtection k) s = refl
-obeyed-stays (heard.SelectHalf h) s = refl
-obeyed-stays heard.ReadHalf s = refl
-obeyed-stays heard.Nothing s = refl
+worded : (v : ℕ) (x : Sensor) → Unmoved x (withWord v x)
+unfolding withWord
+worded v x = refl
 
-read-stays : (p : Phase) (more : Bool) (s : Slot) → Stays s (readIn p more s)
-unfolding open-fields open-memory open-slot
-read-stays Idle more s = refl
-read-stays Control more s = refl
-read-stays Deaf more s = refl
-read-stays MemoryCounter more s = refl
-read-stays MemoryData more s = refl
-read-stays MemoryRead more s = refl
-read-stays HalfSelected more s = refl
-read-stays CommandAddress more s = refl
-read-stays CommandData more s = refl
-read-stays CommandStop more s = refl
-read-stays SensorPointer more s = refl
-read-stays SensorHigh more s = refl
-read-stays SensorLow more s = refl
-read-stays SensorReadHigh more s = cond-cases (Stays s) more (λ e. refl) (λ e. refl)
-read-stays SensorReadLow more s = refl
-
-stop-stays : (p : Phase) (s : Slot) → Stays s (stopIn p s)
-unfolding open-fields open-memory open-slot
-stop-stays Idle s = refl
-stop-stays Control s = refl
-stop-stays Deaf s = refl
-stop-stays MemoryCounter s = refl
-stop-stays MemoryData s = cond-cases (Stays s) (anyMark (s .marks)) (λ e. refl) (λ e. refl)
-stop-stays MemoryRead s = refl
-stop-stays HalfSelected s = refl
-stop-stays CommandAddress s = refl
-stop-stays CommandData s = refl
-stop-stays CommandStop s = refl
-stop-stays SensorPointer s = refl
-stop-stays SensorHigh s = refl
-stop-stays SensorLow s = refl
-stop-stays SensorReadHigh s = refl
-stop-stays SensorReadLow s = refl
+let-go : (p : Phase) (s : Slot) → Stays s (letGo p s)
+let-go = gone Unmoved (λ x. refl) worded
 
 -- a write: by its register
 second-pending : (x : Sensor) (p v : ℕ) → pendingAfter x p v ≡ (x .pending && not (eqb p 0x01 && not (canPend (configured (x .configuration) v) && not (clearing v))))
@@ -161,7 +116,7 @@ and-not-false false = refl
 byte-pending : (p : Phase) (n b : ℕ) (s : Slot) → (byteIn p n b s) .sensor .pending ≡ (s .sensor .pending && not (clears p b s))
 unfolding open-fields open-memory open-slot open-control clears writtenWithPin
 byte-pending Idle n b s = and-not-false _
-byte-pending Control n b s = cond-cases (Stays s) (acksControl n b s) (λ e. obeyed-stays (heardOf b) s) (λ e. refl) ∙ and-not-false _
+byte-pending Control n b s = cond-cases (Stays s) (acksControl n b s) (λ e. obeyed-goes Unmoved (λ x. refl) worded (heardOf b) s) (λ e. refl) ∙ and-not-false _
 byte-pending Deaf n b s = and-not-false _
 byte-pending MemoryCounter n b s = and-not-false _
 byte-pending MemoryData n b s = cond-cases (Stays s) (guarded s) (λ e. refl) (λ e. refl) ∙ and-not-false _
@@ -182,15 +137,15 @@ Told n a s r = r .sensor .pending ≡ (brings n a s || (s .sensor .pending && no
 
 present-pending : (n : ℕ) (a : Act) (s : Slot) → absent s ≡ false → Told n a s (presentNext n a s)
 unfolding brings drops presentNext switched heated powerCut powered freshSlot freshSensor lost convertedWithPin open-fields open-memory
-present-pending n Start s e = gone (standing s) s ∙ and-not-false _
+present-pending n Start s e = let-go (standing s) s ∙ and-not-false _
 present-pending n (Byte b) s e = byte-pending (standing s) n b s
-present-pending n (Read more) s e = read-stays (standing s) more s ∙ and-not-false _
-present-pending n Stop s e = stop-stays (standing s) s ∙ and-not-false _
-present-pending n Timeout s e = gone (standing s) s ∙ and-not-false _
+present-pending n (Read more) s e = read-goes Unmoved (λ x. refl) worded (standing s) more s ∙ and-not-false _
+present-pending n Stop s e = stop-goes Unmoved (λ x. refl) worded (standing s) s ∙ and-not-false _
+present-pending n Timeout s e = let-go (standing s) s ∙ and-not-false _
 present-pending n Tick s e = cond-cases (Stays s) (eqb (s .left) 1) (λ e. refl) (λ e. refl) ∙ and-not-false _
 present-pending n (Voltage k on) s e =
     cond-cases (Stays s) (eqb (k .0) n)
-    (λ e. cond-cases (Stays s) (commanding (standing s) && s .voltage && not on) (λ e. gone (standing s) s) (λ e. refl))
+    (λ e. cond-cases (Stays s) (commanding (standing s) && s .voltage && not on) (λ e. let-go (standing s) s) (λ e. refl))
     (λ e. refl) ∙ and-not-false _
 present-pending n (Power k) s e = rw e (sym (and-false (s .sensor .pending)))
 present-pending n (Temperature k t) s e =

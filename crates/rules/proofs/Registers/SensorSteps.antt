@@ -93,25 +93,26 @@ isHeat (Temperature k t) = true
 unfoldable pub withoutPower : List Act → Bool
 withoutPower r = allOf (λ a. not (isPower a)) r
 
-module _ (R : Sensor → Sensor → Type 0) (every : Respected R) where
+-- what no exchange changes of a sensor but the word that it holds: what a slot lets go, what the ACK of a control byte does, reads and stops
+module _ (R : Sensor → Sensor → Type 0) (same : (x : Sensor) → R x x) (worded : (v : ℕ) (x : Sensor) → R x (withWord v x)) where
   -- from the slot s to the slot t
   abbrev Goes : Slot → Slot → Type 0
   Goes s t = R (s .sensor) (t .sensor)
 
   still : (s : Slot) → Goes s s
-  still s = every .same (s .sensor)
+  still s = same (s .sensor)
 
   -- what an exchange lets go of the sensor is the word it held
-  gone : (p : Phase) (s : Slot) → Goes s (letGo p s)
+  pub gone : (p : Phase) (s : Slot) → Goes s (letGo p s)
   unfolding open-fields open-memory
-  gone p s = let-go-cases (Goes s) p s (every .worded 0x0000 (s .sensor)) (still s) (still s) (still s)
+  gone p s = let-go-cases (Goes s) p s (worded 0x0000 (s .sensor)) (still s) (still s) (still s)
 
-  obeyed-goes : (h : Heard) (s : Slot) → Goes s (obeyed h s)
+  pub obeyed-goes : (h : Heard) (s : Slot) → Goes s (obeyed h s)
   unfolding open-fields obeyed
   obeyed-goes (heard.Memory k false) s = still s
   obeyed-goes (heard.Memory k true) s = still s
   obeyed-goes (heard.Sensor k false) s = still s
-  obeyed-goes (heard.Sensor k true) s = every .worded _ (s .sensor)
+  obeyed-goes (heard.Sensor k true) s = worded _ (s .sensor)
   obeyed-goes (heard.Protect k) s = still s
   obeyed-goes heard.ClearAll s = still s
   obeyed-goes (heard.ReadProtection k) s = still s
@@ -119,30 +120,7 @@ module _ (R : Sensor → Sensor → Type 0) (every : Respected R) where
   obeyed-goes heard.ReadHalf s = still s
   obeyed-goes heard.Nothing s = still s
 
-  byte-goes : (p : Phase) (n b : ℕ) (s : Slot) → Goes s (byteIn p n b s)
-  unfolding open-fields open-memory open-slot open-control
-  byte-goes Idle n b s = still s
-  byte-goes Control n b s = cond-cases (Goes s) (acksControl n b s) (λ e. obeyed-goes (heardOf b) s) (λ e. still s)
-  byte-goes Deaf n b s = still s
-  byte-goes MemoryCounter n b s = still s
-  byte-goes MemoryData n b s = cond-cases (Goes s) (guarded s) (λ e. still s) (λ e. still s)
-  byte-goes MemoryRead n b s = gone MemoryRead s
-  byte-goes HalfSelected n b s = still s
-  byte-goes CommandAddress n b s = still s
-  byte-goes CommandData n b s = still s
-  byte-goes CommandStop n b s = gone CommandStop s
-  byte-goes SensorPointer n b s =
-      cond-cases (Goes s) (leb b 0x09) (λ e. every .pointed b (s .sensor) e) (λ e. gone SensorPointer s)
-  byte-goes SensorHigh n b s = every .worded (b * 256) (s .sensor)
-  byte-goes SensorLow n b s =
-      let p = s .sensor .pointer in
-      let v = s .sensor .word / 256 * 256 + b in
-      let x = writtenWithPin (s .sensor) p v in
-      every .joined (s .sensor) x _ (every .writes (s .sensor) p v) (gone SensorLow (withSensor x s))
-  byte-goes SensorReadHigh n b s = gone SensorReadHigh s
-  byte-goes SensorReadLow n b s = gone SensorReadLow s
-
-  read-goes : (p : Phase) (more : Bool) (s : Slot) → Goes s (readIn p more s)
+  pub read-goes : (p : Phase) (more : Bool) (s : Slot) → Goes s (readIn p more s)
   unfolding open-fields open-memory open-slot
   read-goes Idle more s = still s
   read-goes Control more s = still s
@@ -160,7 +138,7 @@ module _ (R : Sensor → Sensor → Type 0) (every : Respected R) where
   read-goes SensorReadHigh more s = cond-cases (Goes s) more (λ e. still s) (λ e. gone SensorReadHigh s)
   read-goes SensorReadLow more s = gone SensorReadLow s
 
-  stop-goes : (p : Phase) (s : Slot) → Goes s (stopIn p s)
+  pub stop-goes : (p : Phase) (s : Slot) → Goes s (stopIn p s)
   unfolding open-fields open-memory open-slot
   stop-goes Idle s = still s
   stop-goes Control s = still s
@@ -178,27 +156,60 @@ module _ (R : Sensor → Sensor → Type 0) (every : Respected R) where
   stop-goes SensorReadHigh s = gone SensorReadHigh s
   stop-goes SensorReadLow s = gone SensorReadLow s
 
+module _ (R : Sensor → Sensor → Type 0) (every : Respected R) where
+  abbrev Becomes : Slot → Slot → Type 0
+  Becomes s t = R (s .sensor) (t .sensor)
+
+  as-is : (s : Slot) → Becomes s s
+  as-is s = every .same (s .sensor)
+
+  leaves : (p : Phase) (s : Slot) → Becomes s (letGo p s)
+  leaves = gone R (every .same) (every .worded)
+
+  byte-goes : (p : Phase) (n b : ℕ) (s : Slot) → Becomes s (byteIn p n b s)
+  unfolding open-fields open-memory open-slot open-control
+  byte-goes Idle n b s = as-is s
+  byte-goes Control n b s = cond-cases (Becomes s) (acksControl n b s) (λ e. obeyed-goes R (every .same) (every .worded) (heardOf b) s) (λ e. as-is s)
+  byte-goes Deaf n b s = as-is s
+  byte-goes MemoryCounter n b s = as-is s
+  byte-goes MemoryData n b s = cond-cases (Becomes s) (guarded s) (λ e. as-is s) (λ e. as-is s)
+  byte-goes MemoryRead n b s = leaves MemoryRead s
+  byte-goes HalfSelected n b s = as-is s
+  byte-goes CommandAddress n b s = as-is s
+  byte-goes CommandData n b s = as-is s
+  byte-goes CommandStop n b s = leaves CommandStop s
+  byte-goes SensorPointer n b s =
+      cond-cases (Becomes s) (leb b 0x09) (λ e. every .pointed b (s .sensor) e) (λ e. leaves SensorPointer s)
+  byte-goes SensorHigh n b s = every .worded (b * 256) (s .sensor)
+  byte-goes SensorLow n b s =
+      let p = s .sensor .pointer in
+      let v = s .sensor .word / 256 * 256 + b in
+      let x = writtenWithPin (s .sensor) p v in
+      every .joined (s .sensor) x _ (every .writes (s .sensor) p v) (leaves SensorLow (withSensor x s))
+  byte-goes SensorReadHigh n b s = leaves SensorReadHigh s
+  byte-goes SensorReadLow n b s = leaves SensorReadLow s
+
   present-goes : (n : ℕ) (a : Act) (s : Slot) → (isPower a ≡ true → R (s .sensor) freshSensor) → ((t : ℤ) → isHeat a ≡ true → R (s .sensor) (convertedWithPin (s .sensor) t))
-      → Goes s (presentNext n a s)
+      → Becomes s (presentNext n a s)
   unfolding isPower isHeat presentNext switched powerCut powered freshSlot lost open-fields open-memory
-  present-goes n Start s fresh hot = gone (standing s) s
+  present-goes n Start s fresh hot = leaves (standing s) s
   present-goes n (Byte b) s fresh hot = byte-goes (standing s) n b s
-  present-goes n (Read more) s fresh hot = read-goes (standing s) more s
-  present-goes n Stop s fresh hot = stop-goes (standing s) s
-  present-goes n Timeout s fresh hot = gone (standing s) s
-  present-goes n Tick s fresh hot = cond-cases (Goes s) (eqb (s .left) 1) (λ e. still s) (λ e. still s)
+  present-goes n (Read more) s fresh hot = read-goes R (every .same) (every .worded) (standing s) more s
+  present-goes n Stop s fresh hot = stop-goes R (every .same) (every .worded) (standing s) s
+  present-goes n Timeout s fresh hot = leaves (standing s) s
+  present-goes n Tick s fresh hot = cond-cases (Becomes s) (eqb (s .left) 1) (λ e. as-is s) (λ e. as-is s)
   present-goes n (Voltage k on) s fresh hot =
-      cond-cases (Goes s) (eqb (k .0) n)
-      (λ e. cond-cases (Goes s) (commanding (standing s) && s .voltage && not on) (λ e. gone (standing s) s) (λ e. still s))
-      (λ e. still s)
+      cond-cases (Becomes s) (eqb (k .0) n)
+      (λ e. cond-cases (Becomes s) (commanding (standing s) && s .voltage && not on) (λ e. leaves (standing s) s) (λ e. as-is s))
+      (λ e. as-is s)
   present-goes n (Power k) s fresh hot = fresh refl
   present-goes n (Temperature k t) s fresh hot =
-      cond-cases (Goes s) (eqb (k .0) n) (λ e. heated-cases (Goes s) t s (hot t refl) (still s)) (λ e. still s)
+      cond-cases (Becomes s) (eqb (k .0) n) (λ e. heated-cases (Becomes s) t s (hot t refl) (as-is s)) (λ e. as-is s)
 
   -- power puts the sensor at its defaults, and a temperature converts: what these must respect is asked of the caller
   pub step-respects : (n : ℕ) (a : Act) (s : Slot) → (isPower a ≡ true → R (s .sensor) freshSensor) → ((t : ℤ) → isHeat a ≡ true → R (s .sensor) (convertedWithPin (s .sensor) t))
       → R (s .sensor) ((slotNext n a s) .sensor)
-  step-respects n a s fresh hot = next-cases (Goes s) n a s (λ e. still s) (λ e. present-goes n a s fresh hot)
+  step-respects n a s fresh hot = next-cases (Becomes s) n a s (λ e. as-is s) (λ e. present-goes n a s fresh hot)
 
   module _ (converts : (x : Sensor) (t : ℤ) → R x (convertedWithPin x t)) where
     pub step-without-power : (n : ℕ) (a : Act) (s : Slot) → isPower a ≡ false → R (s .sensor) ((slotNext n a s) .sensor)
@@ -206,7 +217,7 @@ module _ (R : Sensor → Sensor → Type 0) (every : Respected R) where
 
     pub run-without-power : (n : ℕ) (r : List Act) (s : Slot) → withoutPower r ≡ true → R (s .sensor) ((slotAfter n r s) .sensor)
     unfolding slotAfter withoutPower allOf
-    run-without-power n [] s h = still s
+    run-without-power n [] s h = as-is s
     run-without-power n (a ∷ r) s h =
         let t = slotNext n a s in
         every .joined (s .sensor) (t .sensor) ((slotAfter n r t) .sensor)
