@@ -39,6 +39,9 @@ each_example() {
     printf '%s: %d examples, all as expected\n' "$what" "$count"
 }
 
+# compared AWK: what this awk program says of its input, the first difference or nothing, in $work/apart; it has to succeed
+compared() { awk "$1" >"$work/apart" || not_run "$name could not be compared (awk failed)"; }
+
 # fail WHERE EXPECTED GOT: what differs first in the example in hand; ends here
 fail() {
     printf '!!! %s\n!!!   expected  %s\n!!!   got       %s\n' "$name$1" "$2" "$3"
