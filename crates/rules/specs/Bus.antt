@@ -6,7 +6,7 @@ use mathlib.Core.List.{List}
 use Rattle.proof_lists.specs.Each.{mapFrom, anyFrom, firstFrom}
 use Rattle.proof_lists.specs.Parts.{part, eachPart}
 use Rattle.rules.specs.declared.Act.{Act}
-use Rattle.rules.specs.declared.Act.the-variants.{Start, Byte, Read, Stop, Timeout, Tick, Voltage, Power, Temperature}
+use Rattle.rules.specs.declared.Act.the-variants.{Start, Byte, Read, Stop, Timeout, Tick, Power, Apply}
 use Rattle.rules.specs.declared.Answer.{Answer}
 use Rattle.rules.specs.declared.Answer.the-variants.{Nothing, Ack, Nack, Data}
 use Rattle.rules.specs.declared.Bus.{Bus}
@@ -30,9 +30,8 @@ memoryNext (Read more) b m = m
 memoryNext Stop b m = m
 memoryNext Timeout b m = m
 memoryNext Tick b m = eachPart slotBytes tickedPart (b .slots) m
-memoryNext (Voltage k on) b m = m
 memoryNext (Power k) b m = eachPart slotBytes (cutPart k) (b .slots) m
-memoryNext (Temperature k t) b m = m
+memoryNext (Apply k x) b m = m
 
 -- "ACK if at least one slot acknowledges"
 unfoldable pub anyAck : ℕ → Bus → Bool

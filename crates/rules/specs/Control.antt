@@ -1,17 +1,17 @@
 -- Document 01, "Control byte": what a control byte asks for, which slot acknowledges it, and what the ACK does.
 -- Assumes nothing.
 use Prim.Native.Nat.{ℕ, _/_, _%_}
-use mathlib.Core.Bool.{Bool, true, false, not, cond, _&&_}
+use mathlib.Core.Bool.{Bool, true, false, not, cond, _&&_, _||_}
 use lib.Dec.{eqb}
 use lib.ListN.{getD, set}
 use Rattle.rules.specs.declared.SlotNo.{SlotNo}
 use Rattle.rules.specs.declared.BlockNo.{BlockNo}
 use Rattle.rules.specs.declared.Heard.{Heard}
-use Rattle.rules.specs.declared.Heard.the-variants.{Memory, Sensor, Protect, ClearAll, ReadProtection, SelectHalf, ReadHalf, Nothing}
+use Rattle.rules.specs.declared.Heard.the-variants.{Memory, Sensor, Protect, ClearAll, ReadProtection, SelectHalf, ReadHalf, ProtectForEver, Nothing}
 use Rattle.rules.specs.declared.Phase.the-variants.{Deaf, MemoryCounter, MemoryRead, HalfSelected, CommandAddress, SensorPointer, SensorReadHigh}
 use Rattle.rules.specs.declared.Slot.{Slot}
-use Rattle.rules.specs.Modelled.{sensing}
-use Rattle.rules.specs.Fields.{inPhase, inHalf, expecting, holding}
+use Rattle.rules.specs.Modelled.{sensing, older}
+use Rattle.rules.specs.Fields.{inPhase, inHalf, toCome, expecting, holding}
 use Rattle.rules.specs.Fresh.{noBlocks}
 use Rattle.rules.specs.Pin.{readOf}
 
@@ -56,6 +56,24 @@ heardOf b =
     (cond (eqb (b / 16) 0x6) (commandOf b)
     Nothing))
 
+-- Request P9: of an older module, slot kind 3, "all 0110 bytes by the rules below". "With high voltage on, 62h protects and 66h clears [..] With the
+-- read bit, the same three forms get ACK exactly if the block is unprotected": 63h and 67h
+unfoldable pub raisedCommand : ℕ → Heard
+raisedCommand b =
+    cond (eqb b 0x62) (Protect (block 0)) (cond (eqb b 0x66) ClearAll (cond (eqb b 0x63 || eqb b 0x67) (ReadProtection (block 0)) Nothing))
+
+-- "With it off at the control byte, 0110, the slot's select number and a write bit protects for ever"; the third of the forms with the read bit
+unfoldable pub ownCommand : ℕ → ℕ → Heard
+ownCommand n b = cond (eqb (selectOf b .0) n) (cond (isRead b) (ReadProtection (block 0)) ProtectForEver) Nothing
+
+-- "after which every 0110 byte gets NACK"; "other 0110 bytes get NACK"
+unfoldable pub olderCommand : ℕ → ℕ → Slot → Heard
+olderCommand n b s = cond (s .old .permanent) Nothing (cond (s .voltage) (raisedCommand b) (ownCommand n b))
+
+-- what a control byte asks of slot n: of every slot the same, but for the 0110 bytes of an older module
+unfoldable pub heardBy : ℕ → ℕ → Slot → Heard
+heardBy n b s = cond (older s && eqb (b / 16) 0x6) (olderCommand n b s) (heardOf b)
+
 unfoldable pub protects : BlockNo → Slot → Bool
 protects k s = getD (s .protection) (k .0) false
 
@@ -75,12 +93,14 @@ acksHeard (ReadProtection k) n s = not (protects k s)
 acksHeard (SelectHalf h) n s = true
 -- "half 0 selected"
 acksHeard ReadHalf n s = eqb (s .half) 0
+-- P9: "the clear and the lasting form are acknowledged unless protection is permanent"
+acksHeard ProtectForEver n s = true
 -- "never"
 acksHeard Nothing n s = false
 
 -- "A slot in a write cycle acknowledges none, sensor included (bench)."
 unfoldable pub acksControl : ℕ → ℕ → Slot → Bool
-acksControl n b s = eqb (s .left) 0 && acksHeard (heardOf b) n s
+acksControl n b s = eqb (s .left) 0 && acksHeard (heardBy n b s) n s
 
 -- what the ACK does
 unfoldable pub obeyed : Heard → Slot → Slot
@@ -97,8 +117,10 @@ obeyed (ReadProtection k) s = inPhase Deaf s
 obeyed ReadHalf s = inPhase Deaf s
 -- "Selecting a half takes effect at the ACK"
 obeyed (SelectHalf h) s = inPhase HalfSelected (inHalf h s)
+-- P9: "protects for ever", once its cycle ends
+obeyed ProtectForEver s = inPhase CommandAddress (toCome (set (s .protection) 0 true) true s)
 obeyed Nothing s = inPhase Deaf s
 
 -- "A slot that doesn't acknowledge is deaf until the next start."
 unfoldable pub controlled : ℕ → ℕ → Slot → Slot
-controlled n b s = cond (acksControl n b s) (obeyed (heardOf b) s) (inPhase Deaf s)
+controlled n b s = cond (acksControl n b s) (obeyed (heardBy n b s) s) (inPhase Deaf s)

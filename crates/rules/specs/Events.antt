@@ -7,7 +7,8 @@ use lib.IntN.{ℤ, pos, natAbs}
 use lib.Signed.{ltZ}
 use Rattle.rules.specs.declared.Event.{Event}
 use Rattle.rules.specs.declared.Act.{Act}
-use Rattle.rules.specs.declared.Act.the-variants.{Start, Byte, Read, Stop, Timeout, Tick, Voltage, Power, Temperature}
+use Rattle.rules.specs.declared.Act.the-variants.{Start, Byte, Read, Stop, Timeout, Tick, Power, Apply}
+use Rattle.rules.specs.declared.Applied.the-variants.{Voltage, Temperature, WriteProtect}
 use Rattle.rules.specs.declared.Carried.{Carried}
 use Rattle.rules.specs.declared.Carried.the-variants as carries
 use Rattle.rules.specs.declared.Refusal.{Refusal}
@@ -19,8 +20,8 @@ use Rattle.rules.specs.declared.Answer.the-variants as answer
 unfoldable pub isOne : ℤ → Bool
 isOne v = ltZ (pos 0) v
 
--- the table of kinds, row by row; "Empty cells are ignored." P3: the value of kind 8 says how many bytes are still stored. (Asked of kinds 1 to 9
--- with a value in range.)
+-- the table of kinds, row by row; "Empty cells are ignored." P3: the value of kind 8 says how many bytes are still stored. P9: "New event
+-- kind 10 sets the write-protect pin". (Asked of kinds 1 to 10 with a value in range.)
 unfoldable pub actOf : Event → Act
 actOf e =
     cond (eqb (e .kind) 1) Start
@@ -29,9 +30,10 @@ actOf e =
     (cond (eqb (e .kind) 4) Stop
     (cond (eqb (e .kind) 5) Timeout
     (cond (eqb (e .kind) 6) Tick
-    (cond (eqb (e .kind) 7) (Voltage (e .slot) (isOne (e .value)))
+    (cond (eqb (e .kind) 7) (Apply (e .slot) (Voltage (isOne (e .value))))
     (cond (eqb (e .kind) 8) (Power (record { 0 = natAbs (e .value) }))
-    (Temperature (e .slot) (e .value)))))))))
+    (cond (eqb (e .kind) 9) (Apply (e .slot) (Temperature (e .value)))
+    (Apply (e .slot) (WriteProtect (isOne (e .value))))))))))))
 
 -- what an act carries over the wires: a byte from the master, a read; the others nothing
 abbrev pub carried : Act → Carried
@@ -41,9 +43,8 @@ carried (Read more) = carries.Read more
 carried Stop = carries.Nothing
 carried Timeout = carries.Nothing
 carried Tick = carries.Nothing
-carried (Voltage k on) = carries.Nothing
 carried (Power k) = carries.Nothing
-carried (Temperature k t) = carries.Nothing
+carried (Apply k x) = carries.Nothing
 
 -- the refusals' numbers, of document 01 and of the change requests
 unfoldable pub refusalNumber : Refusal → ℕ

@@ -1,15 +1,15 @@
 -- Document 01, "Memory exchanges": the counter, the latch, commands, the write cycle.
 -- Assumes nothing.
 use Prim.Native.Nat.{ℕ, zero, suc, _+_, _-_, _*_, _/_, _%_}
-use mathlib.Core.Bool.{Bool, true, false, cond}
-use mathlib.Core.List.{List}
+use mathlib.Core.Bool.{Bool, true, false, cond, _&&_, _||_}
+use mathlib.Core.List.{List, [], _∷_}
 use lib.Dec.{eqb}
 use lib.ListN.{getD, set}
 use Rattle.proof_lists.specs.Each.{anyFrom}
 use Rattle.rules.specs.declared.Phase.the-variants.{Deaf, MemoryData, MemoryRead}
 use Rattle.rules.specs.declared.Slot.{Slot}
-use Rattle.rules.specs.Modelled.{absent, addressOf, blockOf, pageOf}
-use Rattle.rules.specs.Fields.{inPhase, atCounter, withLeft, protecting, expecting, latched, placed}
+use Rattle.rules.specs.Modelled.{absent, older, addressOf, blockOf, pageOf}
+use Rattle.rules.specs.Fields.{inPhase, atCounter, withLeft, protecting, expecting, latched, placed, lasts, withOld}
 use Rattle.rules.specs.Fresh.{noBytes, noMarks}
 use Rattle.rules.specs.Control.{protects}
 
@@ -21,7 +21,7 @@ emptied s = latched noBytes noMarks s
 unfoldable pub abandoned : Slot → Slot
 abandoned s = placed 0 (emptied s)
 
--- "cancels": the protection to come is the one that stands
+-- "cancels": the protection to come is the one that stands, and it will not be permanent that was not
 unfoldable pub cancelled : Slot → Slot
 cancelled s = expecting (s .protection) s
 
@@ -29,9 +29,13 @@ cancelled s = expecting (s .protection) s
 unfoldable pub loaded : ℕ → Slot → Slot
 loaded b s = inPhase MemoryData (placed (b % 16) (atCounter b s))
 
--- "Each later byte: if the block is protected, NACK, deaf, counter still"
+-- P9: "the write-protect pin: while it is on", which only an older module has
+unfoldable pub pinOn : Slot → Bool
+pinOn s = older s && s .old .pin
+
+-- "Each later byte: if the block is protected, NACK, deaf, counter still"; P9: "while it is on, data bytes get NACK", as in a protected block
 unfoldable pub guarded : Slot → Bool
-guarded s = protects (blockOf (addressOf s)) s
+guarded s = protects (blockOf (addressOf s)) s || pinOn s
 
 -- the counter with its low four bits one up, wrapping
 unfoldable pub upInPage : ℕ → ℕ
@@ -64,9 +68,23 @@ begun s = withLeft (s .length) (placed 0 s)
 unfoldable pub dataStop : Slot → Slot
 dataStop s = cond (anyMark (s .marks)) (begun (cancelled s)) (abandoned s)
 
--- "the tick that ends it (the slot's Nth after the stop)": what was latched is in memory, and the protection to come stands
+-- a command's cycle; P9: the commands are "without cycle or effect if it is on at the stop"
+unfoldable pub commandStop : Slot → Slot
+commandStop s = cond (pinOn s) (cancelled s) (begun s)
+
+-- P9: "protects for ever", and what was permanent stays so
+unfoldable pub permanentThen : Slot → Bool
+permanentThen s = s .old .permanent || s .old .lasting
+
+-- the protection that a cycle's end brings: the one to come; of an older module "bit 0 alone, set if permanent". (A state may be handed in in which
+-- a clear runs under permanent protection, or a protect of another block: row 6 has no cause against it. The end of the one leaves bit 0, that of
+-- the other brings nothing.)
+unfoldable pub brought : Slot → List Bool
+brought s = cond (older s) ((getD (s .coming) 0 false || permanentThen s) ∷ false ∷ false ∷ false ∷ []) (s .coming)
+
+-- "the tick that ends it (the slot's Nth after the stop)": what was latched is in memory, the protection to come stands, and nothing more is to come
 unfoldable pub ended : Slot → Slot
-ended s = withLeft 0 (emptied (protecting (s .coming) s))
+ended s = withLeft 0 (emptied (expecting (brought s) (protecting (brought s) (withOld (lasts (permanentThen s) (s .old)) s))))
 
 unfoldable pub ticked : Slot → Slot
 ticked s = cond (eqb (s .left) 1) (ended s) (withLeft (s .left - 1) s)

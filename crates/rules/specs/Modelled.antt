@@ -1,7 +1,7 @@
 -- Document 01, "What is modelled": the sizes, and a slot's part of the memory.
 -- Assumes nothing.
 use Prim.Native.Nat.{ℕ, _*_, _+_, _/_}
-use mathlib.Core.Bool.{Bool}
+use mathlib.Core.Bool.{Bool, cond}
 use lib.Dec.{eqb}
 use Rattle.rules.specs.declared.Slot.{Slot}
 use Rattle.rules.specs.declared.Address.{Address}
@@ -24,6 +24,14 @@ absent s = eqb (s .kind) 0
 
 unfoldable pub sensing : Slot → Bool
 sensing s = eqb (s .kind) 2
+
+-- P9: "New part, slot kind 3": an older module
+unfoldable pub older : Slot → Bool
+older s = eqb (s .kind) 3
+
+-- "256 bytes", at the beginning of its 512; the other kinds have them all
+unfoldable pub bytesOf : ℕ → ℕ
+bytesOf kind = cond (eqb kind 3) 256 slotBytes
 
 -- "Address = 256 x half + counter; block = address / 128."
 unfoldable pub addressOf : Slot → Address

@@ -7,16 +7,18 @@ use lib.Dec.{eqb, leb}
 use lib.IntN.{ℤ}
 use lib.ListN.{getD}
 use Rattle.rules.specs.declared.Act.{Act}
-use Rattle.rules.specs.declared.Act.the-variants.{Start, Byte, Read, Stop, Timeout, Tick, Voltage, Power, Temperature}
+use Rattle.rules.specs.declared.Act.the-variants.{Start, Byte, Read, Stop, Timeout, Tick, Power, Apply}
+use Rattle.rules.specs.declared.Applied.{Applied}
+use Rattle.rules.specs.declared.Applied.the-variants.{Voltage, Temperature, WriteProtect}
 use Rattle.rules.specs.declared.Phase.{Phase}
 use Rattle.rules.specs.declared.Phase.the-variants.{Idle, Control, Deaf, MemoryCounter, MemoryData, MemoryRead, HalfSelected, CommandAddress, CommandData, CommandStop, SensorPointer, SensorHigh, SensorLow, SensorReadHigh, SensorReadLow}
 use Rattle.rules.specs.declared.Slot.{Slot}
 use Rattle.rules.specs.declared.Traits.{Traits}
-use Rattle.rules.specs.Modelled.{absent, sensing, addressOf}
-use Rattle.rules.specs.Fields.{inPhase, withVoltage, withSensor, pointing, holding}
+use Rattle.rules.specs.Modelled.{absent, sensing, older, addressOf}
+use Rattle.rules.specs.Fields.{inPhase, withVoltage, withSensor, withOld, withPin, pointing, holding}
 use Rattle.rules.specs.Pin.{writtenWithPin, convertedWithPin}
 use Rattle.rules.specs.Control.{acksControl, controlled}
-use Rattle.rules.specs.Memory.{abandoned, cancelled, loaded, guarded, dataByte, fetched, begun, dataStop, ticked, tickedPart}
+use Rattle.rules.specs.Memory.{abandoned, cancelled, loaded, guarded, dataByte, fetched, dataStop, commandStop, ticked, tickedPart}
 use Rattle.rules.specs.Power.{powerCut, cutPart}
 
 -- what each phase is: of an exchange with the sensor; of a protect or clear that its stop has not yet begun; one in which data bytes are
@@ -169,20 +171,34 @@ stopIn HalfSelected s = s
 stopIn CommandAddress s = cancelled s
 stopIn CommandData s = cancelled s
 -- "Protect and clear take exactly one address byte and one data byte [..] and then a stop, which begins a write cycle"
-stopIn CommandStop s = begun s
+stopIn CommandStop s = commandStop s
 stopIn SensorPointer s = letGo SensorPointer s
 stopIn SensorHigh s = letGo SensorHigh s
 stopIn SensorLow s = letGo SensorLow s
 stopIn SensorReadHigh s = letGo SensorReadHigh s
 stopIn SensorReadLow s = letGo SensorReadLow s
 
+-- P9: the lasting form is open. It asks that the voltage is off "at the control byte", and no more of it.
+unfoldable pub endures : Slot → Bool
+endures s = older s && s .old .lasting
+
 -- "High voltage going off before the stop cancels, deaf."
 unfoldable pub switched : Bool → Slot → Slot
-switched on s = withVoltage on (cond (commanding (standing s) && s .voltage && not on) (lost (standing s) s) s)
+switched on s = withVoltage on (cond (commanding (standing s) && s .voltage && not on && not (endures s)) (lost (standing s) s) s)
 
 -- a temperature; a slot without a sensor is given none (refusal 3)
 unfoldable pub heated : ℤ → Slot → Slot
 heated t s = cond (sensing s) (withSensor (convertedWithPin (s .sensor) t) s) s
+
+-- P9: "New event kind 10 sets the write-protect pin"; a slot of another kind has none (refusal 3)
+unfoldable pub shielded : Bool → Slot → Slot
+shielded on s = cond (older s) (withOld (withPin on (s .old)) s) s
+
+-- what reaches one slot alone
+unfoldable pub applied : Applied → Slot → Slot
+applied (Voltage on) s = switched on s
+applied (Temperature t) s = heated t s
+applied (WriteProtect on) s = shielded on s
 
 -- slot n, which is present, after an event; "Stop and timeout make a slot idle; neither shortens a write cycle."
 unfoldable pub presentNext : ℕ → Act → Slot → Slot
@@ -192,9 +208,8 @@ presentNext n (Read more) s = readIn (standing s) more s
 presentNext n Stop s = inPhase Idle (stopIn (standing s) s)
 presentNext n Timeout s = inPhase Idle (letGo (standing s) s)
 presentNext n Tick s = ticked s
-presentNext n (Voltage k on) s = cond (eqb (k .0) n) (switched on s) s
 presentNext n (Power k) s = powerCut k s
-presentNext n (Temperature k t) s = cond (eqb (k .0) n) (heated t s) s
+presentNext n (Apply k x) s = cond (eqb (k .0) n) (applied x s) s
 
 -- slot n after an event: "absent slots [..] count as deaf", and no event touches one
 unfoldable pub slotNext : ℕ → Act → Slot → Slot
@@ -208,9 +223,8 @@ partNext (Read b) s m = m
 partNext Stop s m = m
 partNext Timeout s m = m
 partNext Tick s m = tickedPart s m
-partNext (Voltage k on) s m = m
 partNext (Power k) s m = cutPart k s m
-partNext (Temperature k t) s m = m
+partNext (Apply k x) s m = m
 
 -- slot n acknowledges the byte b
 unfoldable pub acks : ℕ → ℕ → Slot → Bool

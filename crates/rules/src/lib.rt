@@ -21,7 +21,17 @@ pub struct Event {
     pub value: i16,
 }
 
-// What an event that is not refused does: one case for each kind, 1 to 9.
+// What reaches one slot alone, by the slot's number: one case for each such kind of event, 7, 9 and 10.
+pub enum Applied {
+    // High voltage on SA0, on or off.
+    Voltage(bool),
+    // Sixteenths of a degree.
+    Temperature(i16),
+    // The write-protect pin of an older module, on or off.
+    WriteProtect(bool),
+}
+
+// What an event that is not refused does: one case for each kind that reaches every slot, 1 to 6 and 8, and one for those that reach one.
 pub enum Act {
     Start,
     Byte(u8),
@@ -30,11 +40,8 @@ pub enum Act {
     Stop,
     Timeout,
     Tick,
-    // On or off.
-    Voltage(SlotNo, bool),
     Power(Cut),
-    // Sixteenths of a degree.
-    Temperature(SlotNo, i16),
+    Apply(SlotNo, Applied),
 }
 
 // What an act carries over the wires and gets an answer to: a byte from the master, a read, or nothing.
@@ -87,6 +94,8 @@ pub enum Heard {
     ReadProtection(BlockNo),
     SelectHalf(u8),
     ReadHalf,
+    // An older module's lasting form.
+    ProtectForEver,
     Nothing,
 }
 
@@ -162,8 +171,17 @@ impl Sensor {
     }
 }
 
+// What an older 2-Kbit module alone has; in a slot of another kind it has no effect.
+pub struct Older {
+    // Its protection is permanent, and will be once the running command has its way; false without one.
+    pub permanent: bool,
+    pub lasting: bool,
+    // The write-protect pin is on.
+    pub pin: bool,
+}
+
 pub struct Slot {
-    // 0 absent, 1 memory, 2 memory with sensor.
+    // 0 absent, 1 memory, 2 memory with sensor, 3 older 2-Kbit memory.
     pub kind: u8,
     // The write cycle's length in ticks, and how many are left of the running one; 0 for none.
     pub length: u8,
@@ -181,6 +199,7 @@ pub struct Slot {
     pub marks: [bool; 16],
     pub place: u8,
     pub sensor: Sensor,
+    pub old: Older,
 }
 
 impl Slot {
@@ -210,6 +229,11 @@ impl Slot {
             marks: [false; 16],
             place: 0,
             sensor,
+            old: Older {
+                permanent: false,
+                lasting: false,
+                pin: false,
+            },
         }
     }
 }
