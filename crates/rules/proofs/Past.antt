@@ -23,6 +23,7 @@ noSlot =
       marks = [];
       place = 0;
       sensor = record { pointer = 0; configuration = 0; high = 0; low = 0; critical = 0; temperature = 0; resolution = 0; timeout = 0; word = 0; pending = false };
+      old = record { permanent = false; lasting = false; pin = false };
     }
 
 -- of pairs

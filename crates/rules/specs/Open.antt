@@ -33,7 +33,7 @@ open-memory = tt
 
 -- the power cycle
 unfoldable pub open-power : Unit {0}
-unfolding Power.running Power.latchedBelow Power.firstOf Power.broughtBy Power.lastingBy Power.cut Power.powerCut Power.cutPart
+unfolding Power.running Power.latchedBelow Power.firstOf Power.cut Power.finished Power.powerCut Power.cutPart
 open-power = tt
 
 -- the sensor

@@ -10,7 +10,7 @@ use Rattle.proof_lists.specs.Each.{mapFrom}
 use Rattle.rules.specs.declared.Cut.{Cut}
 use Rattle.rules.specs.declared.Slot.{Slot}
 use Rattle.rules.specs.Modelled.{absent}
-use Rattle.rules.specs.Fields.{toCome, latched}
+use Rattle.rules.specs.Fields.{latched}
 use Rattle.rules.specs.Fresh.{powered}
 use Rattle.rules.specs.Memory.{ended, stored}
 
@@ -28,21 +28,18 @@ latchedBelow marks (suc n) = cond (getD marks n false) (suc (latchedBelow marks 
 unfoldable pub firstOf : Cut → List Bool → List Bool
 firstOf k marks = mapFrom (λ n marked. marked && ltb (latchedBelow marks n) (k .0)) 0 marks
 
--- "For protect and clear, 0 keeps the old protection and any other number brings the new." P9's lasting form is a protect.
-unfoldable pub broughtBy : Cut → Slot → List Bool
-broughtBy k s = cond (eqb (k .0) 0) (s .protection) (s .coming)
-
-unfoldable pub lastingBy : Cut → Slot → Bool
-lastingBy k s = not (eqb (k .0) 0) && s .old .lasting
-
--- a running cycle with the rest lost: what it would store and bring, were it to end now
+-- a running cycle with the rest lost
 unfoldable pub cut : Cut → Slot → Slot
-cut k s = toCome (broughtBy k s) (lastingBy k s) (latched (s .latch) (firstOf k (s .marks)) s)
+cut k s = latched (s .latch) (firstOf k (s .marks)) s
 
--- a present slot after the power cycle: a running cycle ends so, and then document 01's power cycle; "Without a running cycle the number has no
--- effect."
+-- "For protect and clear, 0 keeps the old protection and any other number brings the new." (P9's lasting form is a protect.) So with 0 a running cycle
+-- is dropped, and with any other number it ends; "Without a running cycle the number has no effect."
+unfoldable pub finished : Cut → Slot → Bool
+finished k s = running s && not (eqb (k .0) 0)
+
+-- a present slot after the power cycle: that end, and then document 01's power cycle
 unfoldable pub powerCut : Cut → Slot → Slot
-powerCut k s = powered (cond (running s) (ended (cut k s)) s)
+powerCut k s = powered (cond (finished k s) (ended s) s)
 
 -- and its 512 bytes m; an absent slot's are not touched
 unfoldable pub cutPart : Cut → Slot → List ℕ → List ℕ

@@ -9,7 +9,7 @@ use lib.Dec.{eqb}
 use lib.IntN.{ℤ}
 use Rattle.proof_lists.specs.Tests.{cond-cases, cond-same, or-left-false, or-right-false}
 use Rattle.rules.specs.declared.Act.{Act}
-use Rattle.rules.specs.declared.Act.the-variants.{Start, Byte, Read, Stop, Timeout, Tick, Voltage, Power, Temperature}
+use Rattle.rules.specs.declared.Act.the-variants.{Start, Byte, Read, Stop, Timeout, Tick, Power, Apply}
 use Rattle.rules.specs.declared.Phase.{Phase}
 use Rattle.rules.specs.declared.Phase.the-variants.{Idle, Control, Deaf, MemoryCounter, MemoryData, MemoryRead, HalfSelected, CommandAddress, CommandData, CommandStop, SensorPointer, SensorHigh, SensorLow, SensorReadHigh, SensorReadLow}
 use Rattle.rules.specs.declared.Slot.{Slot}
@@ -138,9 +138,8 @@ module _ (n : ℕ) (s : Slot) where
   rests Stop e u = absurd (false≢true e)
   rests Timeout e u = absurd (false≢true e)
   rests Tick e u = absurd (false≢true e)
-  rests (Voltage k on) e u = absurd (false≢true e)
   rests (Power k) e u = absurd (false≢true e)
-  rests (Temperature k t) e u = absurd (false≢true e)
+  rests (Apply k x) e u = absurd (false≢true e)
 
   -- a tick without a write cycle
   pub tick-rests : s .left ≡ 0 → Foreseen change.Nothing n Tick s

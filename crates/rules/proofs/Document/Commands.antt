@@ -2,23 +2,24 @@
 -- the 0110 rows one by one; each table computes.
 -- Assumes nothing.
 use Prim.Native.Nat.{ℕ, _/_, _%_}
+use native.Mathlib.Omega.{arith}
 use mathlib.Core.Path.{_≡_, refl}
-use mathlib.Core.Bool.{Bool, true, false, not, _&&_}
+use mathlib.Core.Bool.{Bool, true, false, not, _&&_, and-false}
 use mathlib.Core.List.{List, [], _∷_, map}
 use lib.Dec.{eqb}
 use lib.ListN.{getD, set}
 use borrow.Author.Tests.{eq-eqb, ne-eqb}
 use Rattle.rules.specs.declared.BlockNo.{BlockNo}
-use Rattle.rules.specs.declared.Heard.the-variants.{Memory, Sensor, Protect, ClearAll, ReadProtection, SelectHalf, ReadHalf, Nothing}
+use Rattle.rules.specs.declared.Heard.the-variants.{Memory, Sensor, Protect, ClearAll, ReadProtection, SelectHalf, ReadHalf, ProtectForEver, Nothing}
 use Rattle.rules.specs.declared.Phase.the-variants.{Deaf, MemoryCounter, MemoryRead, HalfSelected, CommandAddress, SensorPointer, SensorReadHigh}
 use Rattle.rules.specs.declared.Slot.{Slot}
 use Rattle.rules.specs.declared.SlotNo.{SlotNo}
-use Rattle.rules.specs.Modelled.{sensing}
+use Rattle.rules.specs.Modelled.{sensing, older}
 use Rattle.rules.specs.Open.{open-all}
 use Rattle.rules.specs.Fields.{inPhase, inHalf, withLeft, protecting, expecting, withVoltage, holding}
 use Rattle.rules.specs.Fresh.{freshSlot}
 use Rattle.rules.specs.Pin.{readOf}
-use Rattle.rules.specs.Control.{selectOf, isRead, commandOf, heardOf, acksHeard, acksControl, obeyed, controlled}
+use Rattle.rules.specs.Control.{selectOf, isRead, commandOf, heardOf, acksHeard, acksControl, obeyed, controlled, heardBy, olderCommand}
 
 -- "1010: memory; select bits must equal the slot number." "0011: sensor; the same, kind 2 slots only." "others: no slot.", for every byte
 module _ (b : ℕ) where
@@ -37,19 +38,32 @@ module _ (b : ℕ) where
   unfolding heardOf
   no-family x y z = rw (ne-eqb (b / 16) 0xA x, ne-eqb (b / 16) 0x3 y, ne-eqb (b / 16) 0x6 z)
 
+  -- P9: only the 0110 bytes of an older module are read otherwise
+  pub heard-alike : (n : ℕ) (s : Slot) → (b / 16 ≡ 0x6 → ⊥) → heardBy n b s ≡ heardOf b
+  unfolding heardBy
+  heard-alike n s ne = rw (ne-eqb (b / 16) 0x6 ne, and-false (older s))
+
+  pub newer-heard : (n : ℕ) (s : Slot) → older s ≡ false → heardBy n b s ≡ heardOf b
+  unfolding heardBy
+  newer-heard n s e = rw e
+
+  pub older-heard : (n : ℕ) (s : Slot) → older s ≡ true → b / 16 ≡ 0x6 → heardBy n b s ≡ olderCommand n b s
+  unfolding heardBy
+  older-heard n s o e = rw (o, e)
+
   -- which slot n acknowledges them, in no write cycle
   module _ (n : ℕ) (s : Slot) (free : s .left ≡ 0) where
     pub memory-acked : b / 16 ≡ 0xA → acksControl n b s ≡ eqb (b / 2 % 8) n
     unfolding acksControl acksHeard
-    memory-acked e = rw (eq-eqb (s .left) 0 free, memory-family e)
+    memory-acked e = rw (eq-eqb (s .left) 0 free, heard-alike n s (λ f. omega (arith, e, f)), memory-family e)
 
     pub sensor-acked : b / 16 ≡ 0x3 → acksControl n b s ≡ eqb (b / 2 % 8) n && eqb (s .kind) 2
     unfolding acksControl acksHeard sensing
-    sensor-acked e = rw (eq-eqb (s .left) 0 free, sensor-family e)
+    sensor-acked e = rw (eq-eqb (s .left) 0 free, heard-alike n s (λ f. omega (arith, e, f)), sensor-family e)
 
     pub none-acked : (b / 16 ≡ 0xA → ⊥) → (b / 16 ≡ 0x3 → ⊥) → (b / 16 ≡ 0x6 → ⊥) → acksControl n b s ≡ false
     unfolding acksControl acksHeard
-    none-acked x y z = rw (eq-eqb (s .left) 0 free, no-family x y z)
+    none-acked x y z = rw (eq-eqb (s .left) 0 free, heard-alike n s z, no-family x y z)
 
 abbrev block : ℕ → BlockNo
 block n = record { 0 = n }
@@ -145,13 +159,13 @@ module _ (n b : ℕ) (s : Slot) where
   unfolding controlled
   unacked-deaf e = rw e
 
-  pub acked-obeyed : acksControl n b s ≡ true → controlled n b s ≡ obeyed (heardOf b) s
+  pub acked-obeyed : acksControl n b s ≡ true → controlled n b s ≡ obeyed (heardBy n b s) s
   unfolding controlled
   acked-obeyed e = rw e
 
 -- the ACK column, and what the ACK does, row by row for every slot n in no write cycle
 module _ (n : ℕ) (s : Slot) (free : s .left ≡ 0) where
-  pub acks-free : (b : ℕ) → acksControl n b s ≡ acksHeard (heardOf b) n s
+  pub acks-free : (b : ℕ) → acksControl n b s ≡ acksHeard (heardBy n b s) n s
   unfolding acksControl
   acks-free b = rw (eq-eqb (s .left) 0 free)
 

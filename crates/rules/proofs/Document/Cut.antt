@@ -5,7 +5,7 @@ use native.Mathlib.Nat.{zero-add, suc-add}
 use native.Mathlib.Omega.{arith}
 use mathlib.Core.Path.{_≡_, refl, sym, ap, ap₂, _∙_}
 use mathlib.Core.Logic.{_⊎_, inl, inr, ⊎-elim}
-use mathlib.Core.Bool.{Bool, true, false, not, cond, _&&_}
+use mathlib.Core.Bool.{Bool, true, false, not, cond, _&&_, and-false}
 use mathlib.Core.List.{List, [], _∷_, _++_, map}
 use lib.Dec.{eqb}
 use lib.ListN.{length, getD, take, drop, replicate}
@@ -18,11 +18,11 @@ use Rattle.rules.specs.declared.Event.{Event}
 use Rattle.rules.specs.declared.Ruling.{Ruling}
 use Rattle.rules.specs.declared.Ruling.the-variants.{Taken}
 use Rattle.rules.specs.declared.Slot.{Slot}
-use Rattle.rules.specs.Modelled.{absent, slotBytes, addressOf}
+use Rattle.rules.specs.Modelled.{absent, slotBytes, addressOf, older}
 use Rattle.rules.specs.Fields.{atCounter, withLeft, expecting, latched}
 use Rattle.rules.specs.Fresh.{freshSlot, powered}
 use Rattle.rules.specs.Memory.{stored}
-use Rattle.rules.specs.Power.{running, latchedBelow, firstOf, broughtBy, cut, powerCut, cutPart}
+use Rattle.rules.specs.Power.{running, latchedBelow, firstOf, cut, powerCut, cutPart, finished}
 use Rattle.rules.specs.Slot.{presentNext, slotNext, partNext}
 use Rattle.rules.specs.Bus.{memoryNext}
 use Rattle.rules.specs.Runs.{Bench, taken, rulingOn, ruledNext, next, slotAfter, partAfter}
@@ -69,7 +69,7 @@ protections = refl
 
 -- "Without a running cycle the number has no effect.": the slot is as document 01's power cycle leaves it, and its bytes stay
 pub no-cycle : (n : ℕ) (k : Cut) (s : Slot) (m : List ℕ) → absent s ≡ false → running s ≡ false → (slotNext n (Power k) s ≡ powered s) × (partNext (Power k) s m ≡ m)
-unfolding presentNext powerCut partNext cutPart
+unfolding presentNext powerCut finished partNext cutPart
 no-cycle n k s m a e = (present-next n (Power k) s a ∙ rw e, rw (a, e))
 
 -- "of the bytes latched in a running cycle, in ascending page offset, the first so many are stored and the rest are lost": at the place i of the
@@ -132,9 +132,9 @@ cut-bench e x k q i d z r h l n =
 
 -- with 0 it is document 01's power cycle: the running cycle is dropped, the old protection and the old bytes stay
 pub with-none : (n : ℕ) (k : Cut) (s : Slot) (m : List ℕ) → absent s ≡ false → k .0 ≡ 0 → (slotNext n (Power k) s ≡ powered s) × (partNext (Power k) s m ≡ m)
-unfolding presentNext powerCut powered cut broughtBy storing open-fields open-memory
+unfolding presentNext powerCut finished storing
 with-none n k s m a z = (
-  present-next n (Power k) s a ∙ by-test (running s) (λ e. rw (e, eq-eqb (k .0) 0 z)) (λ e. rw e),
+  present-next n (Power k) s a ∙ rw (eq-eqb (k .0) 0 z, and-false (running s)),
   part-still (Power k) s m z,
 )
 
@@ -145,7 +145,7 @@ ticks-more (suc l) d = rw suc-add (ap (Tick ∷_) (ticks-more l d))
 -- with 16 it is the end of the cycle, at the last of the ticks that are left, and then document 01's power cycle; so with every number from 16 on
 module _ (n : ℕ) (k none : Cut) (enough16 : 16 ≤ k .0) (nothing : none .0 ≡ 0) where
   all-slot : (l : ℕ) (s : Slot) → s .left ≡ l → absent s ≡ false → slotNext n (Power k) s ≡ slotNext n (Power none) (slotAfter n (ticks l) s)
-  unfolding slotAfter presentNext powerCut powered cut broughtBy running absent open-fields open-memory
+  unfolding slotAfter presentNext powerCut powered finished running absent open-fields open-memory
   all-slot zero s e a =
       let rests : running s ≡ false = rw (eq-eqb (s .left) 0 e) in
       no-cycle n k s [] a rests .0 ∙ sym (no-cycle n none s [] a rests .0)
@@ -168,7 +168,7 @@ module _ (n : ℕ) (k none : Cut) (enough16 : 16 ≤ k .0) (nothing : none .0 �
 
   -- and further ticks, which find no cycle, make no difference
   over : (l : ℕ) (s : Slot) → s .left ≡ l → absent s ≡ false → (slotAfter n (ticks l) s) .left ≡ 0
-  unfolding slotAfter open-fields
+  unfolding slotAfter open-fields open-memory
   over zero s e a = e
   over (suc j) s e a = ap (λ (r : Slot). r .left) (cycle.ends n j s a e)
 
@@ -186,12 +186,12 @@ module _ (n : ℕ) (k none : Cut) (enough16 : 16 ≤ k .0) (nothing : none .0 �
 pub at-any-moment : (n : ℕ) (k : Cut) (j : ℕ) (s : Slot) (m : List ℕ) → absent s ≡ false → j < s .left
     → (slotNext n (Power k) (slotAfter n (ticks j) s) ≡ slotNext n (Power k) s)
     × (partNext (Power k) (slotAfter n (ticks j) s) (partAfter n (ticks j) s m) ≡ partNext (Power k) s m)
-unfolding presentNext powerCut cut broughtBy running partNext cutPart stored addressOf absent open-fields open-memory
+unfolding presentNext powerCut powered finished running partNext cutPart cut stored addressOf absent older open-fields open-memory
 at-any-moment n k j s m a l =
     let rest : ℕ = s .left - suc j in
     let e : s .left ≡ j + suc rest = omega arith in
     let runs : running s ≡ true = rw (ne-eqb (s .left) 0 (λ z. omega arith)) in
     let still : running (withLeft (suc rest) s) ≡ true = rw (ne-eqb (suc rest) 0 (λ z. omega arith)) in (
-      ap (slotNext n (Power k)) (waiting n rest j s a e) ∙ present-next n (Power k) _ a ∙ rw still (sym (present-next n (Power k) s a ∙ rw runs)),
+      ap (slotNext n (Power k)) (waiting n rest j s a e) ∙ present-next n (Power k) _ a ∙ rw still (by-test (not (eqb (k .0) 0)) (λ z. rw z (sym (present-next n (Power k) s a ∙ rw (runs, z)))) (λ z. rw z (sym (present-next n (Power k) s a ∙ rw (runs, z))))),
       ap₂ (partNext (Power k)) (waiting n rest j s a e) (waiting-part n rest j s m a e) ∙ rw (a, still, runs),
     )

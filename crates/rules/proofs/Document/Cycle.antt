@@ -11,14 +11,16 @@ use lib.ListN.{replicate}
 use borrow.Author.Tests.{eq-eqb, ne-eqb}
 use Rattle.proof_lists.specs.Tests.{cond-same}
 use Rattle.rules.specs.declared.Act.{Act}
-use Rattle.rules.specs.declared.Act.the-variants.{Start, Byte, Read, Stop, Timeout, Tick, Voltage, Temperature}
+use Rattle.rules.specs.declared.Act.the-variants.{Start, Byte, Read, Stop, Timeout, Tick, Apply}
+use Rattle.rules.specs.declared.Applied.{Applied}
 use Rattle.rules.specs.declared.Bus.{Bus}
 use Rattle.rules.specs.declared.Slot.{Slot}
 use Rattle.rules.specs.declared.SlotNo.{SlotNo}
-use Rattle.rules.specs.Modelled.{absent, addressOf}
+use Rattle.rules.specs.Modelled.{absent, addressOf, older}
 use Rattle.rules.specs.Fields.{withLeft, protecting, latched}
 use Rattle.rules.specs.Fresh.{noBytes, noMarks}
-use Rattle.rules.specs.Memory.{ticked, stored, tickedPart}
+use Rattle.rules.specs.Memory.{ticked, stored, tickedPart, ended}
+use Rattle.rules.specs.Open.{open-fields, open-memory}
 use Rattle.rules.specs.Slot.{presentNext, slotNext, partNext}
 use Rattle.rules.specs.Bus.{memoryNext}
 use Rattle.rules.specs.Runs.{slotAfter, partAfter}
@@ -70,8 +72,8 @@ module _ (n l : ℕ) where
       ∙ waiting-part j (withLeft (s .left - 1) s) m a (omega arith)
 
 -- and the last of them: "the tick that ends it (the slot's Nth after the stop) puts the latched bytes in memory"; "protection changes when it ends"
-pub ends : (n j : ℕ) (s : Slot) → absent s ≡ false → s .left ≡ suc j → slotAfter n (ticks (suc j)) s ≡ withLeft 0 (latched noBytes noMarks (protecting (s .coming) s))
-unfolding slotAfter withLeft latched protecting absent
+pub ends : (n j : ℕ) (s : Slot) → absent s ≡ false → s .left ≡ suc j → slotAfter n (ticks (suc j)) s ≡ ended s
+unfolding slotAfter absent open-memory open-fields older
 ends n zero s a e = last-tick n s a e
 ends n (suc j) s a e =
     ap (slotAfter n (ticks (suc j))) (other-tick n s a (λ f. omega arith)) ∙ ends n j (withLeft (s .left - 1) s) a (omega arith)
@@ -87,8 +89,8 @@ ends-part n (suc j) s m a e =
 
 -- "Changing memory at the stop while the cycle still runs" is an error: whatever the slots hold, at a stop and at all else but a tick and a power cycle
 -- every byte stays
-pub not-before : (b : Bus) (m : List ℕ) (v : ℕ) (more on : Bool) (k : SlotNo) (t : ℤ)
-    → map (λ (a : Act). memoryNext a b m) (Stop ∷ Start ∷ Byte v ∷ Read more ∷ Timeout ∷ Voltage k on ∷ Temperature k t ∷ [])
-    ≡ m ∷ m ∷ m ∷ m ∷ m ∷ m ∷ m ∷ []
+pub not-before : (b : Bus) (m : List ℕ) (v : ℕ) (more : Bool) (k : SlotNo) (x : Applied)
+    → map (λ (a : Act). memoryNext a b m) (Stop ∷ Start ∷ Byte v ∷ Read more ∷ Timeout ∷ Apply k x ∷ [])
+    ≡ m ∷ m ∷ m ∷ m ∷ m ∷ m ∷ []
 unfolding memoryNext
-not-before b m v more on k t = refl
+not-before b m v more k x = refl

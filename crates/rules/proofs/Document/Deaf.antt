@@ -12,13 +12,14 @@ use Rattle.rules.specs.declared.Heard.{Heard}
 use Rattle.rules.specs.declared.Phase.{Phase}
 use Rattle.rules.specs.declared.Phase.the-variants.{Idle, Control, Deaf, MemoryCounter, MemoryData, MemoryRead, HalfSelected, CommandAddress, CommandData, CommandStop, SensorPointer, SensorHigh, SensorLow, SensorReadHigh, SensorReadLow}
 use Rattle.rules.specs.declared.Slot.{Slot}
-use Rattle.rules.specs.Modelled.{absent, sensing}
+use Rattle.rules.specs.Modelled.{absent, sensing, older}
 use Rattle.rules.specs.Fields.{inPhase}
 use Rattle.rules.specs.Control.{commandOf, heardOf, acksHeard, acksControl, controlled}
 use Rattle.rules.specs.Slot.{standing, withSensorIn, byteIn, acksIn, readIn, drivesIn, drivenIn, presentNext, slotNext, acks, drives, driven}
+use Rattle.rules.proofs.Document.Commands.{newer-heard}
 use Rattle.rules.proofs.Run.Cases.{next-cases}
 
--- "0110: commands, heard by all present slots": a slot's number makes no difference to it
+-- "0110: commands, heard by all present slots": a slot's number makes no difference to it, but in an older module (P9)
 module _ (n k : ℕ) (s : Slot) where
   abbrev Alike : Heard → Type 0
   Alike h = acksHeard h n s ≡ acksHeard h k s
@@ -43,13 +44,13 @@ module _ (n k : ℕ) (s : Slot) where
   unfolding heardOf
   heard-alike b e = rw e (command-alike b)
 
-  pub commands-heard-alike : (b : ℕ) → b / 16 ≡ 6 → controlled n b s ≡ controlled k b s
+  pub commands-heard-alike : (b : ℕ) → older s ≡ false → b / 16 ≡ 6 → controlled n b s ≡ controlled k b s
   unfolding controlled acksControl
-  commands-heard-alike b e = rw (heard-alike b e)
+  commands-heard-alike b o e = rw (newer-heard b n s o, newer-heard b k s o, heard-alike b e)
 
-  pub commands-acked-alike : (b : ℕ) → b / 16 ≡ 6 → acksControl n b s ≡ acksControl k b s
+  pub commands-acked-alike : (b : ℕ) → older s ≡ false → b / 16 ≡ 6 → acksControl n b s ≡ acksControl k b s
   unfolding acksControl
-  commands-acked-alike b e = rw (heard-alike b e)
+  commands-acked-alike b o e = rw (newer-heard b n s o, newer-heard b k s o, heard-alike b e)
 
 -- "deaf until the next start": it acknowledges and drives nothing, and bytes and reads leave it as it is
 pub record Silent (n : ℕ) (s : Slot) : Type 0 where

@@ -13,21 +13,23 @@ use borrow.Author.Tests.{eq-eqb, ne-eqb, le-leb, lt-leb}
 use Rattle.proof_lists.specs.Tests.{cond-cases, by-test, both, or-left-false, or-right-false}
 use Rattle.rules.specs.declared.Act.{Act}
 use Rattle.rules.specs.declared.Cut.{Cut}
-use Rattle.rules.specs.declared.Act.the-variants.{Start, Byte, Read, Stop, Timeout, Tick, Voltage, Power, Temperature}
+use Rattle.rules.specs.declared.Act.the-variants.{Start, Byte, Read, Stop, Timeout, Tick, Power, Apply}
+use Rattle.rules.specs.declared.Applied.{Applied}
+use Rattle.rules.specs.declared.Applied.the-variants.{Voltage, Temperature, WriteProtect}
 use Rattle.rules.specs.declared.Phase.{Phase}
 use Rattle.rules.specs.declared.Phase.the-variants.{Idle, Control, Deaf, MemoryCounter, MemoryData, MemoryRead, HalfSelected, CommandAddress, CommandData, CommandStop, SensorPointer, SensorHigh, SensorLow, SensorReadHigh, SensorReadLow}
 use Rattle.rules.specs.declared.Slot.{Slot}
 use Rattle.rules.specs.declared.SlotNo.{SlotNo}
-use Rattle.rules.specs.Modelled.{absent, sensing, addressOf, blockOf}
+use Rattle.rules.specs.Modelled.{absent, sensing, addressOf, blockOf, older}
 use Rattle.rules.specs.Open.{open-fields, open-memory, open-slot}
-use Rattle.rules.specs.Fields.{inPhase, atCounter, withLeft, protecting, expecting, withVoltage, latched, placed, withSensor, holding, pointing}
-use Rattle.rules.specs.Fresh.{noBytes, noMarks, freshSlot, freshSensor, powered}
+use Rattle.rules.specs.Fields.{inPhase, atCounter, withLeft, protecting, expecting, withVoltage, latched, placed, withSensor, holding, pointing, withOld, lasts, withPin}
+use Rattle.rules.specs.Fresh.{noBytes, noMarks, freshSlot, freshSensor, powered, freshOlder}
 use Rattle.rules.specs.Pin.{writtenWithPin, convertedWithPin}
 use Rattle.rules.specs.Control.{protects}
-use Rattle.rules.specs.Memory.{upInPage, guarded, anyMark}
-use Rattle.rules.specs.Power.{running, broughtBy, cut, powerCut}
-use Rattle.rules.specs.Slot.{withSensorIn, commanding, taking, standing, letGo, lost, byteIn, acksIn, readIn, drivesIn, drivenIn, stopIn, switched, heated, presentNext, slotNext, acks, drives, driven}
-use Rattle.rules.proofs.Run.Cases.{next-cases, present-next, byte-next, read-next, sensing-present}
+use Rattle.rules.specs.Memory.{upInPage, guarded, anyMark, pinOn, brought, permanentThen}
+use Rattle.rules.specs.Power.{finished, powerCut}
+use Rattle.rules.specs.Slot.{withSensorIn, commanding, taking, standing, letGo, lost, byteIn, acksIn, readIn, drivesIn, drivenIn, stopIn, switched, heated, presentNext, slotNext, acks, drives, driven, applied, endures, shielded}
+use Rattle.rules.proofs.Run.Cases.{next-cases, present-next, byte-next, read-next, sensing-present, older-present}
 use Rattle.rules.proofs.Memory.Protection.{Cycle, asWas, pageBegins, commandBegins, goesOn, powerEnds, cycle-next}
 
 -- a slot that stands in another phase than deaf is there
@@ -112,9 +114,9 @@ pub protected-byte : (n b : ℕ) (s : Slot) → standing s ≡ MemoryData → gu
 unfolding open-memory open-slot open-fields
 protected-byte n b s e h0 = (ack-at n s MemoryData e b ∙ rw h0, at-byte n s MemoryData e b ∙ rw h0)
 
--- "Address = 256 x half + counter; block = address / 128": which block that is
-pub guarded-block : (s : Slot) → guarded s ≡ getD (s .protection) ((256 * s .half + s .counter) / 128) false
-unfolding guarded protects blockOf addressOf
+-- "Address = 256 x half + counter; block = address / 128": which block that is; P9: or the write-protect pin of an older module is on
+pub guarded-block : (s : Slot) → guarded s ≡ (getD (s .protection) ((256 * s .half + s .counter) / 128) false || (eqb (s .kind) 3 && s .old .pin))
+unfolding guarded pinOn older protects blockOf addressOf
 guarded-block s = refl
 
 -- "A stop with at least one latched byte begins the write cycle", a page's, which brings no protection
@@ -151,22 +153,25 @@ unfolding open-memory open-slot open-fields
 read-abandons n more s e = (drive-at n s MemoryData e, at-read n s MemoryData e more)
 
 -- "A power cycle does the same, but keeps memory, protection and the high-voltage levels.": in every phase; P3: the protection that a running cycle
--- was to bring may come with it
+-- was to bring may come with it; P9: permanent protection and the pin are kept
 pub power-cycle : (n : ℕ) (k : Cut) (s : Slot) → absent s ≡ false
-    → let p : List Bool = cond (running s) (broughtBy k s) (s .protection) in
-    slotNext n (Power k) s ≡ withVoltage (s .voltage) (expecting p (protecting p (freshSlot (s .kind) (s .length))))
-unfolding presentNext powerCut powered cut open-memory open-fields
-power-cycle n k s a = present-next n (Power k) s a ∙ by-test (running s) (λ e. rw e) (λ e. rw e)
+    → let p : List Bool = cond (finished k s) (brought s) (s .protection) in
+    let l : Bool = cond (finished k s) (permanentThen s) (s .old .permanent) in
+    slotNext n (Power k) s
+    ≡ withVoltage (s .voltage) (expecting p (protecting p (withOld (record { permanent = l; lasting = false; pin = s .old .pin }) (freshSlot (s .kind) (s .length)))))
+unfolding presentNext powerCut powered open-memory open-fields
+power-cycle n k s a = present-next n (Power k) s a ∙ by-test (finished k s) (λ e. rw e) (λ e. rw e)
 
 pub fresh : (kind length : ℕ)
     → freshSlot kind length
-    ≡ record { kind = kind; length = length; left = 0; half = 0; counter = 0; protection = replicate 4 false; coming = replicate 4 false; voltage = false; phase = Idle; latch = replicate 16 0; marks = replicate 16 false; place = 0; sensor = record { pointer = 0x00; configuration = 0x0000; high = 0x0000; low = 0x0000; critical = 0x0000; temperature = 0x0000; resolution = 0x01; timeout = 0x01; word = 0x0000; pending = false } }
-unfolding freshSlot freshSensor
+    ≡ record { kind = kind; length = length; left = 0; half = 0; counter = 0; protection = replicate 4 false; coming = replicate 4 false; voltage = false; phase = Idle; latch = replicate 16 0; marks = replicate 16 false; place = 0; sensor = record { pointer = 0x00; configuration = 0x0000; high = 0x0000; low = 0x0000; critical = 0x0000; temperature = 0x0000; resolution = 0x01; timeout = 0x01; word = 0x0000; pending = false }; old = record { permanent = false; lasting = false; pin = false } }
+unfolding freshSlot freshSensor freshOlder
 fresh kind length = refl
 
 -- "the tick that ends it (the slot's Nth after the stop) puts the latched bytes in memory and touches no other" (Stored.act-byte), and what
 -- is to come stands; every other tick goes on with the cycle, and none moves a phase
-pub last-tick : (n : ℕ) (s : Slot) → absent s ≡ false → s .left ≡ 1 → slotNext n Tick s ≡ withLeft 0 (latched noBytes noMarks (protecting (s .coming) s))
+pub last-tick : (n : ℕ) (s : Slot) → absent s ≡ false → s .left ≡ 1 → slotNext n Tick s
+    ≡ withLeft 0 (latched noBytes noMarks (expecting (brought s) (protecting (brought s) (withOld (lasts (permanentThen s) (s .old)) s))))
 unfolding presentNext open-memory
 last-tick n s a e = present-next n Tick s a ∙ rw (eq-eqb (s .left) 1 e)
 
@@ -215,10 +220,16 @@ unfolding open-memory open-slot open-fields
 second-byte n b s e = (ack-at n s CommandData e b, at-byte n s CommandData e b)
 
 -- "and then a stop, which begins a write cycle; protection changes when it ends."
-pub stop-commands : (n : ℕ) (s : Slot) → standing s ≡ CommandStop
+pub stop-commands : (n : ℕ) (s : Slot) → standing s ≡ CommandStop → pinOn s ≡ false
     → slotNext n Stop s ≡ inPhase Idle (withLeft (s .length) (placed 0 s))
 unfolding open-memory open-slot open-fields
-stop-commands n s e = at-stop n s CommandStop e (apart CommandStop Deaf refl)
+stop-commands n s e h0 = at-stop n s CommandStop e (apart CommandStop Deaf refl) ∙ rw h0
+
+-- P9: "without cycle or effect if it is on at the stop"
+pub stop-with-pin : (n : ℕ) (s : Slot) → standing s ≡ CommandStop → pinOn s ≡ true
+    → slotNext n Stop s ≡ inPhase Idle (expecting (s .protection) s)
+unfolding open-memory open-slot open-fields
+stop-with-pin n s e h0 = at-stop n s CommandStop e (apart CommandStop Deaf refl) ∙ rw h0
 
 -- "A stop after fewer bytes does nothing"
 pub stop-after-none : (n : ℕ) (s : Slot) → standing s ≡ CommandAddress
@@ -275,18 +286,19 @@ module _ (n : ℕ) (s : Slot) (c : commanding (standing s) ≡ true) where
     at-read n s (standing s) refl more ∙ commands (λ p. readIn p more s ≡ inPhase Deaf (expecting (s .protection) s)) refl refl refl (standing s) c,
   )
 
-  pub voltage-cancels : s .voltage ≡ true → slotNext n (Voltage (record { 0 = n }) false) s ≡ withVoltage false (inPhase Deaf (expecting (s .protection) s))
-  unfolding presentNext switched
-  voltage-cancels v =
-      let going = both (commanding (standing s) && s .voltage) true (both (commanding (standing s)) (s .voltage) c v) refl in
+  pub voltage-cancels : s .voltage ≡ true → endures s ≡ false
+      → slotNext n (Apply (record { 0 = n }) (Voltage false)) s ≡ withVoltage false (inPhase Deaf (expecting (s .protection) s))
+  unfolding presentNext applied switched
+  voltage-cancels v l =
+      let going = both (commanding (standing s) && s .voltage && true) (not (endures s)) (both (commanding (standing s) && s .voltage) true (both (commanding (standing s)) (s .voltage) c v) refl) (ap not l) in
       present-next n _ s (there s (standing s) refl not-deaf) ∙ rw (eq-eqb n n refl)
       (ap (λ (b : Bool). withVoltage false (cond b (lost (standing s) s) s)) going
       ∙ ap (withVoltage false) (unfold lost letGo open-memory in commands (λ p. lost p s ≡ inPhase Deaf (expecting (s .protection) s)) refl refl refl (standing s) c))
 
--- and nothing else is an event of the pin: on, off again, and in any other phase, it is the level alone
-pub voltage-level : (n : ℕ) (on : Bool) (s : Slot) → absent s ≡ false → (commanding (standing s) && s .voltage && not on) ≡ false
-    → slotNext n (Voltage (record { 0 = n }) on) s ≡ withVoltage on s
-unfolding presentNext switched
+-- and nothing else is an event of the pin: on, off again, in any other phase, and for P9's lasting form, it is the level alone
+pub voltage-level : (n : ℕ) (on : Bool) (s : Slot) → absent s ≡ false → (commanding (standing s) && s .voltage && not on && not (endures s)) ≡ false
+    → slotNext n (Apply (record { 0 = n }) (Voltage on)) s ≡ withVoltage on s
+unfolding presentNext applied switched
 voltage-level n on s a e = present-next n _ s a ∙ rw (eq-eqb n n refl, e)
 
 -- Sensor. "Write: pointer byte (above 09h: NACK, deaf, pointer kept)"
@@ -366,7 +378,7 @@ stop-idle n s a = (ap (λ (r : Slot). r .phase) (present-next n Stop s a), ap (�
 not-shorter : (a : Act) (s : Slot) (left : ℕ) → s .left ≤ s .length → (a ≡ Tick → ⊥) → ((k : Cut) → a ≡ Power k → ⊥) → Cycle a s left → s .left ≤ left
 not-shorter a s left l t p (asWas e) = omega arith
 not-shorter a s left l t p (pageBegins e q m f) = omega arith
-not-shorter a s left l t p (commandBegins e q f) = omega arith
+not-shorter a s left l t p (commandBegins e q g f) = omega arith
 not-shorter a s left l t p (goesOn e f) = absurd (t e)
 not-shorter a s left l t p (powerEnds k e f) = absurd (p k e)
 
@@ -395,20 +407,27 @@ start-sensor n s e =
     let d : standing s ≡ Deaf → ⊥ = λ f. false≢true (sym (ap withSensorIn f) ∙ e) in
     (at-start n s (standing s) refl d ∙ rw e, at-timeout n s (standing s) refl d ∙ rw e)
 
--- events of another slot's pin or temperature
-pub another-slot : (n : ℕ) (k : SlotNo) (on : Bool) (t : ℤ) (s : Slot) → (k .0 ≡ n → ⊥) → (slotNext n (Voltage k on) s ≡ s) × (slotNext n (Temperature k t) s ≡ s)
+-- events of another slot's pins or temperature
+pub another-slot : (n : ℕ) (k : SlotNo) (x : Applied) (s : Slot) → (k .0 ≡ n → ⊥) → slotNext n (Apply k x) s ≡ s
 unfolding presentNext
-another-slot n k on t s ne = (
-  next-cases (λ (r : Slot). r ≡ s) n (Voltage k on) s (λ a. refl) (λ a. rw (ne-eqb (k .0) n ne)),
-  next-cases (λ (r : Slot). r ≡ s) n (Temperature k t) s (λ a. refl) (λ a. rw (ne-eqb (k .0) n ne)),
-)
+another-slot n k x s ne = next-cases (λ (r : Slot). r ≡ s) n (Apply k x) s (λ a. refl) (λ a. rw (ne-eqb (k .0) n ne))
 
-pub own-temperature : (n : ℕ) (t : ℤ) (s : Slot) → sensing s ≡ true → slotNext n (Temperature (record { 0 = n }) t) s ≡ withSensor (convertedWithPin (s .sensor) t) s
-unfolding presentNext heated
+pub own-temperature : (n : ℕ) (t : ℤ) (s : Slot) → sensing s ≡ true → slotNext n (Apply (record { 0 = n }) (Temperature t)) s ≡ withSensor (convertedWithPin (s .sensor) t) s
+unfolding presentNext applied heated
 own-temperature n t s h = present-next n _ s (sensing-present s h) ∙ rw (eq-eqb n n refl, h)
 
 -- "kind 9: slot without sensor" is refused, and would change nothing
-pub no-temperature : (n : ℕ) (k : SlotNo) (t : ℤ) (s : Slot) → sensing s ≡ false → slotNext n (Temperature k t) s ≡ s
-unfolding presentNext heated
+pub no-temperature : (n : ℕ) (k : SlotNo) (t : ℤ) (s : Slot) → sensing s ≡ false → slotNext n (Apply k (Temperature t)) s ≡ s
+unfolding presentNext applied heated
 no-temperature n k t s h =
-    next-cases (λ (r : Slot). r ≡ s) n (Temperature k t) s (λ a. refl) (λ a. cond-cases (λ (r : Slot). r ≡ s) (eqb (k .0) n) (λ e. rw h) (λ e. refl))
+    next-cases (λ (r : Slot). r ≡ s) n (Apply k (Temperature t)) s (λ a. refl) (λ a. cond-cases (λ (r : Slot). r ≡ s) (eqb (k .0) n) (λ e. rw h) (λ e. refl))
+
+-- P9: "New event kind 10 sets the write-protect pin", of an older module alone
+pub own-pin : (n : ℕ) (on : Bool) (s : Slot) → older s ≡ true → slotNext n (Apply (record { 0 = n }) (WriteProtect on)) s ≡ withOld (withPin on (s .old)) s
+unfolding presentNext applied shielded
+own-pin n on s h = present-next n _ s (older-present s h) ∙ rw (eq-eqb n n refl, h)
+
+pub no-pin : (n : ℕ) (k : SlotNo) (on : Bool) (s : Slot) → older s ≡ false → slotNext n (Apply k (WriteProtect on)) s ≡ s
+unfolding presentNext applied shielded
+no-pin n k on s h =
+    next-cases (λ (r : Slot). r ≡ s) n (Apply k (WriteProtect on)) s (λ a. refl) (λ a. cond-cases (λ (r : Slot). r ≡ s) (eqb (k .0) n) (λ e. rw h) (λ e. refl))

@@ -9,7 +9,8 @@ use lib.Dec.{eqb}
 use lib.IntN.{ℤ, pos, _-ℤ_}
 use lib.Signed.{ltZ, leZ}
 use Rattle.proof_lists.specs.Tests.{cond-cases, by-test}
-use Rattle.rules.specs.declared.Act.the-variants.{Temperature}
+use Rattle.rules.specs.declared.Act.the-variants.{Apply}
+use Rattle.rules.specs.declared.Applied.the-variants.{Temperature}
 use Rattle.rules.specs.declared.Phase.{Phase}
 use Rattle.rules.specs.declared.Phase.the-variants.{Idle, Control, Deaf, MemoryCounter, MemoryData, MemoryRead, HalfSelected, CommandAddress, CommandData, CommandStop, SensorPointer, SensorHigh, SensorLow, SensorReadHigh, SensorReadLow}
 use Rattle.rules.specs.declared.Sensor as sensor
@@ -19,7 +20,7 @@ use Rattle.rules.specs.Modelled.{absent, sensing, addressOf}
 use Rattle.rules.specs.Fields.{withSensor}
 use Rattle.rules.specs.Sensor.{signedOf, hysteresisOf, loweredOf, flagOf, criticalFlag, highFlag, lowFlag}
 use Rattle.rules.specs.Pin.{convertedWithPin}
-use Rattle.rules.specs.Slot.{standing, drivenIn, presentNext, slotNext, driven}
+use Rattle.rules.specs.Slot.{standing, drivenIn, presentNext, slotNext, driven, applied}
 use Rattle.rules.proofs.Registers.Signed.{natural, less, le-to, le-from, lt-to, lt-from, holds, fails}
 use Rattle.rules.proofs.Registers.Words.{word-fixed}
 use Rattle.rules.proofs.Run.Cases.{next-cases, heated-cases}
@@ -43,10 +44,10 @@ driven-fixed SensorLow x s m e = refl
 driven-fixed SensorReadHigh x s m e = rw e
 driven-fixed SensorReadLow x s m e = rw e
 
-pub sensor-bytes-fixed : (n : ℕ) (k : SlotNo) (t : ℤ) (s : Slot) (m : List ℕ) → driven m (slotNext n (Temperature k t) s) ≡ driven m s
-unfolding driven presentNext standing absent sensing withSensor
+pub sensor-bytes-fixed : (n : ℕ) (k : SlotNo) (t : ℤ) (s : Slot) (m : List ℕ) → driven m (slotNext n (Apply k (Temperature t)) s) ≡ driven m s
+unfolding driven presentNext applied standing absent sensing withSensor
 sensor-bytes-fixed n k t s m =
-    next-cases (λ (r : Slot). driven m r ≡ driven m s) n (Temperature k t) s (λ e. refl) λ e.
+    next-cases (λ (r : Slot). driven m r ≡ driven m s) n (Apply k (Temperature t)) s (λ e. refl) λ e.
     cond-cases (λ (r : Slot). driven m r ≡ driven m s) (eqb (k .0) n)
     (λ e. heated-cases (λ (r : Slot). driven m r ≡ driven m s) t s (driven-fixed (standing s) (convertedWithPin (s .sensor) t) s m (word-fixed (s .sensor) t)) refl)
     (λ e. refl)

@@ -3,7 +3,7 @@
 use Prim.Native.Nat.{ℕ, _+_, _*_, _<_, _≤_}
 use native.Mathlib.Omega.{arith}
 use mathlib.Core.Path.{_≡_, refl}
-use mathlib.Core.Bool.{true, Bool, false, not, _||_}
+use mathlib.Core.Bool.{true, Bool, false, not, _&&_, _||_}
 use mathlib.Core.List.{List, [], _∷_, _++_}
 use lib.Dec.{eqb, ltb}
 use lib.ListN.{length, getD, drop, length-take, length-drop, replicate}
@@ -28,10 +28,12 @@ block-fits b m n k e =
     let s : Bool = ltb 7 (n .0) in
     let a : Bool = eqb (kindAt (kindsOf b) n) 0 in
     let o : Bool = ltb 3 (k .0) in
-    let e₃ = or-left-false (w || i || s) a (or-left-false (w || i || s || a) o e) in
+    let y : Bool = eqb (kindAt (kindsOf b) n) 3 && ltb 1 (k .0) in
+    let e₄ = or-left-false (w || i || s || a || o) y e in
+    let e₃ = or-left-false (w || i || s) a (or-left-false (w || i || s || a) o e₄) in
     let whole : length m ≡ 4096 = eqb-true (length m) 4096 (not-false (eqb (length m) 4096) (or-left-false w i (or-left-false (w || i) s e₃))) in
     let slot : n .0 ≤ 7 = ltb-false 7 (n .0) (or-right-false (w || i) s e₃) in
-    let block : k .0 ≤ 3 = ltb-false 3 (k .0) (or-right-false (w || i || s || a) o e) in
+    let block : k .0 ≤ 3 = ltb-false 3 (k .0) (or-right-false (w || i || s || a) o e₄) in
     omega arith
 
 pub block-length : (b : Bus) (m : List ℕ) (n : SlotNo) (k : BlockNo) → noBlock b m n k ≡ false → length (blockBytes b m n k) ≡ 128
@@ -48,13 +50,15 @@ pub block-none : (b : Bus) (m : List ℕ) (n : SlotNo) (k : BlockNo) → noBlock
 unfolding blockBytes
 block-none b m n k e = rw e
 
--- each cause by itself, and none: memory's length, half of slot 7, slot, block (slots 0 and 7 are present, the others are not)
+-- each cause by itself, and none: memory's length, half of slot 7, slot, block (slots 0, 1 and 7 are present, the others are not; slot 1 is an older
+-- module, whose "blocks 2 and 3 [are] read as empty parts")
 abbrev trying : ℕ → ℕ → ℕ → ℕ → Bool
 trying bytes half n k =
-    noBlock (record { slots = freshSlot 1 1 ∷ replicate 6 absentSlot ++ inHalf half (freshSlot 2 5) ∷ [] }) (replicate bytes 0xFF) (record { 0 = n }) (record { 0 = k })
+    noBlock (record { slots = freshSlot 1 1 ∷ freshSlot 3 1 ∷ replicate 5 absentSlot ++ inHalf half (freshSlot 2 5) ∷ [] }) (replicate bytes 0xFF) (record { 0 = n }) (record { 0 = k })
 
 pub empty-parts :
-    trying 4096 1 0 0 ∷ trying 4096 1 7 3 ∷ trying 4095 1 7 3 ∷ trying 4097 1 7 3 ∷ trying 4096 2 0 0 ∷ trying 4096 1 6 0 ∷ trying 4096 1 8 0 ∷ trying 4096 1 7 4 ∷ []
-    ≡ false ∷ false ∷ true ∷ true ∷ true ∷ true ∷ true ∷ true ∷ []
+    trying 4096 1 0 0 ∷ trying 4096 1 7 3 ∷ trying 4095 1 7 3 ∷ trying 4097 1 7 3 ∷ trying 4096 2 0 0 ∷ trying 4096 1 6 0 ∷ trying 4096 1 8 0 ∷ trying 4096 1 7 4
+    ∷ trying 4096 1 1 0 ∷ trying 4096 1 1 1 ∷ trying 4096 1 1 2 ∷ trying 4096 1 1 3 ∷ []
+    ≡ false ∷ false ∷ true ∷ true ∷ true ∷ true ∷ true ∷ true ∷ false ∷ false ∷ true ∷ true ∷ []
 unfolding noBlock open-all
 empty-parts = refl

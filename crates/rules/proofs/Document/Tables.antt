@@ -5,9 +5,11 @@ use Prim.Native.Nat.{ℕ, _*_}
 use mathlib.Core.Path.{_≡_, refl}
 use mathlib.Core.Bool.{Bool, true, false}
 use mathlib.Core.List.{List, [], _∷_, _++_, map}
+use lib.Dec.{eqb}
 use lib.IntN.{ℤ, pos, negsuc}
 use lib.ListN.{set, replicate}
-use Rattle.rules.specs.declared.Act.the-variants.{Start, Byte, Read, Stop, Timeout, Tick, Voltage, Power, Temperature}
+use Rattle.rules.specs.declared.Act.the-variants.{Start, Byte, Read, Stop, Timeout, Tick, Power, Apply}
+use Rattle.rules.specs.declared.Applied.the-variants.{Voltage, Temperature, WriteProtect}
 use Rattle.rules.specs.declared.Address.{Address}
 use Rattle.rules.specs.declared.Answer.{Answer}
 use Rattle.rules.specs.declared.Answer.the-variants as answer
@@ -19,9 +21,9 @@ use Rattle.rules.specs.declared.Sensor.{Sensor}
 use Rattle.rules.specs.declared.Slot.{Slot}
 use Rattle.rules.specs.declared.SlotNo.{SlotNo}
 use Rattle.rules.specs.declared.Cut.{Cut}
-use Rattle.rules.specs.Modelled.{slotCount, memoryBytes, slotBytes, absent, sensing, addressOf, blockOf, pageOf}
+use Rattle.rules.specs.Modelled.{slotCount, memoryBytes, slotBytes, absent, sensing, addressOf, blockOf, pageOf, older, bytesOf}
 use Rattle.rules.specs.Open.{open-all}
-use Rattle.rules.specs.Fields.{atCounter, inHalf, withLeft, placed, withSensor, pointing, withConfiguration, withHigh, withLow, withCritical, withTemperature, withResolution, withTimeout, withPending, withWord}
+use Rattle.rules.specs.Fields.{protecting, toCome, withOld, atCounter, inHalf, withLeft, placed, withSensor, pointing, withConfiguration, withHigh, withLow, withCritical, withTemperature, withResolution, withTimeout, withPending, withWord}
 use Rattle.rules.specs.Events.{actOf, refusalNumber, letterOf, valueOf}
 use Rattle.rules.specs.Fresh.{freshSensor, freshSlot, setupSlot, absentSlot}
 use Rattle.rules.specs.Refusals.{unknownKind, wrongSlot, wrongValue, wrongLength, goodPair, slotInRange}
@@ -40,10 +42,10 @@ cut n = record { 0 = n }
 pub sizes : slotCount * slotBytes ≡ memoryBytes
 sizes = refl
 
-abbrev kindOf : ℕ → Bool × Bool
-kindOf k = (absent (freshSlot k 1), sensing (freshSlot k 1))
+abbrev kindOf : ℕ → Bool × Bool × Bool × ℕ
+kindOf k = (absent (freshSlot k 1), sensing (freshSlot k 1), older (freshSlot k 1), bytesOf k)
 
-pub kinds : map kindOf (0 ∷ 1 ∷ 2 ∷ []) ≡ (true, false) ∷ (false, false) ∷ (false, true) ∷ []
+pub kinds : map kindOf (0 ∷ 1 ∷ 2 ∷ 3 ∷ []) ≡ (true, false, false, 512) ∷ (false, false, false, 512) ∷ (false, true, false, 512) ∷ (false, false, true, 256) ∷ []
 unfolding open-all
 kinds = refl
 
@@ -59,9 +61,11 @@ addresses = refl
 -- "Events": each kind, with its slot and value where it has them, and with rubbish in its empty cells
 pub events : map actOf
     (event 1 9 (negsuc 4) ∷ event 2 9 (pos 0) ∷ event 2 9 (pos 255) ∷ event 3 9 (pos 0) ∷ event 3 9 (pos 1) ∷ event 4 9 (negsuc 4) ∷ event 5 9 (negsuc 4) ∷ event 6 9 (negsuc 4)
-    ∷ event 7 3 (pos 0) ∷ event 7 4 (pos 1) ∷ event 8 9 (pos 0) ∷ event 8 9 (pos 16) ∷ event 9 5 (negsuc 639) ∷ event 9 6 (pos 2000) ∷ [])
+    ∷ event 7 3 (pos 0) ∷ event 7 4 (pos 1) ∷ event 8 9 (pos 0) ∷ event 8 9 (pos 16) ∷ event 9 5 (negsuc 639) ∷ event 9 6 (pos 2000)
+    ∷ event 10 7 (pos 0) ∷ event 10 0 (pos 1) ∷ [])
     ≡ Start ∷ Byte 0 ∷ Byte 255 ∷ Read false ∷ Read true ∷ Stop ∷ Timeout ∷ Tick
-    ∷ Voltage (slot 3) false ∷ Voltage (slot 4) true ∷ Power (cut 0) ∷ Power (cut 16) ∷ Temperature (slot 5) (negsuc 639) ∷ Temperature (slot 6) (pos 2000) ∷ []
+    ∷ Apply (slot 3) (Voltage false) ∷ Apply (slot 4) (Voltage true) ∷ Power (cut 0) ∷ Power (cut 16)
+    ∷ Apply (slot 5) (Temperature (negsuc 639)) ∷ Apply (slot 6) (Temperature (pos 2000)) ∷ Apply (slot 7) (WriteProtect false) ∷ Apply (slot 0) (WriteProtect true) ∷ []
 unfolding open-all
 events = refl
 
@@ -83,9 +87,9 @@ pub row-1 : map (λ n. wrongLength (replicate n 0xFF)) (0 ∷ 4095 ∷ 4096 ∷ 
 unfolding open-all
 row-1 = refl
 
--- row 2: "the kind is not 1..9"
-pub row-2 : map (λ k. unknownKind (event k 0 (pos 0))) (0 ∷ 1 ∷ 2 ∷ 3 ∷ 4 ∷ 5 ∷ 6 ∷ 7 ∷ 8 ∷ 9 ∷ 10 ∷ 255 ∷ [])
-    ≡ true ∷ false ∷ false ∷ false ∷ false ∷ false ∷ false ∷ false ∷ false ∷ false ∷ true ∷ true ∷ []
+-- row 2: "the kind is not 1..9"; P9: "now begins above 10"
+pub row-2 : map (λ k. unknownKind (event k 0 (pos 0))) (0 ∷ 1 ∷ 2 ∷ 3 ∷ 4 ∷ 5 ∷ 6 ∷ 7 ∷ 8 ∷ 9 ∷ 10 ∷ 11 ∷ 255 ∷ [])
+    ≡ true ∷ false ∷ false ∷ false ∷ false ∷ false ∷ false ∷ false ∷ false ∷ false ∷ false ∷ true ∷ true ∷ []
 unfolding open-all
 row-2 = refl
 
@@ -99,7 +103,14 @@ pub row-3 : map thirdRow
 unfolding open-all
 row-3 = refl
 
-pub row-3-others : map (λ k. wrongSlot 0 (event k 255 (pos 0))) (0 ∷ 1 ∷ 2 ∷ 3 ∷ 4 ∷ 5 ∷ 6 ∷ 8 ∷ 10 ∷ []) ≡ replicate 9 false
+-- P9: kind 7 on an older module is taken, kind 9 is not; "3 is given for kind 10 on a slot not of kind 3"
+pub row-3-older : map thirdRow
+    ((3, 7, 0) ∷ (3, 9, 0) ∷ (0, 10, 0) ∷ (1, 10, 0) ∷ (2, 10, 0) ∷ (3, 10, 0) ∷ (3, 10, 7) ∷ (3, 10, 8) ∷ [])
+    ≡ false ∷ true ∷ true ∷ true ∷ true ∷ false ∷ false ∷ true ∷ []
+unfolding open-all
+row-3-older = refl
+
+pub row-3-others : map (λ k. wrongSlot 0 (event k 255 (pos 0))) (0 ∷ 1 ∷ 2 ∷ 3 ∷ 4 ∷ 5 ∷ 6 ∷ 8 ∷ 11 ∷ []) ≡ replicate 9 false
 unfolding open-all
 row-3-others = refl
 
@@ -114,6 +125,11 @@ pub row-4 : map fourthRow
     ∷ true ∷ false ∷ false ∷ true ∷ true ∷ false ∷ false ∷ true ∷ []
 unfolding open-all
 row-4 = refl
+
+-- P9: "the pin's value is 0 or 1, else 4"
+pub row-4-older : map fourthRow ((10, negsuc 0) ∷ (10, pos 0) ∷ (10, pos 1) ∷ (10, pos 2) ∷ []) ≡ true ∷ false ∷ false ∷ true ∷ []
+unfolding open-all
+row-4-older = refl
 
 pub row-4-others : map (λ k. wrongValue (event k 0 (negsuc 32767))) (1 ∷ 4 ∷ 5 ∷ 6 ∷ []) ≡ replicate 4 false
 unfolding open-all
@@ -131,24 +147,26 @@ abbrev answeredAs : Bus → ℕ → Event → ℕ × ℕ
 answeredAs b n e = said (answered e (record { bus = b; memory = replicate n 0xFF }))
 
 pub order :
-    answeredAs odd 4095 (event 0 0 (pos 0)) ∷ answeredAs odd 4096 (event 0 0 (pos 0)) ∷ answeredAs good 4095 (event 0 0 (pos 0)) ∷ answeredAs good 4096 (event 10 9 (pos 9999))
+    answeredAs odd 4095 (event 0 0 (pos 0)) ∷ answeredAs odd 4096 (event 0 0 (pos 0)) ∷ answeredAs good 4095 (event 0 0 (pos 0)) ∷ answeredAs good 4096 (event 11 9 (pos 9999))
     ∷ answeredAs good 4096 (event 7 8 (pos 2))
     ∷ answeredAs good 4096 (event 9 1 (pos 2001))
+    ∷ answeredAs good 4096 (event 10 1 (pos 2))
     ∷ answeredAs good 4096 (event 7 1 (pos 2))
     ∷ answeredAs good 4096 (event 9 0 (pos 2001))
     ∷ answeredAs good 4096 (event 2 9 (pos 256))
     ∷ answeredAs good 4096 (event 2 9 (pos 255))
     ∷ []
-    ≡ (0x52, 1) ∷ (0x52, 6) ∷ (0x52, 1) ∷ (0x52, 2) ∷ (0x52, 3) ∷ (0x52, 3) ∷ (0x52, 4) ∷ (0x52, 4) ∷ (0x52, 4) ∷ (0x4E, 0) ∷ []
+    ≡ (0x52, 1) ∷ (0x52, 6) ∷ (0x52, 1) ∷ (0x52, 2) ∷ (0x52, 3) ∷ (0x52, 3) ∷ (0x52, 3) ∷ (0x52, 4) ∷ (0x52, 4) ∷ (0x52, 4) ∷ (0x4E, 0) ∷ []
 unfolding open-all letterOf valueOf refusalNumber
 order = refl
 
--- row 5: "a slot kind not 0..2, or a present slot's length not 1..5": kind and length
+-- row 5: "a slot kind not 0..2, or a present slot's length not 1..5": kind and length; P9: "5 admits kind 3"
 abbrev pair : ℕ × ℕ → Pair
 pair p = record { kind = p .0; length = p .1 }
 
-pub row-5 : map (λ p. goodPair (pair p)) ((0, 0) ∷ (0, 6) ∷ (0, 255) ∷ (1, 0) ∷ (1, 1) ∷ (1, 5) ∷ (1, 6) ∷ (2, 0) ∷ (2, 1) ∷ (2, 5) ∷ (2, 6) ∷ (3, 1) ∷ (255, 1) ∷ [])
-    ≡ true ∷ true ∷ true ∷ false ∷ true ∷ true ∷ false ∷ false ∷ true ∷ true ∷ false ∷ false ∷ false ∷ []
+pub row-5 : map (λ p. goodPair (pair p)) ((0, 0) ∷ (0, 6) ∷ (0, 255) ∷ (1, 0) ∷ (1, 1) ∷ (1, 5) ∷ (1, 6) ∷ (2, 0) ∷ (2, 1) ∷ (2, 5) ∷ (2, 6)
+    ∷ (3, 0) ∷ (3, 1) ∷ (3, 5) ∷ (3, 6) ∷ (4, 1) ∷ (255, 1) ∷ [])
+    ≡ true ∷ true ∷ true ∷ false ∷ true ∷ true ∷ false ∷ false ∷ true ∷ true ∷ false ∷ false ∷ true ∷ true ∷ false ∷ false ∷ false ∷ []
 unfolding open-all
 row-5 = refl
 
@@ -164,7 +182,7 @@ present = freshSlot 2 3
 abbrev sensed : (ℕ → Sensor → Sensor) → ℕ → Slot
 sensed f n = withSensor (f n freshSensor) present
 
-pub row-6-kind : map (λ (p : ℕ × ℕ). slotInRange (freshSlot (p .0) (p .1))) ((0, 0) ∷ (1, 1) ∷ (2, 1) ∷ (3, 1) ∷ (255, 1) ∷ []) ≡ true ∷ true ∷ true ∷ false ∷ false ∷ []
+pub row-6-kind : map (λ (p : ℕ × ℕ). slotInRange (freshSlot (p .0) (p .1))) ((0, 0) ∷ (1, 1) ∷ (2, 1) ∷ (3, 1) ∷ (4, 1) ∷ (255, 1) ∷ []) ≡ true ∷ true ∷ true ∷ true ∷ false ∷ false ∷ []
 unfolding open-all
 row-6-kind = refl
 
@@ -226,6 +244,28 @@ row-6-pending = refl
 pub row-6-pinless : map (λ (p : ℕ × ℕ). slotInRange (withSensor (withPending true (withConfiguration 0x9 freshSensor)) (freshSlot (p .0) (p .1)))) ((2, 3) ∷ (1, 3) ∷ (0, 0) ∷ []) ≡ true ∷ false ∷ false ∷ []
 unfolding open-all
 row-6-pinless = refl
+
+-- P9, kind 3: "half always 0"; "Protection is bit 0 alone, set if permanent": half, protection, permanent. In another kind "no cause"; and what is to
+-- come, and the pin, have no range.
+abbrev oldSlot : ℕ → ℕ → List Bool → Bool → Slot
+oldSlot kind half p l = inHalf half (protecting p (withOld (record { permanent = l; lasting = false; pin = false }) (freshSlot kind 3)))
+
+abbrev bits : ℕ → List Bool
+bits n = eqb n 0 ∷ eqb n 1 ∷ eqb n 2 ∷ eqb n 3 ∷ []
+
+pub row-6-older : map (λ (p : ℕ × ℕ × Bool). slotInRange (oldSlot 3 (p .0) (bits (p .1)) (p .2)))
+    ((0, 4, false) ∷ (0, 0, false) ∷ (0, 0, true) ∷ (1, 0, false) ∷ (0, 1, false) ∷ (0, 2, false) ∷ (0, 3, false) ∷ (0, 4, true) ∷ [])
+    ≡ true ∷ true ∷ true ∷ false ∷ false ∷ false ∷ false ∷ false ∷ []
+unfolding open-all
+row-6-older = refl
+
+pub row-6-newer : map (λ k. slotInRange (oldSlot 1 1 (bits k) true)) (0 ∷ 1 ∷ 2 ∷ 3 ∷ 4 ∷ []) ≡ replicate 5 true
+unfolding open-all
+row-6-newer = refl
+
+pub row-6-to-come : slotInRange (toCome (replicate 4 true) true (withOld (record { permanent = false; lasting = true; pin = true }) (freshSlot 3 3))) ≡ true
+unfolding open-all
+row-6-to-come = refl
 
 -- "adds no other cause": the word has no range
 pub row-6-word : slotInRange (sensed withWord 0xFFFF) ≡ true

@@ -12,29 +12,29 @@ use borrow.Author.Tests.{eqb-true}
 use Rattle.proof_lists.specs.Tests.{cond-cases, by-test}
 use Rattle.proof_lists.specs.Each.{length-mapFrom, map-mapFrom}
 use Rattle.rules.specs.declared.Act.{Act}
-use Rattle.rules.specs.declared.Act.the-variants.{Start, Byte, Read, Stop, Timeout, Tick, Voltage, Power, Temperature}
+use Rattle.rules.specs.declared.Act.the-variants.{Start, Byte, Read, Stop, Timeout, Tick, Power, Apply}
 use Rattle.rules.specs.declared.BlockNo.{BlockNo}
 use Rattle.rules.specs.declared.Bus.{Bus}
 use Rattle.rules.specs.declared.Cut.{Cut}
 use Rattle.rules.specs.declared.Event.{Event}
 use Rattle.rules.specs.declared.Heard.{Heard}
-use Rattle.rules.specs.declared.Heard.the-variants.{Memory, Sensor, Protect, ClearAll, ReadProtection, SelectHalf, ReadHalf, Nothing}
+use Rattle.rules.specs.declared.Heard.the-variants.{Memory, Sensor, Protect, ClearAll, ReadProtection, SelectHalf, ReadHalf, ProtectForEver, Nothing}
 use Rattle.rules.specs.declared.Phase.{Phase}
 use Rattle.rules.specs.declared.Phase.the-variants.{Idle, Control, Deaf, MemoryCounter, MemoryData, MemoryRead, HalfSelected, CommandAddress, CommandData, CommandStop, SensorPointer, SensorHigh, SensorLow, SensorReadHigh, SensorReadLow}
 use Rattle.rules.specs.declared.Slot.{Slot}
 use Rattle.rules.specs.Fields.{inPhase, withVoltage, withSensor}
 use Rattle.rules.specs.Fresh.{noBlocks, freshSlot, powered}
 use Rattle.rules.specs.Pin.{writtenWithPin}
-use Rattle.rules.specs.Control.{heardOf, acksControl, obeyed, controlled}
+use Rattle.rules.specs.Control.{heardOf, acksControl, obeyed, controlled, heardBy}
 use Rattle.rules.specs.Modelled.{absent}
-use Rattle.rules.specs.Memory.{cancelled, guarded, anyMark, ticked}
+use Rattle.rules.specs.Memory.{cancelled, guarded, anyMark, ticked, pinOn, brought}
 use Rattle.rules.specs.Slot.{standing, commanding, letGo, byteIn, readIn, stopIn, presentNext, slotNext, acksIn, acks}
 use Rattle.rules.specs.Bus.{busNext}
 use Rattle.rules.specs.Refusals.{kindsOf}
 use Rattle.rules.specs.Runs.{Bench, taken, next, after}
-use Rattle.rules.specs.Power.{running, broughtBy, cut, powerCut}
+use Rattle.rules.specs.Power.{running, finished, powerCut}
 use Rattle.rules.specs.Open.{open-fields, open-memory, open-slot}
-use Rattle.rules.proofs.Run.Cases.{next-cases, heated-cases, let-go-cases}
+use Rattle.rules.proofs.Run.Cases.{next-cases, apply-cases, let-go-cases}
 use Rattle.rules.proofs.Run.Unchanged.{same-next, same-after}
 use Rattle.rules.proofs.Memory.Stored.{ends, storing, finishes}
 
@@ -42,16 +42,18 @@ use Rattle.rules.proofs.Memory.Stored.{ends, storing, finishes}
 pub data Decided (n : ℕ) (a : Act) (s : Slot) (stands comes : List Bool) : Type 0 where
   asBefore : comes ≡ s .coming → Decided n a s stands comes
   asStands : comes ≡ stands → Decided n a s stands comes
-  byProtect : (b : ℕ) (k : BlockNo) → a ≡ Byte b → standing s ≡ Control → acks n b s ≡ true → heardOf b ≡ Protect k
+  byProtect : (b : ℕ) (k : BlockNo) → a ≡ Byte b → standing s ≡ Control → acks n b s ≡ true → heardBy n b s ≡ Protect k
       → comes ≡ set (s .protection) (k .0) true → Decided n a s stands comes
-  byClear : (b : ℕ) → a ≡ Byte b → standing s ≡ Control → acks n b s ≡ true → heardOf b ≡ ClearAll → comes ≡ noBlocks → Decided n a s stands comes
+  byClear : (b : ℕ) → a ≡ Byte b → standing s ≡ Control → acks n b s ≡ true → heardBy n b s ≡ ClearAll → comes ≡ noBlocks → Decided n a s stands comes
+  byLasting : (b : ℕ) → a ≡ Byte b → standing s ≡ Control → acks n b s ≡ true → heardBy n b s ≡ ProtectForEver
+      → comes ≡ set (s .protection) 0 true → Decided n a s stands comes
 
 -- What becomes of the write cycle when the slot is s and the act is a, and `left` ticks are left after it: only a stop begins one, of a page
 -- write or of a protect or clear with both its bytes; only a tick goes on with it, and only power cuts it short.
 pub data Cycle (a : Act) (s : Slot) (left : ℕ) : Type 0 where
   asWas : left ≡ s .left → Cycle a s left
   pageBegins : a ≡ Stop → standing s ≡ MemoryData → anyMark (s .marks) ≡ true → left ≡ s .length → Cycle a s left
-  commandBegins : a ≡ Stop → standing s ≡ CommandStop → left ≡ s .length → Cycle a s left
+  commandBegins : a ≡ Stop → standing s ≡ CommandStop → pinOn s ≡ false → left ≡ s .length → Cycle a s left
   goesOn : a ≡ Tick → left ≡ s .left - 1 → Cycle a s left
   powerEnds : (k : Cut) → a ≡ Power k → left ≡ 0 → Cycle a s left
 
@@ -59,7 +61,7 @@ pub data Cycle (a : Act) (s : Slot) (left : ℕ) : Type 0 where
 record Step (n : ℕ) (a : Act) (s r : Slot) : Type 0 where
   kind : r .kind ≡ s .kind
   length : r .length ≡ s .length
-  protection : r .protection ≡ cond (finishes a s && not (absent s)) (s .coming) (s .protection)
+  protection : r .protection ≡ cond (finishes a s && not (absent s)) (brought s) (s .protection)
   coming : Decided n a s (r .protection) (r .coming)
   cycle : Cycle a s (r .left)
 
@@ -108,7 +110,7 @@ module _ (n b : ℕ) (s : Slot) where
   quiet = calm (Byte b) refl
 
   -- the control byte that the slot acknowledges
-  heard-step : (h : Heard) → standing s ≡ Control → acks n b s ≡ true → heardOf b ≡ h → Step n (Byte b) s (obeyed h s)
+  heard-step : (h : Heard) → standing s ≡ Control → acks n b s ≡ true → heardBy n b s ≡ h → Step n (Byte b) s (obeyed h s)
   unfolding open-fields obeyed finishes ends
   heard-step (Memory k false) p a e = quiet (kept s)
   heard-step (Memory k true) p a e = quiet (kept s)
@@ -119,6 +121,7 @@ module _ (n b : ℕ) (s : Slot) where
   heard-step (ReadProtection k) p a e = quiet (kept s)
   heard-step (SelectHalf h) p a e = quiet (kept s)
   heard-step ReadHalf p a e = quiet (kept s)
+  heard-step ProtectForEver p a e = record { kind = refl; length = refl; protection = refl; coming = byLasting b refl p a e refl; cycle = asWas refl }
   heard-step Nothing p a e = quiet (kept s)
 
   -- a byte in each phase
@@ -126,7 +129,7 @@ module _ (n b : ℕ) (s : Slot) where
   unfolding open-fields open-memory open-slot controlled
   byte-step Idle p = quiet (kept s)
   byte-step Control p =
-      cond-cases (Step n (Byte b) s) (acksControl n b s) (λ a. heard-step (heardOf b) p (ap (λ (q : Phase). acksIn q n b s) p ∙ a) refl) (λ a. quiet (kept s))
+      cond-cases (Step n (Byte b) s) (acksControl n b s) (λ a. heard-step (heardBy n b s) p (ap (λ (q : Phase). acksIn q n b s) p ∙ a) refl) (λ a. quiet (kept s))
   byte-step Deaf p = quiet (kept s)
   byte-step MemoryCounter p = quiet (kept s)
   byte-step MemoryData p = quiet (cond-cases (Calm s) (guarded s) (λ e. kept s) (λ e. kept s))
@@ -144,7 +147,7 @@ module _ (n b : ℕ) (s : Slot) where
 tick-step : (n : ℕ) (s : Slot) → absent s ≡ false → Step n Tick s (ticked s)
 unfolding open-fields open-memory finishes ends storing
 tick-step n s a = cond-cases (Step n Tick s) (eqb (s .left) 1)
-    (λ e. record { kind = refl; length = refl; protection = rw (a, e); coming = asBefore refl; cycle = goesOn refl (ends (eqb-true (s .left) 1 e)) })
+    (λ e. record { kind = refl; length = refl; protection = rw (a, e); coming = asStands refl; cycle = goesOn refl (ends (eqb-true (s .left) 1 e)) })
     (λ e. record { kind = refl; length = refl; protection = rw (a, e); coming = asBefore refl; cycle = goesOn refl refl })
   where
     ends : s .left ≡ 1 → 0 ≡ s .left - 1
@@ -152,9 +155,9 @@ tick-step n s a = cond-cases (Step n Tick s) (eqb (s .left) 1)
 
 -- a power cycle: a running cycle ends, and brings what was to come unless its number is 0
 power-step : (n : ℕ) (k : Cut) (s : Slot) → absent s ≡ false → Step n (Power k) s (powerCut k s)
-unfolding open-fields open-memory powerCut powered freshSlot cut broughtBy finishes ends storing
-power-step n k s a = cond-cases (λ (r : Slot). Step n (Power k) s (powered r)) (running s)
-    (λ e. record { kind = refl; length = refl; protection = rw (a, e) (by-test (eqb (k .0) 0) (λ z. rw z) (λ z. rw z)); coming = asStands refl; cycle = powerEnds k refl refl })
+unfolding open-fields open-memory powerCut powered finished freshSlot finishes ends storing
+power-step n k s a = cond-cases (λ (r : Slot). Step n (Power k) s (powered r)) (running s && not (eqb (k .0) 0))
+    (λ e. record { kind = refl; length = refl; protection = rw (a, e); coming = asStands refl; cycle = powerEnds k refl refl })
     (λ e. record { kind = refl; length = refl; protection = rw (a, e); coming = asStands refl; cycle = powerEnds k refl refl })
 
 -- a stop in each phase
@@ -174,7 +177,8 @@ stop-step n MemoryRead s e = calm Stop refl (kept s)
 stop-step n HalfSelected s e = calm Stop refl (kept s)
 stop-step n CommandAddress s e = calm Stop refl (dropped s)
 stop-step n CommandData s e = calm Stop refl (dropped s)
-stop-step n CommandStop s e = begins refl refl refl refl (commandBegins refl e refl)
+stop-step n CommandStop s e = cond-cases (λ (r : Slot). Step n Stop s (inPhase Idle r)) (pinOn s) (λ p. calm Stop refl (dropped s))
+    (λ p. begins refl refl refl refl (commandBegins refl e p refl))
 stop-step n SensorPointer s e = calm Stop refl (gone SensorPointer s)
 stop-step n SensorHigh s e = calm Stop refl (gone SensorHigh s)
 stop-step n SensorLow s e = calm Stop refl (gone SensorLow s)
@@ -189,10 +193,9 @@ present-step n (Read more) s h = calm (Read more) refl (read-calm (standing s) m
 present-step n Stop s h = stop-step n (standing s) s refl
 present-step n Timeout s h = calm Timeout refl (gone (standing s) s)
 present-step n Tick s h = tick-step n s h
-present-step n (Voltage k on) s h = calm (Voltage k on) refl (cond-cases (Calm s) (eqb (k .0) n)
-    (λ e. cond-cases (λ (r : Slot). Calm s (withVoltage on r)) (commanding (standing s) && s .voltage && not on) (λ e. gone (standing s) s) (λ e. kept s)) (λ e. kept s))
 present-step n (Power k) s h = power-step n k s h
-present-step n (Temperature k t) s h = calm (Temperature k t) refl (cond-cases (Calm s) (eqb (k .0) n) (λ e. heated-cases (Calm s) t s (kept s) (kept s)) (λ e. kept s))
+present-step n (Apply k x) s h =
+    calm (Apply k x) refl (apply-cases (Calm s) s n k x (kept s) (λ on. kept s) (λ on e. gone (standing s) s) (λ t e. kept s) (λ on e. kept s))
 
 untouched : (n : ℕ) (a : Act) (s : Slot) → absent s ≡ true → Step n a s s
 untouched n a s e = record { kind = refl; length = refl; protection = rw (e, and-false); coming = asBefore refl; cycle = asWas refl }
@@ -200,11 +203,11 @@ untouched n a s e = record { kind = refl; length = refl; protection = rw (e, and
 slot-step : (n : ℕ) (a : Act) (s : Slot) → Step n a s (slotNext n a s)
 slot-step n a s = next-cases (Step n a s) n a s (untouched n a s) (present-step n a s)
 
--- protection changes only at the tick or the power cycle that ends a cycle, and then to what was to come
-pub protection-next : (n : ℕ) (a : Act) (s : Slot) → (slotNext n a s) .protection ≡ cond (finishes a s && not (absent s)) (s .coming) (s .protection)
+-- protection changes only at the tick or the power cycle that ends a cycle, and then to what it brings: what was to come, of an older module bit 0 alone
+pub protection-next : (n : ℕ) (a : Act) (s : Slot) → (slotNext n a s) .protection ≡ cond (finishes a s && not (absent s)) (brought s) (s .protection)
 protection-next n a s = slot-step n a s .protection
 
--- what is to come is decided by protect and clear alone
+-- what is to come is decided by protect, clear and the lasting form alone
 pub coming-next : (n : ℕ) (a : Act) (s : Slot) → Decided n a s ((slotNext n a s) .protection) ((slotNext n a s) .coming)
 coming-next n a s = slot-step n a s .coming
 

@@ -7,22 +7,24 @@ use mathlib.Core.Bool.{Bool, true, false, not, cond, _&&_}
 use mathlib.Core.List.{List, [], _∷_}
 use lib.Dec.{eqb, leb}
 use Rattle.rules.specs.declared.Act.{Act}
-use Rattle.rules.specs.declared.Act.the-variants.{Start, Byte, Read, Stop, Timeout, Tick, Voltage, Power, Temperature}
+use Rattle.rules.specs.declared.Applied.{Applied}
+use Rattle.rules.specs.declared.Applied.the-variants.{Voltage, Temperature, WriteProtect}
+use Rattle.rules.specs.declared.Act.the-variants.{Start, Byte, Read, Stop, Timeout, Tick, Power, Apply}
 use Rattle.rules.specs.declared.Heard.{Heard}
 use Rattle.rules.specs.declared.Heard.the-variants as heard
 use Rattle.rules.specs.declared.Phase.{Phase}
 use Rattle.rules.specs.declared.Phase.the-variants.{Idle, Control, Deaf, MemoryCounter, MemoryData, MemoryRead, HalfSelected, CommandAddress, CommandData, CommandStop, SensorPointer, SensorHigh, SensorLow, SensorReadHigh, SensorReadLow}
 use Rattle.rules.specs.declared.Sensor.{Sensor}
 use Rattle.rules.specs.declared.Slot.{Slot}
-use Rattle.rules.specs.Control.{acksHeard, acksControl, heardOf, obeyed, controlled, protects}
+use Rattle.rules.specs.Control.{acksHeard, acksControl, heardOf, obeyed, controlled, protects, heardBy, olderCommand}
 use Rattle.rules.specs.Fields.{inPhase, withVoltage, withSensor}
 use Rattle.rules.specs.Fresh.{freshSlot, powered}
-use Rattle.rules.specs.Memory.{guarded, anyMark, ended, stored, tickedPart}
-use Rattle.rules.specs.Modelled.{absent, sensing, addressOf, blockOf, pageOf}
+use Rattle.rules.specs.Memory.{guarded, anyMark, ended, stored, tickedPart, pinOn}
+use Rattle.rules.specs.Modelled.{absent, sensing, addressOf, blockOf, pageOf, older}
 use Rattle.rules.specs.Open.{open-fields, open-memory, open-power, open-slot}
-use Rattle.rules.specs.Power.{running, cut}
+use Rattle.rules.specs.Power.{finished}
 use Rattle.rules.specs.Runs.{slotAfter, partAfter}
-use Rattle.rules.specs.Slot.{withSensorIn, commanding, taking, standing, letGo, lost, byteIn, readIn, stopIn, switched, heated, presentNext, slotNext, partNext}
+use Rattle.rules.specs.Slot.{withSensorIn, commanding, taking, standing, letGo, lost, byteIn, readIn, stopIn, switched, heated, presentNext, slotNext, partNext, applied, shielded, endures}
 
 -- two slots that are the same but for their sensors
 abbrev pub Alike : Slot → Slot → Type 0
@@ -66,6 +68,7 @@ module _ (y : Sensor) (s : Slot) where
   acks-alike (heard.ReadProtection k) n = refl
   acks-alike (heard.SelectHalf h) n = refl
   acks-alike heard.ReadHalf n = refl
+  acks-alike heard.ProtectForEver n = refl
   acks-alike heard.Nothing n = refl
 
   obeyed-alike : (h : Heard) → Alike (obeyed h other) (obeyed h s)
@@ -79,14 +82,15 @@ module _ (y : Sensor) (s : Slot) where
   obeyed-alike (heard.ReadProtection k) x = refl
   obeyed-alike (heard.SelectHalf h) x = refl
   obeyed-alike heard.ReadHalf x = refl
+  obeyed-alike heard.ProtectForEver x = refl
   obeyed-alike heard.Nothing x = refl
 
   control-alike : (n b : ℕ) → Alike (controlled n b other) (controlled n b s)
-  unfolding controlled acksControl open-fields
-  control-alike n b = rw (acks-alike (heardOf b) n) (both-ways (eqb (s .left) 0 && acksHeard (heardOf b) n s) _ _ _ _ (obeyed-alike (heardOf b)) (λ x. refl))
+  unfolding controlled acksControl heardBy olderCommand older open-fields
+  control-alike n b = rw (acks-alike (heardBy n b s) n) (both-ways (eqb (s .left) 0 && acksHeard (heardBy n b s) n s) _ _ _ _ (obeyed-alike (heardBy n b s)) (λ x. refl))
 
   byte-alike : (p : Phase) (n b : ℕ) → Alike (byteIn p n b other) (byteIn p n b s)
-  unfolding open-slot open-fields open-memory guarded addressOf blockOf protects
+  unfolding open-slot open-fields open-memory guarded pinOn older addressOf blockOf protects
   byte-alike Idle n b x = refl
   byte-alike Control n b x = control-alike n b x
   byte-alike Deaf n b x = refl
@@ -122,7 +126,7 @@ module _ (y : Sensor) (s : Slot) where
   read-alike SensorReadLow more x = refl
 
   stop-alike : (p : Phase) → Alike (stopIn p other) (stopIn p s)
-  unfolding open-slot open-fields open-memory
+  unfolding open-slot open-fields open-memory pinOn older
   stop-alike Idle x = refl
   stop-alike Control x = refl
   stop-alike Deaf x = refl
@@ -132,28 +136,32 @@ module _ (y : Sensor) (s : Slot) where
   stop-alike HalfSelected x = refl
   stop-alike CommandAddress x = refl
   stop-alike CommandData x = refl
-  stop-alike CommandStop x = refl
+  stop-alike CommandStop x = both-ways (pinOn s) _ _ _ _ (λ x. refl) (λ x. refl) x
   stop-alike SensorPointer x = refl
   stop-alike SensorHigh x = refl
   stop-alike SensorLow x = refl
   stop-alike SensorReadHigh x = refl
   stop-alike SensorReadLow x = refl
 
+  applied-alike : (z : Applied) → Alike (applied z other) (applied z s)
+  unfolding applied switched heated shielded endures lost standing absent sensing older open-fields
+  applied-alike (Voltage on) x =
+      let going : Bool = commanding (standing s) && s .voltage && not on && not (endures s) in
+      let lose : Slot → Slot = λ t. cond going (lost (standing s) t) t in
+      volted on (lose other) (lose s) (both-ways going _ _ other s (phased Deaf (letGo (standing s) other) (letGo (standing s) s) (gone (standing s))) (λ x. refl)) x
+  applied-alike (Temperature t) x = both-ways (eqb (s .kind) 2) _ _ _ _ (λ x. refl) (λ x. refl) x
+  applied-alike (WriteProtect on) x = both-ways (eqb (s .kind) 3) _ _ _ _ (λ x. refl) (λ x. refl) x
+
   present-alike : (n : ℕ) (a : Act) → Alike (presentNext n a other) (presentNext n a s)
-  unfolding presentNext standing switched heated lost open-fields open-memory open-power absent sensing
+  unfolding presentNext standing lost open-fields open-memory open-power absent sensing older
   present-alike n Start x = phased Control (letGo (standing s) other) (letGo (standing s) s) (gone (standing s)) x
   present-alike n (Byte b) x = byte-alike (standing s) n b x
   present-alike n (Read more) x = read-alike (standing s) more x
   present-alike n Stop x = phased Idle (stopIn (standing s) other) (stopIn (standing s) s) (stop-alike (standing s)) x
   present-alike n Timeout x = phased Idle (letGo (standing s) other) (letGo (standing s) s) (gone (standing s)) x
   present-alike n Tick x = both-ways (eqb (s .left) 1) _ _ _ _ (λ x. refl) (λ x. refl) x
-  present-alike n (Voltage k on) x =
-      let going : Bool = commanding (standing s) && s .voltage && not on in
-      let lose : Slot → Slot = λ t. cond going (lost (standing s) t) t in
-      both-ways (eqb (k .0) n) (withVoltage on (lose other)) (withVoltage on (lose s)) other s
-      (volted on (lose other) (lose s) (both-ways going _ _ other s (phased Deaf (letGo (standing s) other) (letGo (standing s) s) (gone (standing s))) (λ x. refl))) (λ x. refl) x
-  present-alike n (Power k) x = powered-alike (cond (running s) (ended (cut k other)) other) (cond (running s) (ended (cut k s)) s) (both-ways (running s) _ _ other s (λ x. refl) (λ x. refl)) x
-  present-alike n (Temperature k t) x = both-ways (eqb (k .0) n) _ _ _ _ (both-ways (eqb (s .kind) 2) _ _ _ _ (λ x. refl) (λ x. refl)) (λ x. refl) x
+  present-alike n (Power k) x = powered-alike (cond (finished k s) (ended other) other) (cond (finished k s) (ended s) s) (both-ways (finished k s) _ _ other s (λ x. refl) (λ x. refl)) x
+  present-alike n (Apply k y) x = both-ways (eqb (k .0) n) _ _ _ _ (applied-alike y) (λ x. refl) x
 
   pub next-alike : (n : ℕ) (a : Act) → Alike (slotNext n a other) (slotNext n a s)
   unfolding slotNext absent withSensor
@@ -167,9 +175,8 @@ module _ (y : Sensor) (s : Slot) where
   part-alike Stop m = refl
   part-alike Timeout m = refl
   part-alike Tick m = refl
-  part-alike (Voltage k on) m = refl
   part-alike (Power k) m = refl
-  part-alike (Temperature k t) m = refl
+  part-alike (Apply k x) m = refl
 
 -- so it is over any run: the same slot with the sensor that it then has, and the same bytes
 again : (s t : Slot) → Alike s t → s ≡ withSensor (s .sensor) t

@@ -13,7 +13,7 @@ use borrow.Author.Tests.{eq-eqb, eqb-true, eqb-false, leb-true, ltb-true, le-leb
 use Rattle.proof_lists.specs.Tests.{cond-cases, cond-same, by-test, cond-ap, and-left, and-right, both}
 use Rattle.proof_lists.specs.Parts.{part, length-part, getD-part, eachPart, eachPart-same, length-eachPart, part-eachPart}
 use Rattle.rules.specs.declared.Act.{Act}
-use Rattle.rules.specs.declared.Act.the-variants.{Start, Byte, Read, Stop, Timeout, Tick, Voltage, Power, Temperature}
+use Rattle.rules.specs.declared.Act.the-variants.{Start, Byte, Read, Stop, Timeout, Tick, Power, Apply}
 use Rattle.rules.specs.declared.Bus.{Bus}
 use Rattle.rules.specs.declared.Cut.{Cut}
 use Rattle.rules.specs.declared.Event.{Event}
@@ -42,9 +42,8 @@ ends (Read more) s = false
 ends Stop s = false
 ends Timeout s = false
 ends Tick s = eqb (s .left) 1
-ends (Voltage k on) s = false
 ends (Power k) s = running s
-ends (Temperature k t) s = false
+ends (Apply k x) s = false
 
 -- how many of the latched bytes a cycle that the act ends may store
 unfoldable pub storing : Act → Cut
@@ -54,9 +53,8 @@ storing (Read more) = record { 0 = 0 }
 storing Stop = record { 0 = 0 }
 storing Timeout = record { 0 = 0 }
 storing Tick = record { 0 = 16 }
-storing (Voltage k on) = record { 0 = 0 }
 storing (Power k) = k
-storing (Temperature k t) = record { 0 = 0 }
+storing (Apply k x) = record { 0 = 0 }
 
 -- the act ends the slot's write cycle, and not with everything lost
 unfoldable pub finishes : Act → Slot → Bool
@@ -71,9 +69,8 @@ ends-runs (Read more) s e z = false≢true e
 ends-runs Stop s e z = false≢true e
 ends-runs Timeout s e z = false≢true e
 ends-runs Tick s e z = let one = eqb-true (s .left) 1 e in omega (arith, one, z)
-ends-runs (Voltage k on) s e z = false≢true e
 ends-runs (Power k) s e z = false≢true (sym (ap not (eq-eqb (s .left) 0 z)) ∙ e)
-ends-runs (Temperature k t) s e z = false≢true e
+ends-runs (Apply k x) s e z = false≢true e
 
 pub finishes-runs : (a : Act) (s : Slot) → finishes a s ≡ true → s .left ≡ 0 → ⊥
 unfolding finishes
@@ -103,9 +100,8 @@ part-stored Timeout s m = sym (cond-same (absent s) m)
 part-stored Tick s m =
     ap (λ (l : List ℕ). cond (absent s) m (cond (eqb (s .left) 1) l m))
     (put-alike (s .latch) (s .marks) (firstOf (record { 0 = 16 }) (s .marks)) (pageStart s) 16 m (λ j l. sym (first-all (record { 0 = 16 }) (s .marks) j l)))
-part-stored (Voltage k on) s m = sym (cond-same (absent s) m)
 part-stored (Power k) s m = refl
-part-stored (Temperature k t) s m = sym (cond-same (absent s) m)
+part-stored (Apply k x) s m = sym (cond-same (absent s) m)
 
 -- an absent slot's bytes are not touched
 pub absent-part : (a : Act) (s : Slot) (m : List ℕ) → absent s ≡ true → partNext a s m ≡ m
@@ -128,9 +124,8 @@ memory-parts (Read more) b m = sym (eachPart-same slotBytes (partNext (Read more
 memory-parts Stop b m = sym (eachPart-same slotBytes (partNext Stop) (λ s p. refl) (b .slots) m)
 memory-parts Timeout b m = sym (eachPart-same slotBytes (partNext Timeout) (λ s p. refl) (b .slots) m)
 memory-parts Tick b m = refl
-memory-parts (Voltage k on) b m = sym (eachPart-same slotBytes (partNext (Voltage k on)) (λ s p. refl) (b .slots) m)
 memory-parts (Power k) b m = refl
-memory-parts (Temperature k t) b m = sym (eachPart-same slotBytes (partNext (Temperature k t)) (λ s p. refl) (b .slots) m)
+memory-parts (Apply k x) b m = sym (eachPart-same slotBytes (partNext (Apply k x)) (λ s p. refl) (b .slots) m)
 
 -- "Which events can change memory": a tick, and a power cycle with a number above 0
 pub memory-still : (a : Act) (b : Bus) (m : List ℕ) → storing a .0 ≡ 0 → memoryNext a b m ≡ m

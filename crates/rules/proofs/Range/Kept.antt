@@ -7,11 +7,11 @@ use mathlib.Core.Bool.{Bool, true, false, false≢true, not, cond, _&&_, _||_}
 use mathlib.Core.List.{List, [], _∷_, map}
 use lib.Dec.{eqb, leb, ltb}
 use lib.IntN.{ℤ, pos, negsuc, natAbs}
-use borrow.Author.Tests.{leb-true, ltb-false, le-leb}
+use borrow.Author.Tests.{leb-true, ltb-false, le-leb, not-true}
 use Rattle.proof_lists.specs.Each.{allOf, allOf-mapFrom}
 use Rattle.proof_lists.specs.Tests.{cond-cases, by-test, and-left, and-right, both, or-right-false}
 use Rattle.rules.specs.declared.Act.{Act}
-use Rattle.rules.specs.declared.Act.the-variants.{Start, Byte, Read, Stop, Timeout, Tick, Voltage, Power, Temperature}
+use Rattle.rules.specs.declared.Act.the-variants.{Start, Byte, Read, Stop, Timeout, Tick, Power, Apply}
 use Rattle.rules.specs.declared.Answer.{Answer}
 use Rattle.rules.specs.declared.Answer.the-variants as answer
 use Rattle.rules.specs.declared.Bus.{Bus}
@@ -20,7 +20,7 @@ use Rattle.rules.specs.declared.Carried.{Carried}
 use Rattle.rules.specs.declared.Carried.the-variants as carries
 use Rattle.rules.specs.declared.Event.{Event}
 use Rattle.rules.specs.declared.Heard.{Heard}
-use Rattle.rules.specs.declared.Heard.the-variants.{Memory, Sensor, Protect, ClearAll, ReadProtection, SelectHalf, ReadHalf, Nothing}
+use Rattle.rules.specs.declared.Heard.the-variants.{Memory, Sensor, Protect, ClearAll, ReadProtection, SelectHalf, ReadHalf, ProtectForEver, Nothing}
 use Rattle.rules.specs.declared.Outcome.{Outcome}
 use Rattle.rules.specs.declared.Pair.{Pair}
 use Rattle.rules.specs.declared.Phase.{Phase}
@@ -33,24 +33,27 @@ use Rattle.rules.specs.Open.{open-fields, open-all}
 use Rattle.rules.specs.Fields as Fields
 use Rattle.rules.specs.Fields.{inPhase, withLeft}
 use Rattle.rules.specs.Events.{actOf, carried, refusalNumber}
-use Rattle.rules.specs.Fresh.{freshSlot, setupSlot, powered}
-use Rattle.rules.specs.Control.{commandOf, heardOf, acksControl, obeyed, controlled}
-use Rattle.rules.specs.Memory.{emptied, abandoned, cancelled, loaded, guarded, upInPage, latching, dataByte, fetched, anyMark, begun, dataStop, ended, ticked}
-use Rattle.rules.specs.Modelled.{sensing}
-use Rattle.rules.specs.Power.{running, cut, powerCut}
+use Rattle.rules.specs.Fresh.{freshSlot, setupSlot, powered, freshOlder}
+use Rattle.rules.specs.Control.{commandOf, heardOf, acksControl, obeyed, controlled, heardBy, olderCommand, raisedCommand, ownCommand, selectOf, isRead}
+use Rattle.rules.specs.Memory.{emptied, abandoned, cancelled, loaded, guarded, upInPage, latching, dataByte, fetched, anyMark, begun, dataStop, ended, ticked, commandStop, pinOn}
+use Rattle.rules.specs.Modelled.{sensing, older}
+use Rattle.rules.specs.Pin.{convertedWithPin}
+use Rattle.rules.specs.Power.{finished, powerCut}
 use Rattle.rules.specs.Slot.{standing, commanding, letGo, lost, pointer, firstByte, secondByte, byteIn, readIn, stopIn, switched, heated, presentNext, slotNext}
 use Rattle.rules.specs.Bus.{busNext, shownFor, shown, anyAck}
-use Rattle.rules.specs.Refusals.{outside, wrongValue, goodLength, goodPair, kindInRange, lengthInRange, sensorInRange, pendingInRange, slotInRange, inRange, setupOf}
+use Rattle.rules.specs.Refusals.{outside, wrongValue, goodLength, goodPair, kindInRange, lengthInRange, sensorInRange, pendingInRange, slotInRange, inRange, setupOf, olderInRange}
 use Rattle.rules.specs.Runs.{Bench, taken, given, rulingOn, ruledNext, ruledAnswer, next, answered, after, answers}
-use Rattle.rules.proofs.Run.Cases.{next-cases, let-go-cases}
+use Rattle.rules.proofs.Run.Cases.{next-cases, let-go-cases, apply-cases}
+use Rattle.rules.proofs.Range.Olders as Olders
+use Rattle.rules.proofs.Range.Olders.{Olds, olds, brought-alone}
 use Rattle.rules.proofs.Range.Judged.{Judged, row-1, row-6, row-2, row-3, row-4, no-row, judged}
 use Rattle.rules.proofs.Registers.Pending as Pending
 use Rattle.rules.proofs.Registers.Pending.{Pends, pends, fresh-pends, word-pends, pointing-pends, written-pends, converted-pends}
 use Rattle.rules.proofs.Registers.SensorKept.{fresh-kept, written-kept, converted-kept, word-kept, pointing-kept}
 
 -- the test as facts about the numbers
-pub record Ranges (kind length left half counter place : ℕ) (x : sensor.Sensor) : Type 0 where
-  pub kinds : kind ≤ 2
+pub record Ranges (kind length left half counter place : ℕ) (x : sensor.Sensor) (protection : List Bool) (permanent : Bool) : Type 0 where
+  pub kinds : kind ≤ 3
   pub lengths : cond (eqb kind 0) (eqb length 0) (goodLength length) ≡ true
   pub lefts : left ≤ length
   pub halves : half ≤ 1
@@ -58,19 +61,20 @@ pub record Ranges (kind length left half counter place : ℕ) (x : sensor.Sensor
   pub places : place ≤ 15
   pub sensors : sensorInRange x ≡ true
   pub pins : Pends kind x
+  pub olders : Olds kind half protection permanent
 
 abbrev pub InRange : Slot → Type 0
-InRange s = Ranges (s .kind) (s .length) (s .left) (s .half) (s .counter) (s .place) (s .sensor)
+InRange s = Ranges (s .kind) (s .length) (s .left) (s .half) (s .counter) (s .place) (s .sensor) (s .protection) (s .old .permanent)
 
--- eight tests joined
-module _ (a b c d e f g h : Bool) where
-  joined : a ≡ true → b ≡ true → c ≡ true → d ≡ true → e ≡ true → f ≡ true → g ≡ true → h ≡ true → (a && b && c && d && e && f && g && h) ≡ true
-  joined ha hb hc hd he hf hg hh = rw (ha, hb, hc, hd, he, hf, hg, hh)
+-- nine tests joined
+module _ (a b c d e f g h i : Bool) where
+  joined : a ≡ true → b ≡ true → c ≡ true → d ≡ true → e ≡ true → f ≡ true → g ≡ true → h ≡ true → i ≡ true → (a && b && c && d && e && f && g && h && i) ≡ true
+  joined ha hb hc hd he hf hg hh hi = rw (ha, hb, hc, hd, he, hf, hg, hh, hi)
 
 pub facts : (s : Slot) → slotInRange s ≡ true → InRange s
 unfolding slotInRange kindInRange lengthInRange
 facts s t =
-    let k : Bool = leb (s .kind) 2 in
+    let k : Bool = leb (s .kind) 3 in
     let l : Bool = cond (eqb (s .kind) 0) (eqb (s .length) 0) (goodLength (s .length)) in
     let f : Bool = leb (s .left) (s .length) in
     let h : Bool = leb (s .half) 1 in
@@ -78,7 +82,9 @@ facts s t =
     let p : Bool = leb (s .place) 15 in
     let x : Bool = sensorInRange (s .sensor) in
     let q : Bool = pendingInRange s in
-    let t₇ = and-left (k && l && f && h && c && p && x) q t in
+    let o : Bool = olderInRange s in
+    let t₈ = and-left (k && l && f && h && c && p && x && q) o t in
+    let t₇ = and-left (k && l && f && h && c && p && x) q t₈ in
     let t₆ = and-left (k && l && f && h && c && p) x t₇ in
     let t₅ = and-left (k && l && f && h && c) p t₆ in
     let t₄ = and-left (k && l && f && h) c t₅ in
@@ -92,24 +98,25 @@ facts s t =
       counters = leb-true _ _ (and-right (k && l && f && h) c t₅);
       places = leb-true _ _ (and-right (k && l && f && h && c) p t₆);
       sensors = and-right (k && l && f && h && c && p) x t₇;
-      pins = pends s (and-right (k && l && f && h && c && p && x) q t);
+      pins = pends s (and-right (k && l && f && h && c && p && x) q t₈);
+      olders = olds s (and-right (k && l && f && h && c && p && x && q) o t);
     }
 
 pub test : (s : Slot) → InRange s → slotInRange s ≡ true
 unfolding slotInRange kindInRange lengthInRange
 test s v =
-    joined _ _ _ _ _ _ _ _
+    joined _ _ _ _ _ _ _ _ _
     (le-leb _ _ (v .kinds)) (v .lengths) (le-leb _ _ (v .lefts)) (le-leb _ _ (v .halves)) (le-leb _ _ (v .counters)) (le-leb _ _ (v .places)) (v .sensors)
-    (Pending.in-range s (v .pins))
+    (Pending.in-range s (v .pins)) (Olders.in-range s (v .olders))
 
 -- one field replaced: what moves no number of row 6 is kept as it stands
 counter-kept : (n : ℕ) (s : Slot) → n ≤ 255 → InRange s → InRange (Fields.atCounter n s)
 unfolding open-fields
 counter-kept n s h v = search
 
-half-kept : (n : ℕ) (s : Slot) → n ≤ 1 → InRange s → InRange (Fields.inHalf n s)
-unfolding open-fields
-half-kept n s h v = search
+half-kept : (n : ℕ) (s : Slot) → n ≤ 1 → older s ≡ false → InRange s → InRange (Fields.inHalf n s)
+unfolding open-fields older
+half-kept n s h o v = record { kinds = v .kinds; lengths = v .lengths; lefts = v .lefts; halves = h; counters = v .counters; places = v .places; sensors = v .sensors; pins = v .pins; olders = λ e. absurd (false≢true (sym o ∙ e)) }
 
 left-kept : (n : ℕ) (s : Slot) → n ≤ s .length → InRange s → InRange (Fields.withLeft n s)
 unfolding open-fields
@@ -150,23 +157,24 @@ lost-kept : (p : Phase) (s : Slot) → InRange s → InRange (lost p s)
 unfolding lost
 lost-kept p s v = phase-kept Deaf _ (letGo-kept p s v)
 
--- the control byte: a half that is selected is 0 or 1
-halfIn : Heard → Bool
-halfIn (Memory k r) = true
-halfIn (Sensor k r) = true
-halfIn (Protect k) = true
-halfIn ClearAll = true
-halfIn (ReadProtection k) = true
-halfIn (SelectHalf h) = leb h 1
-halfIn ReadHalf = true
-halfIn Nothing = true
+-- the control byte: a half that is selected is 0 or 1, and none is of an older module (the first argument)
+halfIn : Bool → Heard → Bool
+halfIn o (Memory k r) = true
+halfIn o (Sensor k r) = true
+halfIn o (Protect k) = true
+halfIn o ClearAll = true
+halfIn o (ReadProtection k) = true
+halfIn o (SelectHalf h) = not o && leb h 1
+halfIn o ReadHalf = true
+halfIn o ProtectForEver = true
+halfIn o Nothing = true
 
-halves-heard : (b : ℕ) → halfIn (heardOf b) ≡ true
+halves-of : (o : Bool) (b : ℕ) → (eqb (b / 16) 0x6 ≡ true → o ≡ false) → halfIn o (heardOf b) ≡ true
 unfolding halfIn heardOf commandOf
-halves-heard b =
+halves-of o b f =
     cond-cases P (eqb (b / 16) 0xA) (λ e. refl) λ e.
     cond-cases P (eqb (b / 16) 0x3) (λ e. refl) λ e.
-    cond-cases P (eqb (b / 16) 0x6) (λ e.
+    cond-cases P (eqb (b / 16) 0x6) (λ g.
     cond-cases P (eqb b 0x62) (λ e. refl) λ e.
     cond-cases P (eqb b 0x68) (λ e. refl) λ e.
     cond-cases P (eqb b 0x6A) (λ e. refl) λ e.
@@ -176,16 +184,28 @@ halves-heard b =
     cond-cases P (eqb b 0x69) (λ e. refl) λ e.
     cond-cases P (eqb b 0x6B) (λ e. refl) λ e.
     cond-cases P (eqb b 0x61) (λ e. refl) λ e.
-    cond-cases P (eqb b 0x6C) (λ e. refl) λ e.
-    cond-cases P (eqb b 0x6E) (λ e. refl) λ e.
+    cond-cases P (eqb b 0x6C) (λ e. rw (f g)) λ e.
+    cond-cases P (eqb b 0x6E) (λ e. rw (f g)) λ e.
     cond-cases P (eqb b 0x6D) (λ e. refl) λ e.
     refl)
     (λ e. refl)
   where
     P : Heard → Type 0
-    P h = halfIn h ≡ true
+    P h = halfIn o h ≡ true
 
-obeyed-kept : (h : Heard) (s : Slot) → halfIn h ≡ true → InRange s → InRange (obeyed h s)
+halves-heard : (n b : ℕ) (s : Slot) → halfIn (older s) (heardBy n b s) ≡ true
+unfolding halfIn heardBy olderCommand raisedCommand ownCommand
+halves-heard n b s =
+    cond-cases P (older s && eqb (b / 16) 0x6)
+    (λ e. cond-cases P (s .old .permanent) (λ e. refl) λ e. cond-cases P (s .voltage)
+    (λ e. cond-cases P (eqb b 0x62) (λ e. refl) λ e. cond-cases P (eqb b 0x66) (λ e. refl) λ e. cond-cases P (eqb b 0x63 || eqb b 0x67) (λ e. refl) (λ e. refl))
+    (λ e. cond-cases P (eqb (selectOf b .0) n) (λ e. cond-cases P (isRead b) (λ e. refl) (λ e. refl)) (λ e. refl)))
+    (λ e. halves-of (older s) b (λ g. by-test (older s) (λ o. absurd (false≢true (sym e ∙ both (older s) _ o g))) (λ o. o)))
+  where
+    P : Heard → Type 0
+    P h = halfIn (older s) h ≡ true
+
+obeyed-kept : (h : Heard) (s : Slot) → halfIn (older s) h ≡ true → InRange s → InRange (obeyed h s)
 unfolding obeyed halfIn open-fields
 obeyed-kept (Memory k false) s e v = v
 obeyed-kept (Memory k true) s e v = v
@@ -194,14 +214,15 @@ obeyed-kept (Sensor k true) s e v = holding-kept _ s v
 obeyed-kept (Protect k) s e v = v
 obeyed-kept ClearAll s e v = v
 obeyed-kept (ReadProtection k) s e v = v
-obeyed-kept (SelectHalf h) s e v = half-kept h s (leb-true _ _ e) v
+obeyed-kept (SelectHalf h) s e v = half-kept h s (leb-true _ _ (and-right (not (older s)) (leb h 1) e)) (not-true (older s) (and-left (not (older s)) (leb h 1) e)) v
 obeyed-kept ReadHalf s e v = v
+obeyed-kept ProtectForEver s e v = v
 obeyed-kept Nothing s e v = v
 
 controlled-kept : (n b : ℕ) (s : Slot) → InRange s → InRange (controlled n b s)
 unfolding controlled
 controlled-kept n b s v =
-    cond-cases InRange (acksControl n b s) (λ e. obeyed-kept (heardOf b) s (halves-heard b) v) (λ e. phase-kept Deaf s v)
+    cond-cases InRange (acksControl n b s) (λ e. obeyed-kept (heardBy n b s) s (halves-heard n b s) v) (λ e. phase-kept Deaf s v)
 
 -- bytes
 loaded-kept : (b : ℕ) (s : Slot) → b ≤ 255 → InRange s → InRange (loaded b s)
@@ -274,7 +295,7 @@ unfolding begun open-fields
 begun-kept s v = left-kept (s .length) (Fields.placed 0 s) (omega arith) (place-kept 0 s (omega arith) v)
 
 stop-kept : (p : Phase) (s : Slot) → InRange s → InRange (stopIn p s)
-unfolding stopIn dataStop
+unfolding stopIn dataStop commandStop
 stop-kept Idle s v = v
 stop-kept Control s v = v
 stop-kept Deaf s v = v
@@ -284,7 +305,7 @@ stop-kept MemoryRead s v = v
 stop-kept HalfSelected s v = v
 stop-kept CommandAddress s v = cancelled-kept s v
 stop-kept CommandData s v = cancelled-kept s v
-stop-kept CommandStop s v = begun-kept s v
+stop-kept CommandStop s v = cond-cases InRange (pinOn s) (λ e. cancelled-kept s v) (λ e. begun-kept s v)
 stop-kept SensorPointer s v = letGo-kept SensorPointer s v
 stop-kept SensorHigh s v = letGo-kept SensorHigh s v
 stop-kept SensorLow s v = letGo-kept SensorLow s v
@@ -293,7 +314,7 @@ stop-kept SensorReadLow s v = letGo-kept SensorReadLow s v
 
 ended-kept : (s : Slot) → InRange s → InRange (ended s)
 unfolding ended emptied open-fields
-ended-kept s v = left-kept 0 s (omega arith) v
+ended-kept s v = record { kinds = v .kinds; lengths = v .lengths; lefts = omega arith; halves = v .halves; counters = v .counters; places = v .places; sensors = v .sensors; pins = v .pins; olders = brought-alone s (v .olders) }
 
 ticked-kept : (s : Slot) → InRange s → InRange (ticked s)
 unfolding ticked
@@ -303,25 +324,23 @@ voltage-kept : (on : Bool) (s : Slot) → InRange s → InRange (Fields.withVolt
 unfolding open-fields
 voltage-kept on s v = v
 
-switched-kept : (on : Bool) (s : Slot) → InRange s → InRange (switched on s)
-unfolding switched
-switched-kept on s v = voltage-kept on _ (cond-cases InRange (commanding (standing s) && s .voltage && not on) (λ e. lost-kept (standing s) s v) (λ e. v))
-
 -- a temperature reaches a slot with a sensor alone
-heated-kept : (t : ℤ) (s : Slot) → InRange s → InRange (heated t s)
-unfolding heated sensing
-heated-kept t s v =
-    cond-cases InRange (eqb (s .kind) 2)
-    (λ e. sensor-kept _ s (converted-kept (s .sensor) t (v .sensors)) (converted-pends (s .kind) (s .sensor) t e (v .pins)) v) (λ e. v)
+heated-kept : (t : ℤ) (s : Slot) → sensing s ≡ true → InRange s → InRange (Fields.withSensor (convertedWithPin (s .sensor) t) s)
+unfolding sensing
+heated-kept t s e v = sensor-kept _ s (converted-kept (s .sensor) t (v .sensors)) (converted-pends (s .kind) (s .sensor) t e (v .pins)) v
+
+-- the pin is no number of row 6
+pin-kept : (on : Bool) (s : Slot) → InRange s → InRange (Fields.withOld (Fields.withPin on (s .old)) s)
+unfolding open-fields
+pin-kept on s v = v
 
 powered-kept : (s : Slot) → InRange s → InRange (powered s)
 unfolding powered freshSlot open-fields
-powered-kept s v = record { kinds = v .kinds; lengths = v .lengths; lefts = omega arith; halves = omega arith; counters = omega arith; places = omega arith; sensors = fresh-kept; pins = fresh-pends (s .kind) }
+powered-kept s v = record { kinds = v .kinds; lengths = v .lengths; lefts = omega arith; halves = omega arith; counters = omega arith; places = omega arith; sensors = fresh-kept; pins = fresh-pends (s .kind); olders = λ e. let a = v .olders e in record { first-half = refl; no-one = a .no-one; no-two = a .no-two; no-three = a .no-three; set-if = a .set-if } }
 
--- what is left of a cycle is not looked at
 power-kept : (k : Cut) (s : Slot) → InRange s → InRange (powerCut k s)
-unfolding powerCut cut open-fields
-power-kept k s v = powered-kept _ (cond-cases InRange (running s) (λ e. ended-kept (cut k s) v) (λ e. v))
+unfolding powerCut
+power-kept k s v = powered-kept _ (cond-cases InRange (finished k s) (λ e. ended-kept s v) (λ e. v))
 
 -- an act whose byte is a byte keeps a slot in range
 unfoldable pub byteFits : Carried → Bool
@@ -337,10 +356,9 @@ present-kept n (Read more) s f v = read-kept (standing s) more s v
 present-kept n Stop s f v = phase-kept Idle _ (stop-kept (standing s) s v)
 present-kept n Timeout s f v = phase-kept Idle _ (letGo-kept (standing s) s v)
 present-kept n Tick s f v = ticked-kept s v
-present-kept n (Voltage k on) s f v = cond-cases InRange (eqb (k .0) n) (λ e. switched-kept on s v) (λ e. v)
 present-kept n (Power k) s f v = power-kept k s v
-present-kept n (Temperature k t) s f v =
-    cond-cases InRange (eqb (k .0) n) (λ e. heated-kept t s v) (λ e. v)
+present-kept n (Apply k x) s f v =
+    apply-cases InRange s n k x v (λ on. voltage-kept on s v) (λ on e. voltage-kept on _ (lost-kept (standing s) s v)) (λ t e. heated-kept t s e v) (λ on e. pin-kept on s v)
 
 pub slot-kept : (n : ℕ) (a : Act) (s : Slot) → byteFits (carried a) ≡ true → InRange s → InRange (slotNext n a s)
 slot-kept n a s f v = next-cases InRange n a s (λ e. v) (λ e. present-kept n a s f v)
@@ -367,7 +385,8 @@ act-fits e w =
     cond-cases P (eqb (e .kind) 5) (λ h. refl) λ h.
     cond-cases P (eqb (e .kind) 6) (λ h. refl) λ h.
     cond-cases P (eqb (e .kind) 7) (λ h. refl) λ h.
-    cond-cases P (eqb (e .kind) 8) (λ h. refl) λ h. refl
+    cond-cases P (eqb (e .kind) 8) (λ h. refl) λ h.
+    cond-cases P (eqb (e .kind) 9) (λ h. refl) λ h. refl
   where
     P : Act → Type 0
     P a = byteFits (carried a) ≡ true
@@ -402,17 +421,18 @@ after-in-range (e ∷ es) x v = after-in-range es (next e x) (next-in-range e x 
 
 -- setup's bus is in range, refused or not
 pair-in-range : (p : Pair) → goodPair p ≡ true → InRange (setupSlot p)
-unfolding goodPair setupSlot freshSlot
+unfolding goodPair setupSlot freshSlot freshOlder
 pair-in-range p g =
     record {
-      kinds = leb-true _ _ (and-left (leb (p .kind) 2) (eqb (p .kind) 0 || goodLength (p .length)) g);
-      lengths = by-test (eqb (p .kind) 0) (λ e. rw e) (λ e. rw e (rw e at (and-right (leb (p .kind) 2) (eqb (p .kind) 0 || goodLength (p .length)) g)));
+      kinds = leb-true _ _ (and-left (leb (p .kind) 3) (eqb (p .kind) 0 || goodLength (p .length)) g);
+      lengths = by-test (eqb (p .kind) 0) (λ e. rw e) (λ e. rw e (rw e at (and-right (leb (p .kind) 3) (eqb (p .kind) 0 || goodLength (p .length)) g)));
       lefts = omega arith;
       halves = omega arith;
       counters = omega arith;
       places = omega arith;
       sensors = fresh-kept;
       pins = fresh-pends (p .kind);
+      olders = λ e. record { first-half = refl; no-one = refl; no-two = refl; no-three = refl; set-if = λ l. absurd (false≢true l) };
     }
 
 pairs-in-range : (ps : List Pair) → allOf goodPair ps ≡ true → allOf slotInRange (map setupSlot ps) ≡ true

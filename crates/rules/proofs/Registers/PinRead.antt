@@ -11,20 +11,21 @@ use lib.Bits.{bitAnd}
 use lib.Dec.{eqb}
 use lib.IntN.{ℤ}
 use Rattle.proof_lists.specs.Tests.{cond-cases, by-test, and-right}
-use Rattle.rules.specs.declared.Act.the-variants.{Byte, Read, Temperature}
+use Rattle.rules.specs.declared.Act.the-variants.{Byte, Read, Apply}
+use Rattle.rules.specs.declared.Applied.the-variants.{Temperature}
 use Rattle.rules.specs.declared.Heard.the-variants as heard
 use Rattle.rules.specs.declared.Phase.{Phase}
 use Rattle.rules.specs.declared.Phase.the-variants.{Control, SensorReadHigh, SensorReadLow}
 use Rattle.rules.specs.declared.Sensor.{Sensor}
 use Rattle.rules.specs.declared.Slot.{Slot}
 use Rattle.rules.specs.declared.SlotNo.{SlotNo}
-use Rattle.rules.specs.Control.{heardOf, acksHeard, acksControl, obeyed, controlled}
+use Rattle.rules.specs.Control.{heardOf, acksHeard, acksControl, obeyed, controlled, heardBy}
 use Rattle.rules.specs.Modelled.{sensing}
 use Rattle.rules.specs.Open.{open-fields}
 use Rattle.rules.specs.Pin.{asserted, readOf}
 use Rattle.rules.specs.Refusals.{keptIn}
 use Rattle.rules.specs.Sensor.{configurationBits, registerOf}
-use Rattle.rules.specs.Slot.{withSensorIn, standing, byteIn, acksIn, readIn, drivenIn, presentNext, slotNext, acks, driven}
+use Rattle.rules.specs.Slot.{withSensorIn, standing, byteIn, acksIn, readIn, drivenIn, presentNext, slotNext, acks, driven, applied}
 use Rattle.rules.proofs.Registers.Masks.{and-bit, or-bit}
 use Rattle.rules.proofs.Registers.Words.{word-fixed}
 use Rattle.rules.proofs.Run.Cases.{next-cases, heated-cases, sensing-present, byte-next, read-next}
@@ -63,14 +64,14 @@ record Drives (p : Phase) (w : ℕ) (s : Slot) : Type 0 where
 -- temperatures, of whatever slots, one after another
 unfoldable pub heatedBy : ℕ → List (SlotNo × ℤ) → Slot → Slot
 heatedBy n [] s = s
-heatedBy n (h ∷ hs) s = heatedBy n hs (slotNext n (Temperature (h .0) (h .1)) s)
+heatedBy n (h ∷ hs) s = heatedBy n hs (slotNext n (Apply (h .0) (Temperature (h .1))) s)
 
 drives-heated : (n : ℕ) (p : Phase) (w : ℕ) (hs : List (SlotNo × ℤ)) (s : Slot) → Drives p w s → Drives p w (heatedBy n hs s)
-unfolding heatedBy presentNext open-fields sensing
+unfolding heatedBy presentNext applied open-fields sensing
 drives-heated n p w [] s d = d
 drives-heated n p w (h ∷ hs) s d =
-    drives-heated n p w hs (slotNext n (Temperature (h .0) (h .1)) s)
-    (next-cases (Drives p w) n (Temperature (h .0) (h .1)) s (λ a. d)
+    drives-heated n p w hs (slotNext n (Apply (h .0) (Temperature (h .1))) s)
+    (next-cases (Drives p w) n (Apply (h .0) (Temperature (h .1))) s (λ a. d)
     (λ a. cond-cases (Drives p w) (eqb (h .0 .0) n)
     (λ e. heated-cases (Drives p w) (h .1) s (record { phase = d .phase; sensed = d .sensed; word = word-fixed (s .sensor) (h .1) ∙ d .word }) d) (λ e. d)))
 
@@ -84,12 +85,12 @@ drives-low n w s d = rw (read-next n true s, stands-at SensorReadHigh w s d) (re
 
 -- "both bytes are fixed at the control byte's ACK": the slot awaits its control byte, points to 01h, and acknowledges a read of its sensor
 module _ (n b : ℕ) (k : SlotNo) (s : Slot)
-    (waits : standing s ≡ Control) (asks : heardOf b ≡ heard.Sensor k true) (hears : acks n b s ≡ true) (points : s .sensor .pointer ≡ 0x01)
+    (waits : standing s ≡ Control) (asks : heardBy n b s ≡ heard.Sensor k true) (hears : acks n b s ≡ true) (points : s .sensor .pointer ≡ 0x01)
     (kept : keptIn configurationBits (s .sensor .configuration) ≡ true)
   where
     has-sensor : sensing s ≡ true
     unfolding acks acksIn acksControl acksHeard
-    has-sensor = and-right (eqb (k .0) n) (sensing s) (rw asks at (and-right (eqb (s .left) 0) (acksHeard (heardOf b) n s) (rw waits at hears)))
+    has-sensor = and-right (eqb (k .0) n) (sensing s) (rw asks at (and-right (eqb (s .left) 0) (acksHeard (heardBy n b s) n s) (rw waits at hears)))
 
     drives-high : Drives SensorReadHigh (readOf (s .sensor) 0x01) (slotNext n (Byte b) s)
     unfolding acks acksIn byteIn controlled obeyed open-fields sensing

@@ -11,23 +11,24 @@ use borrow.Author.Tests.{eqb-true}
 use lib.Dec.{eqb, leb}
 use Rattle.proof_lists.specs.Tests.{cond-cases, and-left, and-right, both, or-cases}
 use Rattle.rules.specs.declared.Act.{Act}
-use Rattle.rules.specs.declared.Act.the-variants.{Start, Byte, Read, Stop, Timeout, Tick, Voltage, Power, Temperature}
+use Rattle.rules.specs.declared.Applied.the-variants.{Voltage, Temperature, WriteProtect}
+use Rattle.rules.specs.declared.Act.the-variants.{Start, Byte, Read, Stop, Timeout, Tick, Power, Apply}
 use Rattle.rules.specs.declared.Cut.{Cut}
 use Rattle.rules.specs.declared.Phase.{Phase}
 use Rattle.rules.specs.declared.Phase.the-variants.{Idle, Control, Deaf, MemoryCounter, MemoryData, MemoryRead, HalfSelected, CommandAddress, CommandData, CommandStop, SensorPointer, SensorHigh, SensorLow, SensorReadHigh, SensorReadLow}
 use Rattle.rules.specs.declared.Sensor.{Sensor}
 use Rattle.rules.specs.declared.Slot.{Slot}
-use Rattle.rules.specs.Control.{acksControl, heardOf}
+use Rattle.rules.specs.Control.{acksControl, heardOf, heardBy}
 use Rattle.rules.specs.Fields.{withSensor, withWord}
 use Rattle.rules.specs.Fresh.{freshSensor, freshSlot, powered}
 use Rattle.rules.specs.Memory.{guarded}
-use Rattle.rules.specs.Modelled.{absent, sensing}
+use Rattle.rules.specs.Modelled.{absent, sensing, older}
 use Rattle.rules.specs.Open.{open-fields, open-memory, open-control, open-slot}
 use Rattle.rules.specs.Pin.{pinEnabled, interrupting, criticalAlone, asserted, canPend, changes, clearing, pendingAfter, convertedWithPin, writtenWithPin}
 use Rattle.rules.specs.Power.{powerCut}
 use Rattle.rules.specs.Runs.{slotAfter}
 use Rattle.rules.specs.Sensor.{configured, converted}
-use Rattle.rules.specs.Slot.{standing, commanding, letGo, lost, byteIn, switched, heated, presentNext, slotNext}
+use Rattle.rules.specs.Slot.{standing, commanding, letGo, lost, byteIn, switched, heated, presentNext, slotNext, applied, shielded, endures}
 use Rattle.rules.proofs.Registers.Locks.{locked, configured-keeps}
 use Rattle.rules.proofs.Registers.Masks.{same-bit}
 use Rattle.rules.proofs.Registers.Pending.{Can, fresh-can, written-can, converted-can}
@@ -43,10 +44,11 @@ brings n (Read more) s = false
 brings n Stop s = false
 brings n Timeout s = false
 brings n Tick s = false
-brings n (Voltage k on) s = false
 brings n (Power k) s = false
-brings n (Temperature k t) s =
+brings n (Apply k (Voltage on)) s = false
+brings n (Apply k (Temperature t)) s =
     eqb (k .0) n && sensing s && (canPend (s .sensor .configuration) && changes (s .sensor .temperature) (converted (s .sensor) t .temperature))
+brings n (Apply k (WriteProtect on)) s = false
 
 -- the word of a write whose second byte is b
 abbrev pub wordOf : ℕ → Slot → ℕ
@@ -78,9 +80,8 @@ drops (Read more) s = false
 drops Stop s = false
 drops Timeout s = false
 drops Tick s = false
-drops (Voltage k on) s = false
 drops (Power k) s = not (absent s)
-drops (Temperature k t) s = false
+drops (Apply k x) s = false
 
 -- what no act but these touches
 abbrev Stays : Slot → Slot → Type 0
@@ -116,7 +117,7 @@ and-not-false false = refl
 byte-pending : (p : Phase) (n b : ℕ) (s : Slot) → (byteIn p n b s) .sensor .pending ≡ (s .sensor .pending && not (clears p b s))
 unfolding open-fields open-memory open-slot open-control clears writtenWithPin
 byte-pending Idle n b s = and-not-false _
-byte-pending Control n b s = cond-cases (Stays s) (acksControl n b s) (λ e. obeyed-goes Unmoved (λ x. refl) worded (heardOf b) s) (λ e. refl) ∙ and-not-false _
+byte-pending Control n b s = cond-cases (Stays s) (acksControl n b s) (λ e. obeyed-goes Unmoved (λ x. refl) worded (heardBy n b s) s) (λ e. refl) ∙ and-not-false _
 byte-pending Deaf n b s = and-not-false _
 byte-pending MemoryCounter n b s = and-not-false _
 byte-pending MemoryData n b s = cond-cases (Stays s) (guarded s) (λ e. refl) (λ e. refl) ∙ and-not-false _
@@ -136,19 +137,21 @@ abbrev Told : ℕ → Act → Slot → Slot → Type 0
 Told n a s r = r .sensor .pending ≡ (brings n a s || (s .sensor .pending && not (drops a s)))
 
 present-pending : (n : ℕ) (a : Act) (s : Slot) → absent s ≡ false → Told n a s (presentNext n a s)
-unfolding brings drops presentNext switched heated powerCut powered freshSlot freshSensor lost convertedWithPin open-fields open-memory
+unfolding brings drops presentNext applied switched heated shielded powerCut powered freshSlot freshSensor lost convertedWithPin open-fields open-memory
 present-pending n Start s e = let-go (standing s) s ∙ and-not-false _
 present-pending n (Byte b) s e = byte-pending (standing s) n b s
 present-pending n (Read more) s e = read-goes Unmoved (λ x. refl) worded (standing s) more s ∙ and-not-false _
 present-pending n Stop s e = stop-goes Unmoved (λ x. refl) worded (standing s) s ∙ and-not-false _
 present-pending n Timeout s e = let-go (standing s) s ∙ and-not-false _
 present-pending n Tick s e = cond-cases (Stays s) (eqb (s .left) 1) (λ e. refl) (λ e. refl) ∙ and-not-false _
-present-pending n (Voltage k on) s e =
-    cond-cases (Stays s) (eqb (k .0) n)
-    (λ e. cond-cases (Stays s) (commanding (standing s) && s .voltage && not on) (λ e. let-go (standing s) s) (λ e. refl))
-    (λ e. refl) ∙ and-not-false _
 present-pending n (Power k) s e = rw e (sym (and-false (s .sensor .pending)))
-present-pending n (Temperature k t) s e =
+present-pending n (Apply k (Voltage on)) s e =
+    cond-cases (Stays s) (eqb (k .0) n)
+    (λ e. cond-cases (Stays s) (commanding (standing s) && s .voltage && not on && not (endures s)) (λ e. let-go (standing s) s) (λ e. refl))
+    (λ e. refl) ∙ and-not-false _
+present-pending n (Apply k (WriteProtect on)) s e =
+    cond-cases (Stays s) (eqb (k .0) n) (λ e. cond-cases (Stays s) (older s) (λ e. refl) (λ e. refl)) (λ e. refl) ∙ and-not-false _
+present-pending n (Apply k (Temperature t)) s e =
     by-tests (eqb (k .0) n) (sensing s) (s .sensor .pending) (canPend (s .sensor .configuration) && changes (s .sensor .temperature) (converted (s .sensor) t .temperature))
     s (withSensor (convertedWithPin (s .sensor) t) s) refl refl
   where
@@ -170,9 +173,10 @@ absent-pending n (Read more) s e = and-not-false _
 absent-pending n Stop s e = and-not-false _
 absent-pending n Timeout s e = and-not-false _
 absent-pending n Tick s e = and-not-false _
-absent-pending n (Voltage k on) s e = and-not-false _
 absent-pending n (Power k) s e = rw e (and-not-false _)
-absent-pending n (Temperature k t) s e = rw (absent-plain s e, and-false (eqb (k .0) n)) (and-not-false _)
+absent-pending n (Apply k (Voltage on)) s e = and-not-false _
+absent-pending n (Apply k (WriteProtect on)) s e = and-not-false _
+absent-pending n (Apply k (Temperature t)) s e = rw (absent-plain s e, and-false (eqb (k .0) n)) (and-not-false _)
 
 pub pending-next : (n : ℕ) (a : Act) (s : Slot) → (slotNext n a s) .sensor .pending ≡ (brings n a s || (s .sensor .pending && not (drops a s)))
 pending-next n a s = next-cases (Told n a s) n a s (λ e. absent-pending n a s e) (λ e. present-pending n a s e)
@@ -316,6 +320,5 @@ module _ (s : Slot) (l : locked (s .sensor .configuration) ≡ true) (can : canP
   released-locked Stop h = absurd (false≢true h)
   released-locked Timeout h = absurd (false≢true h)
   released-locked Tick h = absurd (false≢true h)
-  released-locked (Voltage k on) h = absurd (false≢true h)
   released-locked (Power k) h = byPower k
-  released-locked (Temperature k t) h = absurd (false≢true h)
+  released-locked (Apply k x) h = absurd (false≢true h)

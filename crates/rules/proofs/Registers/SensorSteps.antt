@@ -11,23 +11,25 @@ use lib.IntN.{ℤ}
 use Rattle.proof_lists.specs.Each.{allOf}
 use Rattle.proof_lists.specs.Tests.{cond-cases, and-left, and-right}
 use Rattle.rules.specs.declared.Act.{Act}
-use Rattle.rules.specs.declared.Act.the-variants.{Start, Byte, Read, Stop, Timeout, Tick, Voltage, Power, Temperature}
+use Rattle.rules.specs.declared.Applied.the-variants.{Voltage, Temperature, WriteProtect}
+use Rattle.rules.specs.declared.Act.the-variants.{Start, Byte, Read, Stop, Timeout, Tick, Power, Apply}
 use Rattle.rules.specs.declared.Heard.{Heard}
 use Rattle.rules.specs.declared.Heard.the-variants as heard
 use Rattle.rules.specs.declared.Phase.{Phase}
 use Rattle.rules.specs.declared.Phase.the-variants.{Idle, Control, Deaf, MemoryCounter, MemoryData, MemoryRead, HalfSelected, CommandAddress, CommandData, CommandStop, SensorPointer, SensorHigh, SensorLow, SensorReadHigh, SensorReadLow}
 use Rattle.rules.specs.declared.Sensor.{Sensor}
 use Rattle.rules.specs.declared.Slot.{Slot}
-use Rattle.rules.specs.Control.{acksControl, heardOf, obeyed}
+use Rattle.rules.specs.Control.{acksControl, heardOf, obeyed, heardBy}
 use Rattle.rules.specs.Fields.{withSensor, pointing, withWord, withConfiguration, withHigh, withLow, withCritical, withResolution, withTimeout, withPending}
 use Rattle.rules.specs.Fresh.{freshSensor, freshSlot, powered}
-use Rattle.rules.specs.Memory.{guarded, anyMark}
+use Rattle.rules.specs.Memory.{guarded, anyMark, pinOn}
 use Rattle.rules.specs.Open.{open-fields, open-memory, open-control, open-slot}
 use Rattle.rules.specs.Sensor.{limitBits, resolutionBits, timeoutBits, criticalLocked, limitsLocked, configured, written, converted}
+use Rattle.rules.specs.Modelled.{older}
 use Rattle.rules.specs.Pin.{writtenWithPin, convertedWithPin}
 use Rattle.rules.specs.Runs.{slotAfter}
 use Rattle.rules.specs.Power.{powerCut}
-use Rattle.rules.specs.Slot.{standing, commanding, letGo, lost, byteIn, readIn, stopIn, presentNext, slotNext, switched}
+use Rattle.rules.specs.Slot.{standing, commanding, letGo, lost, byteIn, readIn, stopIn, presentNext, slotNext, switched, applied, shielded, endures}
 use Rattle.rules.proofs.Run.Cases.{next-cases, heated-cases, let-go-cases}
 
 -- a write replaces one register, no locked one, or changes nothing
@@ -75,9 +77,8 @@ isPower (Read more) = false
 isPower Stop = false
 isPower Timeout = false
 isPower Tick = false
-isPower (Voltage k on) = false
 isPower (Power k) = true
-isPower (Temperature k t) = false
+isPower (Apply k x) = false
 
 unfoldable pub isHeat : Act → Bool
 isHeat Start = false
@@ -86,9 +87,10 @@ isHeat (Read more) = false
 isHeat Stop = false
 isHeat Timeout = false
 isHeat Tick = false
-isHeat (Voltage k on) = false
 isHeat (Power k) = false
-isHeat (Temperature k t) = true
+isHeat (Apply k (Voltage on)) = false
+isHeat (Apply k (Temperature t)) = true
+isHeat (Apply k (WriteProtect on)) = false
 
 unfoldable pub withoutPower : List Act → Bool
 withoutPower r = allOf (λ a. not (isPower a)) r
@@ -118,6 +120,7 @@ module _ (R : Sensor → Sensor → Type 0) (same : (x : Sensor) → R x x) (wor
   obeyed-goes (heard.ReadProtection k) s = still s
   obeyed-goes (heard.SelectHalf h) s = still s
   obeyed-goes heard.ReadHalf s = still s
+  obeyed-goes heard.ProtectForEver s = still s
   obeyed-goes heard.Nothing s = still s
 
   pub read-goes : (p : Phase) (more : Bool) (s : Slot) → Goes s (readIn p more s)
@@ -149,7 +152,7 @@ module _ (R : Sensor → Sensor → Type 0) (same : (x : Sensor) → R x x) (wor
   stop-goes HalfSelected s = still s
   stop-goes CommandAddress s = gone CommandAddress s
   stop-goes CommandData s = gone CommandData s
-  stop-goes CommandStop s = still s
+  stop-goes CommandStop s = cond-cases (Goes s) (pinOn s) (λ e. still s) (λ e. still s)
   stop-goes SensorPointer s = gone SensorPointer s
   stop-goes SensorHigh s = gone SensorHigh s
   stop-goes SensorLow s = gone SensorLow s
@@ -169,7 +172,7 @@ module _ (R : Sensor → Sensor → Type 0) (every : Respected R) where
   byte-goes : (p : Phase) (n b : ℕ) (s : Slot) → Becomes s (byteIn p n b s)
   unfolding open-fields open-memory open-slot open-control
   byte-goes Idle n b s = as-is s
-  byte-goes Control n b s = cond-cases (Becomes s) (acksControl n b s) (λ e. obeyed-goes R (every .same) (every .worded) (heardOf b) s) (λ e. as-is s)
+  byte-goes Control n b s = cond-cases (Becomes s) (acksControl n b s) (λ e. obeyed-goes R (every .same) (every .worded) (heardBy n b s) s) (λ e. as-is s)
   byte-goes Deaf n b s = as-is s
   byte-goes MemoryCounter n b s = as-is s
   byte-goes MemoryData n b s = cond-cases (Becomes s) (guarded s) (λ e. as-is s) (λ e. as-is s)
@@ -191,20 +194,22 @@ module _ (R : Sensor → Sensor → Type 0) (every : Respected R) where
 
   present-goes : (n : ℕ) (a : Act) (s : Slot) → (isPower a ≡ true → R (s .sensor) freshSensor) → ((t : ℤ) → isHeat a ≡ true → R (s .sensor) (convertedWithPin (s .sensor) t))
       → Becomes s (presentNext n a s)
-  unfolding isPower isHeat presentNext switched powerCut powered freshSlot lost open-fields open-memory
+  unfolding isPower isHeat presentNext applied switched shielded powerCut powered freshSlot lost open-fields open-memory
   present-goes n Start s fresh hot = leaves (standing s) s
   present-goes n (Byte b) s fresh hot = byte-goes (standing s) n b s
   present-goes n (Read more) s fresh hot = read-goes R (every .same) (every .worded) (standing s) more s
   present-goes n Stop s fresh hot = stop-goes R (every .same) (every .worded) (standing s) s
   present-goes n Timeout s fresh hot = leaves (standing s) s
   present-goes n Tick s fresh hot = cond-cases (Becomes s) (eqb (s .left) 1) (λ e. as-is s) (λ e. as-is s)
-  present-goes n (Voltage k on) s fresh hot =
-      cond-cases (Becomes s) (eqb (k .0) n)
-      (λ e. cond-cases (Becomes s) (commanding (standing s) && s .voltage && not on) (λ e. leaves (standing s) s) (λ e. as-is s))
-      (λ e. as-is s)
   present-goes n (Power k) s fresh hot = fresh refl
-  present-goes n (Temperature k t) s fresh hot =
+  present-goes n (Apply k (Voltage on)) s fresh hot =
+      cond-cases (Becomes s) (eqb (k .0) n)
+      (λ e. cond-cases (Becomes s) (commanding (standing s) && s .voltage && not on && not (endures s)) (λ e. leaves (standing s) s) (λ e. as-is s))
+      (λ e. as-is s)
+  present-goes n (Apply k (Temperature t)) s fresh hot =
       cond-cases (Becomes s) (eqb (k .0) n) (λ e. heated-cases (Becomes s) t s (hot t refl) (as-is s)) (λ e. as-is s)
+  present-goes n (Apply k (WriteProtect on)) s fresh hot =
+      cond-cases (Becomes s) (eqb (k .0) n) (λ e. cond-cases (Becomes s) (older s) (λ e. as-is s) (λ e. as-is s)) (λ e. as-is s)
 
   -- power puts the sensor at its defaults, and a temperature converts: what these must respect is asked of the caller
   pub step-respects : (n : ℕ) (a : Act) (s : Slot) → (isPower a ≡ true → R (s .sensor) freshSensor) → ((t : ℤ) → isHeat a ≡ true → R (s .sensor) (convertedWithPin (s .sensor) t))

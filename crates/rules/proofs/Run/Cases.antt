@@ -6,17 +6,20 @@ use mathlib.Core.Bool.{Bool, true, false, not, cond, _&&_, _||_}
 use borrow.Author.Tests.{eqb-true}
 use lib.Dec.{eqb}
 use lib.IntN.{ℤ}
-use Rattle.proof_lists.specs.Tests.{cond-cases, cond-false}
+use Rattle.proof_lists.specs.Tests.{cond-cases, cond-false, and-left}
 use Rattle.rules.specs.declared.Act.{Act}
-use Rattle.rules.specs.declared.Act.the-variants.{Byte, Read}
+use Rattle.rules.specs.declared.Act.the-variants.{Byte, Read, Apply}
+use Rattle.rules.specs.declared.Applied.{Applied}
+use Rattle.rules.specs.declared.Applied.the-variants.{Voltage, Temperature, WriteProtect}
 use Rattle.rules.specs.declared.Phase.{Phase}
 use Rattle.rules.specs.declared.Phase.the-variants.{Deaf}
 use Rattle.rules.specs.declared.Slot.{Slot}
-use Rattle.rules.specs.Modelled.{absent, sensing}
-use Rattle.rules.specs.Fields.{holding, withSensor}
+use Rattle.rules.specs.declared.SlotNo.{SlotNo}
+use Rattle.rules.specs.Modelled.{absent, sensing, older}
+use Rattle.rules.specs.Fields.{holding, withSensor, withVoltage, withOld, withPin}
 use Rattle.rules.specs.Memory.{abandoned, cancelled}
 use Rattle.rules.specs.Pin.{convertedWithPin}
-use Rattle.rules.specs.Slot.{withSensorIn, commanding, taking, standing, letGo, byteIn, readIn, heated, presentNext, slotNext}
+use Rattle.rules.specs.Slot.{withSensorIn, commanding, taking, standing, letGo, lost, byteIn, readIn, endures, switched, heated, shielded, applied, presentNext, slotNext}
 
 -- an absent slot stays as it is
 pub next-cases : (P : Slot → Type 0) (n : ℕ) (a : Act) (s : Slot) → (absent s ≡ true → P s) → (absent s ≡ false → P (presentNext n a s)) → P (slotNext n a s)
@@ -49,6 +52,52 @@ heated-cases P t s with without = cond-cases P (sensing s) (λ e. with) (λ e. w
 pub heated-absent : (t : ℤ) (s : Slot) → cond (absent s) s (heated t s) ≡ heated t s
 unfolding heated
 heated-absent t s = cond-cases (λ (r : Slot). r ≡ heated t s) (absent s) (λ a. sym (cond-false (sensing s) _ s (absent-plain s a))) (λ a. refl)
+
+-- an older module is present, and has no sensor
+pub older-present : (s : Slot) → older s ≡ true → absent s ≡ false
+unfolding older absent
+older-present s e = ap (λ (k : ℕ). eqb k 0) (eqb-true (s .kind) 3 e)
+
+pub older-plain : (s : Slot) → older s ≡ true → sensing s ≡ false
+unfolding older sensing
+older-plain s e = ap (λ (k : ℕ). eqb k 2) (eqb-true (s .kind) 3 e)
+
+pub sensing-newer : (s : Slot) → sensing s ≡ true → older s ≡ false
+unfolding older sensing
+sensing-newer s e = ap (λ (k : ℕ). eqb k 3) (eqb-true (s .kind) 2 e)
+
+pub absent-newer : (s : Slot) → absent s ≡ true → older s ≡ false
+unfolding older absent
+absent-newer s e = ap (λ (k : ℕ). eqb k 3) (eqb-true (s .kind) 0 e)
+
+-- What reaches one slot alone: it stays, or its voltage changes, with or without a command that is given up, or a sensor converts, or the pin of an
+-- older module changes.
+module _ (P : Slot → Type 0) (s : Slot) where
+  pub applied-cases : (x : Applied)
+      → P s
+      → ((on : Bool) → P (withVoltage on s))
+      → ((on : Bool) → commanding (standing s) ≡ true → P (withVoltage on (lost (standing s) s)))
+      → ((t : ℤ) → sensing s ≡ true → P (withSensor (convertedWithPin (s .sensor) t) s))
+      → ((on : Bool) → older s ≡ true → P (withOld (withPin on (s .old)) s))
+      → P (applied x s)
+  unfolding applied switched heated shielded
+  applied-cases (Voltage on) same level given-up converts pin =
+      cond-cases (λ (r : Slot). P (withVoltage on r)) (commanding (standing s) && s .voltage && not on && not (endures s))
+      (λ e. given-up on (and-left (commanding (standing s)) (s .voltage)
+      (and-left (commanding (standing s) && s .voltage) (not on) (and-left (commanding (standing s) && s .voltage && not on) (not (endures s)) e)))) (λ e. level on)
+  applied-cases (Temperature t) same level given-up converts pin = cond-cases P (sensing s) (λ e. converts t e) (λ e. same)
+  applied-cases (WriteProtect on) same level given-up converts pin = cond-cases P (older s) (λ e. pin on e) (λ e. same)
+
+  -- and only the slot that it names
+  pub apply-cases : (n : ℕ) (k : SlotNo) (x : Applied)
+      → P s
+      → ((on : Bool) → P (withVoltage on s))
+      → ((on : Bool) → commanding (standing s) ≡ true → P (withVoltage on (lost (standing s) s)))
+      → ((t : ℤ) → sensing s ≡ true → P (withSensor (convertedWithPin (s .sensor) t) s))
+      → ((on : Bool) → older s ≡ true → P (withOld (withPin on (s .old)) s))
+      → P (presentNext n (Apply k x) s)
+  unfolding presentNext
+  apply-cases n k x same level given-up converts pin = cond-cases P (eqb (k .0) n) (λ e. applied-cases x same level given-up converts pin) (λ e. same)
 
 -- what is let go is a register's bytes, a command, latched bytes, or nothing
 module _ (P : Slot → Type 0) (p : Phase) (s : Slot) where

@@ -8,7 +8,7 @@ use lib.Dec.{eqb, leb}
 use lib.ListN.{length, length-set}
 use Rattle.proof_lists.specs.Tests.{cond-cases}
 use Rattle.rules.specs.declared.Act.{Act}
-use Rattle.rules.specs.declared.Act.the-variants.{Start, Byte, Read, Stop, Timeout, Tick, Voltage, Power, Temperature}
+use Rattle.rules.specs.declared.Act.the-variants.{Start, Byte, Read, Stop, Timeout, Tick, Power, Apply}
 use Rattle.rules.specs.declared.Event.{Event}
 use Rattle.rules.specs.declared.Heard.{Heard}
 use Rattle.rules.specs.declared.Heard.the-variants as heard
@@ -47,6 +47,7 @@ module _ (n : ℕ) (s : Slot) (h : Sixteen s) where
   obeyed-keeps (heard.ReadProtection k) = h
   obeyed-keeps (heard.SelectHalf x) = h
   obeyed-keeps heard.ReadHalf = h
+  obeyed-keeps heard.ProtectForEver = h
   obeyed-keeps heard.Nothing = h
 
   byte-keeps : (p : Phase) (b : ℕ) → Sixteen (byteIn p n b s)

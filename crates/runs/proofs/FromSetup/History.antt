@@ -11,7 +11,7 @@ use Rattle.proof_lists.specs.Tests.{and-left, and-right}
 use lib.Dec.{eqb}
 use borrow.Author.Tests.{eqb-true, eq-eqb}
 use Rattle.rules.specs.declared.Act.{Act}
-use Rattle.rules.specs.declared.Act.the-variants.{Start, Byte, Read, Stop, Timeout, Tick, Voltage, Power, Temperature}
+use Rattle.rules.specs.declared.Act.the-variants.{Start, Byte, Read, Stop, Timeout, Tick, Power, Apply}
 use Rattle.rules.specs.declared.Cut.{Cut}
 use Rattle.rules.specs.declared.Event.{Event}
 use Rattle.rules.specs.declared.Pair.{Pair}
@@ -48,11 +48,10 @@ ended (Read more) s e = absurd (false≢true e)
 ended Stop s e = absurd (false≢true e)
 ended Timeout s e = absurd (false≢true e)
 ended Tick s e = lastTick (eqb-true (s .left) 1 (and-left (eqb (s .left) 1) true e))
-ended (Voltage k on) s e = absurd (false≢true e)
 ended (Power k) s e = cutOff k
     (λ z. false≢true (sym (ap not (eq-eqb (k .0) 0 z)) ∙ and-right (not (eqb (s .left) 0)) (not (eqb (k .0) 0)) e))
     (λ z. false≢true (sym (ap not (eq-eqb (s .left) 0 z)) ∙ and-left (not (eqb (s .left) 0)) (not (eqb (k .0) 0)) e))
-ended (Temperature k t) s e = absurd (false≢true e)
+ended (Apply k x) s e = absurd (false≢true e)
 
 -- what setup leaves to come is what stands, and no cycle runs
 abbrev Fresh : Slot → Type 0

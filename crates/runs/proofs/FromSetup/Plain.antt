@@ -10,7 +10,7 @@ use lib.ListN.{length, length-set}
 use Rattle.proof_lists.specs.Each.{Every}
 use Rattle.proof_lists.specs.Tests.{cond-cases, by-test, and-right, or-right-false}
 use Rattle.rules.specs.declared.Act.{Act}
-use Rattle.rules.specs.declared.Act.the-variants.{Start, Byte, Read, Stop, Timeout, Tick, Voltage, Power, Temperature}
+use Rattle.rules.specs.declared.Act.the-variants.{Start, Byte, Read, Stop, Timeout, Tick, Power, Apply}
 use Rattle.rules.specs.declared.Event.{Event}
 use Rattle.rules.specs.declared.Heard.{Heard}
 use Rattle.rules.specs.declared.Heard.the-variants as heard
@@ -83,6 +83,7 @@ module _ (n : ℕ) (s : Slot) (none : sensing s ≡ false) where
   obeyed-keeps (heard.ReadProtection k) e = refl
   obeyed-keeps (heard.SelectHalf h) e = refl
   obeyed-keeps heard.ReadHalf e = refl
+  obeyed-keeps heard.ProtectForEver e = refl
   obeyed-keeps heard.Nothing e = refl
 
   byte-keeps : (p : Phase) (b : ℕ) → withSensorIn p ≡ false → Keeps (byteIn p n b s)
@@ -147,11 +148,10 @@ present-plain n (Read more) s e h = read-keeps n s e (standing s) more (stands-w
 present-plain n Stop s e h = stop-keeps n s e (standing s) (stands-without s e) ∙ h
 present-plain n Timeout s e h = let-go-keeps n s e (standing s) (stands-without s e) ∙ h
 present-plain n Tick s e h = cond-cases (λ (r : Slot). r .sensor ≡ freshSensor) (eqb (s .left) 1) (λ f. h) (λ f. h)
-present-plain n (Voltage k on) s e h = cond-cases (λ (r : Slot). r .sensor ≡ freshSensor) (eqb (k .0) n)
     (λ f. cond-cases (λ (r : Slot). r .sensor ≡ freshSensor) (commanding (standing s) && s .voltage && not on)
     (λ f. let-go-keeps n s e (standing s) (stands-without s e) ∙ h) (λ f. h)) (λ f. h)
 present-plain n (Power k) s e h = refl
-present-plain n (Temperature k t) s e h = cond-cases (λ (r : Slot). r .sensor ≡ freshSensor) (eqb (k .0) n)
+present-plain n (Apply k x) s e h = cond-cases (λ (r : Slot). r .sensor ≡ freshSensor) (eqb (k .0) n)
     (λ f. rw e h) (λ f. h)
 
 pub slot-plain : (n : ℕ) (a : Act) (s : Slot) → Plain s → Plain (slotNext n a s)

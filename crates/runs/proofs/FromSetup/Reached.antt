@@ -11,7 +11,7 @@ use lib.Dec.{eqb, leb}
 use borrow.Author.Tests.{eqb-true, eqb-false, ne-eqb, leb-true, not-false}
 use Rattle.proof_lists.specs.Tests.{cond-cases, by-test, and-left, and-right}
 use Rattle.rules.specs.declared.Act.{Act}
-use Rattle.rules.specs.declared.Act.the-variants.{Start, Byte, Read, Stop, Timeout, Tick, Voltage, Power, Temperature}
+use Rattle.rules.specs.declared.Act.the-variants.{Start, Byte, Read, Stop, Timeout, Tick, Power, Apply}
 use Rattle.rules.specs.declared.Event.{Event}
 use Rattle.rules.specs.declared.Heard.{Heard}
 use Rattle.rules.specs.declared.Heard.the-variants as heard
@@ -219,6 +219,7 @@ obeyed-holds heard.ClearAll n s e r = commands s e r
 obeyed-holds (heard.ReadProtection k) n s e r = rests r
 obeyed-holds (heard.SelectHalf h) n s e r = r
 obeyed-holds heard.ReadHalf n s e r = rests r
+obeyed-holds heard.ProtectForEver n s e r = rests r
 obeyed-holds heard.Nothing n s e r = rests r
 
 controlled-holds : (n b : ℕ) (s : Slot) → Waiting s → Held (controlled n b s)

@@ -8,7 +8,7 @@ use lib.Dec.{leb}
 use Rattle.proof_lists.specs.Tests.{cond-cases}
 use Rattle.rules.specs.declared.Act.the-variants.{Start, Byte, Read}
 use Rattle.rules.specs.declared.Heard.{Heard}
-use Rattle.rules.specs.declared.Heard.the-variants.{Memory, Sensor, Protect, ClearAll, ReadProtection, SelectHalf, ReadHalf, Nothing}
+use Rattle.rules.specs.declared.Heard.the-variants.{Memory, Sensor, Protect, ClearAll, ReadProtection, SelectHalf, ReadHalf, ProtectForEver, Nothing}
 use Rattle.rules.specs.declared.Phase.{Phase}
 use Rattle.rules.specs.declared.Phase.the-variants.{Idle, Control, Deaf, MemoryCounter, MemoryData, MemoryRead, HalfSelected, CommandAddress, CommandData, CommandStop, SensorPointer, SensorHigh, SensorLow, SensorReadHigh, SensorReadLow}
 use Rattle.rules.specs.declared.Slot.{Slot}
@@ -61,6 +61,7 @@ obeyed-served ClearAll s = refl
 obeyed-served (ReadProtection k) s = refl
 obeyed-served (SelectHalf h) s = refl
 obeyed-served ReadHalf s = refl
+obeyed-served ProtectForEver s = refl
 obeyed-served Nothing s = refl
 
 lost-served : (p : Phase) (s : Slot) → Served (lost p s)

@@ -4,7 +4,7 @@ use mathlib.Core.Path.{_≡_, refl, sym, _∙_, ap}
 use mathlib.Core.List.{List, [], _∷_}
 use mathlib.Core.Option.{Option, none, some, Option·none-ne-some, Option·some-injective}
 use Rattle.rules.specs.declared.Act.{Act}
-use Rattle.rules.specs.declared.Act.the-variants.{Start, Byte, Read, Stop, Timeout, Tick, Voltage, Power, Temperature}
+use Rattle.rules.specs.declared.Act.the-variants.{Start, Byte, Read, Stop, Timeout, Tick, Power, Apply}
 use Rattle.runs.specs.Exchanges.{Inside, again, byte, read, Gap, strayByte, strayRead, strayStop, timeout, tick, voltage, power, temperature, Item, exchange, between, insideAct, gapAct, upToStop, itemActs, flatten, Rest, onto, opened, closed, more, itemsOf, within}
 
 -- how the parse takes one act: inside an exchange, and between two

@@ -8,7 +8,7 @@ use lib.Dec.{eqb}
 use borrow.Author.Tests.{not-true}
 use Rattle.proof_lists.specs.Tests.{cond-cases, by-test}
 use Rattle.rules.specs.declared.Act.{Act}
-use Rattle.rules.specs.declared.Act.the-variants.{Start, Byte, Read, Stop, Timeout, Tick, Voltage, Power, Temperature}
+use Rattle.rules.specs.declared.Act.the-variants.{Start, Byte, Read, Stop, Timeout, Tick, Power, Apply}
 use Rattle.rules.specs.declared.Answer.{Answer}
 use Rattle.rules.specs.declared.Phase.{Phase}
 use Rattle.rules.specs.declared.Phase.the-variants.{Idle, Control, Deaf}
@@ -102,10 +102,9 @@ struck-slot n (between strayStop) s e p = absurd (false≢true p)
 struck-slot n (between timeout) s e p = absurd (false≢true p)
 struck-slot n (between tick) s e p = absurd (false≢true p)
 struck-slot n (between (voltage k on)) s e p =
-    next-cases (λ (r : Slot). r ≡ s) n (Voltage k on) s (λ a. refl) (λ a. rw (not-true (eqb (k .0) n) p))
 struck-slot n (between (power k)) s e p = absurd (false≢true p)
 struck-slot n (between (temperature k t)) s e p =
-    next-cases (λ (r : Slot). r ≡ s) n (Temperature k t) s (λ a. refl) (λ a. rw (not-true (eqb (k .0) n) p))
+    next-cases (λ (r : Slot). r ≡ s) n (Apply k x) s (λ a. refl) (λ a. rw (not-true (eqb (k .0) n) p))
 
 struck-part : (n : ℕ) (i : Item) (s : Slot) (m : List ℕ) → struck n i ≡ true → itemPart n i s m ≡ m
 unfolding itemPart itemActs partAfter gapAct partNext struck struckGap
