@@ -1,5 +1,6 @@
-# Where a saved bench (request P5, "Saving a bench overnight", with the fields of P8 and P9) that the program `show` has refused departs
-# from the form, and why, in words, for ./plungerhen show and resume: its bytes on standard input, as od -tu1 gives them.
+# Where a saved bench (request P5, "Saving a bench overnight", with the fields of P8 and P9) that the program `show` has
+# refused departs from the form, and why, in words, for ./plungerhen show and resume: its bytes on standard input, as od
+# -tu1 gives them.
 #
 #   size  how many bytes it has; what stands behind byte 65,535 is not read, since a form is shorter
 #
