@@ -16,12 +16,14 @@ pub record Lasts (s t : Slot) : Type 0 where
   pub protection : t .protection ≡ s .protection
   pub voltage : t .voltage ≡ s .voltage
   pub registers : withWord 0 (t .sensor) ≡ withWord 0 (s .sensor)
+  pub permanent : t .old .permanent ≡ s .old .permanent
+  pub pin : t .old .pin ≡ s .old .pin
 
 pub let-go-lasts : (s : Slot) → Lasts s (letGo (standing s) s)
 unfolding open-memory open-fields
 let-go-lasts s =
     let-go-cases (Lasts s) (standing s) s
-    (record { kind = refl; length = refl; left = refl; half = refl; counter = refl; protection = refl; voltage = refl; registers = refl })
-    (record { kind = refl; length = refl; left = refl; half = refl; counter = refl; protection = refl; voltage = refl; registers = refl })
-    (record { kind = refl; length = refl; left = refl; half = refl; counter = refl; protection = refl; voltage = refl; registers = refl })
-    (record { kind = refl; length = refl; left = refl; half = refl; counter = refl; protection = refl; voltage = refl; registers = refl })
+    (record { kind = refl; length = refl; left = refl; half = refl; counter = refl; protection = refl; voltage = refl; registers = refl; permanent = refl; pin = refl })
+    (record { kind = refl; length = refl; left = refl; half = refl; counter = refl; protection = refl; voltage = refl; registers = refl; permanent = refl; pin = refl })
+    (record { kind = refl; length = refl; left = refl; half = refl; counter = refl; protection = refl; voltage = refl; registers = refl; permanent = refl; pin = refl })
+    (record { kind = refl; length = refl; left = refl; half = refl; counter = refl; protection = refl; voltage = refl; registers = refl; permanent = refl; pin = refl })

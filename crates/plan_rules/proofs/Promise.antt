@@ -27,7 +27,7 @@ use Rattle.plan_rules.specs.declared.Planned.the-variants.{Records, Refu
 use Rattle.plan_rules.specs.Records.{laid, eventsIn}
 use Rattle.plan_rules.specs.Plan.{fiveTicks, settled, slotAt, bytesAt, pageCount, bufferBytes, wrongLengths, noSuchSlot, forbidden, planEvents, planned, planOf, planNumber, planValue}
 use Rattle.plan_rules.specs.Effect.{Typed, differing, selectionsBefore}
-use Rattle.plan_rules.proofs.Given.{right-lengths, slot-below, slot-there, slot-present}
+use Rattle.plan_rules.proofs.Given.{right-lengths, slot-below, slot-there, slot-present, slot-newer}
 use Rattle.plan_rules.proofs.Carried.{Asked}
 use Rattle.plan_rules.proofs.Right.{done, Right, NoMore, is-right, does-no-more}
 use Rattle.plan_rules.proofs.Count.{plan-counted, plan-most}
@@ -127,13 +127,14 @@ module _ (b : Bus) (m : List ℕ) (k : SlotNo) (image buffer : List ℕ) where
       let g = given-records n (planOf b m k image buffer) judged e in
       let sizes = right-lengths m image buffer (g .0) in
       let below = slot-below k b (g .2) in
-      let present = slot-present b m k (g .2) in
+      let present = slot-present k b (g .2) m in
       let asked : Asked (k .0) bench image = record {
         long = sizes .0;
         ranged = g .1;
         number = typed .slot .slots;
         below = below;
         present = present;
+        newer = slot-newer k b (g .2) m;
         arrays = unfold slotAt in (typed .slot .latch, typed .slot .marks);
         wanted = sizes .1;
         bytes = typed .bytes;
