@@ -30,6 +30,7 @@ use Rattle.plan_rules.specs.Effect.{Typed, differing, selectionsBefore}
 use Rattle.plan_rules.proofs.Given.{right-lengths, slot-below, slot-there, slot-present, slot-newer}
 use Rattle.plan_rules.proofs.Carried.{Asked}
 use Rattle.plan_rules.proofs.Right.{done, Right, NoMore, is-right, does-no-more}
+use Rattle.plan_rules.proofs.Neighbours.{Spared, spares}
 use Rattle.plan_rules.proofs.Count.{plan-counted, plan-most}
 use Rattle.plan_rules.proofs.Again.{Again, planned-again}
 use Rattle.plan_rules.proofs.Back.{laid-behind, laid-length, read-back, plan-plain}
@@ -108,6 +109,7 @@ module _ (b : Bus) (m : List ℕ) (k : SlotNo) (image buffer : List ℕ) where
     pub right : Right (k .0) bench image
     pub no-more : NoMore (k .0) bench image
     pub again : Again (k .0) bench image
+    pub spared : (i : ℕ) → i < slotCount → Spared (k .0) bench image i
 
   -- the row that a number of records comes from
   refused : (r : Refusal) {c : ℕ} → refusalNumber r ≡ c → 0 < c → refusalNumber r ≡ 0 → ⊥
@@ -152,6 +154,7 @@ module _ (b : Bus) (m : List ℕ) (k : SlotNo) (image buffer : List ℕ) where
         right = is-right (k .0) bench image asked;
         no-more = does-no-more (k .0) bench image asked;
         again = planned-again (k .0) bench image asked;
+        spared = spares (k .0) bench image asked;
       }
 
   -- asked again after the run, with any buffer, the planner gives the five ticks

@@ -98,10 +98,11 @@ module _ (old image : List ℕ) (s : Slot) (p : ℕ) where
 
     other-kept : Kept t (otherBefore old image s n t p)
     unfolding leaving open-memory open-fields
-    other-kept = other-holds (Kept t) (λ w h. again w h) (λ j w h. again w h) (kept-all t) (again (letGo (standing t) t) (let-go-kept t))
-      where
-        again : {v : Slot} (w : Slot) → Kept t w → Kept t v
-        again w h = record { kind = h .kind; length = h .length; protection = h .protection; voltage = h .voltage; registers = h .registers; permanent = h .permanent; pin = h .pin }
+    other-kept = other-holds (Kept t)
+        (λ w h. record { kind = h .kind; length = h .length; protection = h .protection; voltage = h .voltage; registers = h .registers; permanent = h .permanent; pin = h .pin })
+        (λ j w h. record { kind = h .kind; length = h .length; protection = h .protection; voltage = h .voltage; registers = h .registers; permanent = h .permanent; pin = h .pin })
+        (kept-all t)
+        (let h = let-go-kept t in record { kind = h .kind; length = h .length; protection = h .protection; voltage = h .voltage; registers = h .registers; permanent = h .permanent; pin = h .pin })
 
     other-left : t .left ≡ 0 → (otherBefore old image s n t p) .left ≡ 0
     unfolding leaving open-memory open-fields
@@ -143,7 +144,7 @@ module _ (k : ℕ) (x : Bench) (image : List ℕ) (asked : Asked k x image) wher
   nobody's i l ne a = absent-slot k x image asked 32 (omega arith) i l ne (present-settled i l true a)
 
   -- the slot itself, another one that is present, one that is absent
-  each : (P : Slot → Slot → Type 0) (i : ℕ) → i < slotCount → P now (ownBefore old image now pageCount)
+  pub each : (P : Slot → Slot → Type 0) (i : ℕ) → i < slotCount → P now (ownBefore old image now pageCount)
       → ((t : Slot) → P t (otherBefore old image now i t pageCount)) → ((t : Slot) → P t t)
       → P (slotAt i (settled x)) (slotAt i (done k x image))
   each P i l f g h = by-test (eqb i k)
