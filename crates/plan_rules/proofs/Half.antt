@@ -93,12 +93,12 @@ module _ (n h : ℕ) (two : h < 2) where
     opened = inPhase CommandAddress (toCome (set (u .protection) 0 true) true u)
 
     older-obeyed : slotNext n (Byte (0x6C + 2 * h)) (inPhase Control u) ≡ cond (opens n h u) opened (inPhase Deaf u)
-    unfolding byteIn controlled acksControl acksHeard obeyed older open-fields
+    unfolding byteIn controlled acksControl acksHeard obeyed opens older open-fields
     older-obeyed =
         byte-next n (0x6C + 2 * h) (inPhase Control u) ∙ ap (λ (q : Phase). byteIn q n (0x6C + 2 * h) (inPhase Control u)) (stands-in Control u (older-there u old) refl)
         ∙ by-test (opens n h u)
-        (λ e. rw (lasting-heard n h two (inPhase Control u) old, unfold opens open-fields in e, e, eq-eqb (u .left) 0 rests))
-        (λ e. rw (lasting-heard n h two (inPhase Control u) old, unfold opens open-fields in e, e, eq-eqb (u .left) 0 rests))
+        (λ e. rw (lasting-heard n h two (inPhase Control u) old, e, eq-eqb (u .left) 0 rests))
+        (λ e. rw (lasting-heard n h two (inPhase Control u) old, e, eq-eqb (u .left) 0 rests))
 
     older-stopped : slotNext n Stop (cond (opens n h u) opened (inPhase Deaf u)) ≡ feels n h (inPhase Idle u)
     unfolding presentNext stopIn feels opens absent older open-memory open-fields
@@ -122,8 +122,11 @@ module _ (n h : ℕ) (two : h < 2) where
       }
 
   -- whatever the kind
+  newer-feels : (u : Slot) → eqb (u .kind) 3 ≡ false → inHalf h u ≡ feels n h u
+  unfolding feels older
+  newer-feels u e = rw e
+
   pub half-passed : (s : Slot) (m : List ℕ) → eqb (s .kind) 0 ≡ false → s .left ≡ 0 → Passed n (halfActs h) s m (feels n h (leaving s))
-  unfolding feels leaving older open-fields
   half-passed s m here rests = by-test (eqb (s .kind) 3)
       (λ e. older-run s m e rests)
-      (λ e. let r = half-run s m here e rests in rw (let-go-lasts s .kind, e) (record { slot = r .slot; part = r .part }))
+      (λ e. let r = half-run s m here e rests in record { slot = r .slot ∙ newer-feels (leaving s) (unfold leaving open-fields in rw (let-go-lasts s .kind) e); part = r .part })

@@ -33,27 +33,22 @@ use Rattle.plan_rules.proofs.Carried.{Asked, there}
 use Rattle.plan_rules.proofs.Right.{done, is-right, does-no-more, other-holds, each}
 
 -- so many ticks as a cycle has left end it, and the rest do nothing
-ticks-end : (j : ℕ) (s : Slot) → absent s ≡ false → s .left ≤ j → slotAfter 0 (replicate j Tick) s ≡ cond (eqb (s .left) 0) s (ended s)
-unfolding slotAfter
-ticks-end j s a l = by-test (eqb (s .left) 0)
-    (λ e. rw e (idle-slot 0 j s (eqb-true (s .left) 0 e)))
-    (λ e. rw e (runs j s a l (eqb-false (s .left) 0 e)))
-  where
-    runs : (j : ℕ) (s : Slot) → absent s ≡ false → s .left ≤ j → (s .left ≡ 0 → ⊥) → slotAfter 0 (replicate j Tick) s ≡ ended s
-    unfolding slotAfter absent open-memory open-fields older
-    runs zero s a l z = absurd (z (omega arith))
-    runs (suc j) s a l z = by-test (eqb (s .left) 1)
-        (λ e. ap (slotAfter 0 (replicate j Tick)) (last-tick 0 s a (eqb-true (s .left) 1 e)) ∙ idle-slot 0 j (ended s) refl)
-        (λ e. let ne = eqb-false (s .left) 1 e in
-        ap (slotAfter 0 (replicate j Tick)) (other-tick 0 s a ne) ∙ runs j (withLeft (s .left - 1) s) a (omega (arith, l)) (λ f. omega (arith, z, ne, f)))
+ticks-end : (j : ℕ) (s : Slot) → absent s ≡ false → s .left ≤ j → (s .left ≡ 0 → ⊥) → slotAfter 0 (replicate j Tick) s ≡ ended s
+unfolding slotAfter absent open-memory open-fields older
+ticks-end zero s a l z = absurd (z (omega arith))
+ticks-end (suc j) s a l z = by-test (eqb (s .left) 1)
+    (λ e. ap (slotAfter 0 (replicate j Tick)) (last-tick 0 s a (eqb-true (s .left) 1 e)) ∙ idle-slot 0 j (ended s) refl)
+    (λ e. let ne = eqb-false (s .left) 1 e in
+    ap (slotAfter 0 (replicate j Tick)) (other-tick 0 s a ne) ∙ ticks-end j (withLeft (s .left - 1) s) a (omega (arith, l)) (λ f. omega (arith, z, ne, f)))
 
 -- what the five ticks leave permanent: what was so, and what a lasting form's cycle that ran already makes so at its end
 permanent-settled : (s : Slot) → slotInRange s ≡ true → (slotAfter 0 fiveTimes s) .old .permanent ≡ s .old .permanent || running s && s .old .lasting
 unfolding running
 permanent-settled s v = by-test (absent s)
     (λ a. ap (λ (t : Slot). t .old .permanent) (absent-after 0 fiveTimes s a) ∙ rw (eq-eqb (s .left) 0 (absent-left s v a)) (sym (or-false (s .old .permanent))))
-    (λ a. ap (λ (t : Slot). t .old .permanent) (ticks-end 5 s a (let l = short-cycle s v in let f = facts s v .lefts in omega arith))
-    ∙ by-test (eqb (s .left) 0) (λ e. rw e (sym (or-false (s .old .permanent)))) (λ e. rw e (unfold open-memory open-fields in refl)))
+    (λ a. by-test (eqb (s .left) 0)
+    (λ e. ap (λ (t : Slot). t .old .permanent) (idle-slot 0 5 s (eqb-true (s .left) 0 e)) ∙ rw e (sym (or-false (s .old .permanent))))
+    (λ e. ap (λ (t : Slot). t .old .permanent) (ticks-end 5 s a (let l = short-cycle s v in let f = facts s v .lefts in omega arith) (eqb-false (s .left) 0 e)) ∙ rw e (unfold open-memory open-fields in refl)))
 
 -- no lasting form is opened that stays
 module _ (old image : List ℕ) (s : Slot) (p : ℕ) where

@@ -4,9 +4,11 @@
 use Prim.Native.Nat.{ℕ}
 use mathlib.Core.Path.{_≡_, refl}
 use mathlib.Core.Bool.{Bool, true, false}
-use mathlib.Core.List.{List, [], _∷_, map}
+use mathlib.Core.List.{List, [], _∷_, _++_, map}
 use lib.IntN.{ℤ, pos, negsuc}
-use lib.ListN.{set, replicate}
+use lib.ListN.{drop, set, replicate}
+use Rattle.rules.specs.declared.Act.{Act}
+use Rattle.rules.specs.declared.Act.the-variants.{Start, Byte, Stop, Tick}
 use Rattle.rules.specs.declared.Bus.{Bus}
 use Rattle.rules.specs.declared.Event.{Event}
 use Rattle.rules.specs.declared.Slot.{Slot}
@@ -15,7 +17,7 @@ use Rattle.rules.specs.Open.{open-all}
 use Rattle.rules.specs.Fields.{atCounter, inHalf, withLeft, protecting, expecting, latched}
 use Rattle.rules.specs.Events.{refusalNumber}
 use Rattle.rules.specs.Fresh.{noBytes, noMarks, noBlocks, freshSlot, absentSlot}
-use Rattle.rules.specs.Runs.{Bench}
+use Rattle.rules.specs.Runs.{Bench, after, slotAfter}
 use Rattle.script_text.specs.Records.{valueAt, recordAt}
 use Rattle.plan_rules.specs.declared.Planned.{Planned}
 use Rattle.plan_rules.specs.Records as Records
@@ -157,7 +159,11 @@ beside = record { bus = record { slots = inHalf 1 (freshSlot 1 1) ∷ replicate 
 abbrev both : List ℕ
 both = set (set none 0 1) 511 1
 
-pub unharmed : let b : Bus = after (Plan.planEvents 0 beside both) beside .bus in (given beside 0 both 4096, drop 6 (b .slots)) ≡ ((0, 53), freshSlot 3 5 ∷ freshSlot 3 5 ∷ [])
+pub beside-older : given beside 0 both 4096 ≡ (0, 53)
+unfolding open-plan
+beside-older = refl
+
+pub unharmed : drop 6 ((after (Plan.planEvents 0 beside both) beside) .bus .slots) ≡ freshSlot 3 5 ∷ freshSlot 3 5 ∷ []
 unfolding open-plan
 unharmed = refl
 
