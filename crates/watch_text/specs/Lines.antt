@@ -28,10 +28,14 @@ commonNames =
     ∷ "pointer" ∷ "configuration" ∷ "high" ∷ "low" ∷ "critical" ∷ "temperature" ∷ "resolution" ∷ "timeout" ∷ "word" ∷ []
 
 -- and of those that it has by its kind: the EVENT pin's, and an older module's
+unfoldable pub pinNames : List String
+pinNames = "asserted" ∷ "level" ∷ "pending" ∷ []
+
+unfoldable pub olderNames : List String
+olderNames = "permanent" ∷ "lasting" ∷ "write-protect" ∷ []
+
 unfoldable pub kindNames : Slot → List String
-kindNames s =
-    cond (sensing s) ("asserted" ∷ "level" ∷ "pending" ∷ [])
-    (cond (older s) ("permanent" ∷ "lasting" ∷ "write-protect" ∷ []) [])
+kindNames s = cond (sensing s) pinNames (cond (older s) olderNames [])
 
 unfoldable pub names : Slot → List String
 names s = commonNames ++ kindNames s

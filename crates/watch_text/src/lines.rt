@@ -14,11 +14,11 @@ use rules::Bus;
 use rules::Slot;
 
 // The names of a slot's numbers, as they stand in its line: each behind a space, with a sign behind it for its number to follow. First those that
-// every slot has, then a sensor's and an older module's.
+// every slot has, then the EVENT pin's and an older module's.
 const NAMES: [u8; 483] =
     *b" kind= length= left= half= counter= place= voltage= phase= protection0= protection1= protection2= protection3= coming0= coming1= coming2= coming3= latch0= latch1= latch2= latch3= latch4= latch5= latch6= latch7= latch8= latch9= latch10= latch11= latch12= latch13= latch14= latch15= mark0= mark1= mark2= mark3= mark4= mark5= mark6= mark7= mark8= mark9= mark10= mark11= mark12= mark13= mark14= mark15= pointer= configuration= high= low= critical= temperature= resolution= timeout= word=";
 
-const SENSOR_NAMES: [u8; 26] = *b" asserted= level= pending=";
+const PIN_NAMES: [u8; 26] = *b" asserted= level= pending=";
 
 const OLDER_NAMES: [u8; 35] = *b" permanent= lasting= write-protect=";
 
@@ -65,7 +65,7 @@ fn letter(s: Slot, i: usize) -> u8
         return NAMES[i];
     }
     if s.kind == 2 {
-        return SENSOR_NAMES[i - 483];
+        return PIN_NAMES[i - 483];
     }
     OLDER_NAMES[i - 483]
 }

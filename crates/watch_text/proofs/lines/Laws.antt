@@ -26,7 +26,7 @@ use Rattle.script_text.proofs.letters.Decimal.{decimal-one, digits-most}
 use Rattle.script_text.proofs.letters.Laws.{Put, put-on}
 use Rattle.watch_text.specs.Numbers.{numbersOf}
 use Rattle.watch_text.proofs.numbers.Laws.{countOf}
-use Rattle.watch_text.specs.Lines.{commonNames, kindNames, names, signed, numberText, numberTexts, slotLine, changeLine, changeLinesTo, changeLines, benchLines}
+use Rattle.watch_text.specs.Lines.{commonNames, pinNames, olderNames, kindNames, names, signed, numberText, numberTexts, slotLine, changeLine, changeLinesTo, changeLines, benchLines}
 
 -- how many characters the names have that a slot has by its kind
 abbrev pub kindLetters : ℕ → ℕ
@@ -69,16 +69,14 @@ told-names (name ∷ ss) (n ∷ ns) h l =
     ap (λ (l : List ℕ). 0x20 ∷ l) p
 
 -- THE NAMES OF A SLOT: those of its kind stand behind the others, which have 483 characters
-kind-names : (P : ℕ → List String → Type 0) (s : Slot) → (s .kind ≡ 2 → P 26 ("asserted" ∷ "level" ∷ "pending" ∷ []))
-    → (s .kind ≡ 3 → P 35 ("permanent" ∷ "lasting" ∷ "write-protect" ∷ [])) → P 0 [] → P (kindLetters (s .kind)) (kindNames s)
+kind-names : (P : ℕ → List String → Type 0) (s : Slot) → P 26 pinNames → P 35 olderNames → P 0 [] → P (kindLetters (s .kind)) (kindNames s)
 unfolding kindNames sensing older
 kind-names P s f g h =
-    by-test (eqb (s .kind) 2) (λ e. rw e (f (eqb-true (s .kind) 2 e))) λ e.
-    by-test (eqb (s .kind) 3) (λ o. rw (e, o) (g (eqb-true (s .kind) 3 o))) λ o. rw (e, o) h
+    by-test (eqb (s .kind) 2) (λ e. rw e f) λ e. by-test (eqb (s .kind) 3) (λ o. rw (e, o) g) λ o. rw (e, o) h
 
 letters-of : (s : Slot) → length (signed (kindNames s)) ≡ kindLetters (s .kind)
-unfolding signed quoted
-letters-of s = kind-names (λ n ss. length (signed ss) ≡ n) s (λ e. refl) (λ e. refl) refl
+unfolding signed quoted pinNames olderNames
+letters-of s = kind-names (λ n ss. length (signed ss) ≡ n) s refl refl refl
 
 signed-append : (xs ys : List String) → signed (xs ++ ys) ≡ signed xs ++ signed ys
 unfolding signed
@@ -106,17 +104,37 @@ module _ (s : Slot) where
       sym (ap (λ (l : List ℕ). getD l i 0) parted ∙ sym (ap (λ j. getD (signed commonNames ++ signed (kindNames s)) j 0) e)
       ∙ getD-append-add (signed commonNames) (signed (kindNames s)) (i - 483) 0)
 
-  -- with a number for each of them
-  pub slot-told : (ns : List ℕ) → length ns ≡ countOf (s .kind) → told (signed (names s)) ns ≡ numberTexts (names s) ns
-  slot-told ns l = told-names (names s) ns unsigned (l ∙ sym count)
-    where
-      unsigned : allOf (λ name. allOf (λ c. not (sign c)) (quoted name)) (names s) ≡ true
-      unfolding names commonNames quoted allOf
-      unsigned = kind-names (λ n ss. allOf (λ name. allOf (λ c. not (sign c)) (quoted name)) ss ≡ true) s (λ e. refl) (λ e. refl) refl
+  -- a character of them
+  module _ (i : ℕ) (h : i < length (signed (names s))) (l : 483 ≤ i) where
+    pub pin-letter : s .kind ≡ 2 → (i - 483 < 26) × (getD (signed pinNames) (i - 483) 0 ≡ getD (signed (names s)) i 0)
+    unfolding kindNames sensing
+    pin-letter e =
+        let n : kindLetters (s .kind) ≡ 26 = rw e in
+        let k : pinNames ≡ kindNames s = rw e in
+        (omega (arith, names-length, n), ap (λ ss. getD (signed ss) (i - 483) 0) k ∙ kind-names-at i l)
 
-      count : length (names s) ≡ countOf (s .kind)
-      unfolding names commonNames kindNames sensing older
-      count = by-test (eqb (s .kind) 2) (λ e. rw e) λ e. by-test (eqb (s .kind) 3) (λ o. rw (e, o)) λ o. rw (e, o)
+    pub older-letter : (s .kind ≡ 2 → ⊥) → (i - 483 < 35) × (getD (signed olderNames) (i - 483) 0 ≡ getD (signed (names s)) i 0)
+    unfolding kindNames sensing older
+    older-letter e =
+        let f : eqb (s .kind) 2 ≡ false = ne-eqb (s .kind) 2 e in
+        by-test (eqb (s .kind) 3)
+        (λ o.
+        let n : kindLetters (s .kind) ≡ 35 = rw (f, o) in
+        let k : olderNames ≡ kindNames s = rw (f, o) in
+        (omega (arith, names-length, n), ap (λ ss. getD (signed ss) (i - 483) 0) k ∙ kind-names-at i l))
+        (λ o. let n : kindLetters (s .kind) ≡ 0 = rw (f, o) in absurd (omega (arith, names-length, n)))
+
+  -- with a number for each of them
+  unsigned : allOf (λ name. allOf (λ c. not (sign c)) (quoted name)) (names s) ≡ true
+  unfolding names commonNames pinNames olderNames quoted allOf
+  unsigned = kind-names (λ n ss. allOf (λ name. allOf (λ c. not (sign c)) (quoted name)) ss ≡ true) s refl refl refl
+
+  as-many : length (names s) ≡ countOf (s .kind)
+  unfolding names commonNames pinNames olderNames kindNames sensing older
+  as-many = by-test (eqb (s .kind) 2) (λ e. rw e) λ e. by-test (eqb (s .kind) 3) (λ o. rw (e, o)) λ o. rw (e, o)
+
+  pub slot-told : (ns : List ℕ) → length ns ≡ countOf (s .kind) → told (signed (names s)) ns ≡ numberTexts (names s) ns
+  slot-told ns l = told-names (names s) ns unsigned (l ∙ sym as-many)
 
 -- the first i characters of a text are put, with the first k numbers behind their signs
 pub record Telling (t ns from₀ : List ℕ) (from i k at : ℕ) (out : List ℕ) : Type 0 where

@@ -74,9 +74,19 @@ module _ (s : Slot) where
   unfolding kindNumbers sensing older
   older-has e = rw (e)
 
-  pub other-has : (s .kind ≡ 2 → ⊥) → (s .kind ≡ 3 → ⊥) → kindNumbers s ≡ []
+  other-has : (s .kind ≡ 2 → ⊥) → (s .kind ≡ 3 → ⊥) → kindNumbers s ≡ []
   unfolding kindNumbers sensing older
   other-has e f = rw (ne-eqb (s .kind) 2 e, ne-eqb (s .kind) 3 f)
+
+  -- the number at a place of them, as the code has it
+  pub sensing-at : (k : ℕ) (all : List ℕ) → s .kind ≡ 2 → all ≡ pinNumbers (s .sensor) → getD all k 0 ≡ getD (kindNumbers s) k 0
+  sensing-at k all e f = ap (λ (l : List ℕ). getD l k 0) (f ∙ sym (sensing-has e))
+
+  pub older-at : (k : ℕ) (all : List ℕ) → s .kind ≡ 3 → all ≡ olderNumbers (s .old) → getD all k 0 ≡ getD (kindNumbers s) k 0
+  older-at k all e f = ap (λ (l : List ℕ). getD l k 0) (f ∙ sym (older-has e))
+
+  pub other-at : (k : ℕ) → (s .kind ≡ 2 → ⊥) → (s .kind ≡ 3 → ⊥) → 0 ≡ getD (kindNumbers s) k 0
+  other-at k e f = ap (λ (l : List ℕ). getD l k 0) (sym (other-has e f))
 
   pub kind-length : length (kindNumbers s) ≡ kindCount (s .kind)
   unfolding kindNumbers sensing older
@@ -167,7 +177,7 @@ module _ (s : Slot) (k : ℕ) where
 pub numbers-length : (s : Slot) → Sized s → length (numbersOf s) ≡ countOf (s .kind)
 unfolding numbersOf
 numbers-length s z =
-    simp (length-append, length-map) (rw (plain-length s, sensor-length (s .sensor), kind-length s, z .0, z .1, z .2, z .3))
+    simp (length-append, length-map) (rw (plain-length s, sensor-length (s .sensor), kind-length s, z .0, z .1, z .2, z .3) (omega arith))
 
 -- the numbers of a slot with noughts behind them, which are 60 whatever its kind: what the code looks at, one by one
 pub sixty : List ℕ → List ℕ

@@ -13,4 +13,4 @@ named-spec =
     (tie.spec
     (λ c. (sym (names-length _ ∙ rw (eq-eqb _ 2 (c .if1 .taken))), omega arith))
     (λ c. (sym (names-length _ ∙ rw (c .if2 .taken)), omega arith))
-    (λ c. (sym (names-length _ ∙ rw (ne-eqb _ 2 (c .before .if1 .left), ne-eqb _ 3 (c .if2 .left))), omega arith)))
+    (λ c. (sym (names-length _ ∙ rw (ne-eqb _ 2 (c .before .before .if1 .left), ne-eqb _ 3 (c .if2 .left))), omega arith)))
