@@ -64,9 +64,9 @@ in-range-quiet s h e = off (s .sensor .pending) (sensing s) _ h e
     off true false c h e = absurd (false≢true h)
     off false b c h e = refl
 
--- nor does a slot that is no older module say what only an older module has: setup leaves that off, and no event sets it
-abbrev pub Bare : Slot → Type 0
-Bare s = older s ≡ false → s .old ≡ freshOlder
+-- nor does a slot that is no older module say what only those have: no run from a setup brings it about (runs, FromSetup/Plain.newer)
+abbrev pub Newer : Slot → Type 0
+Newer s = older s ≡ false → s .old ≡ freshOlder
 
 module _ (s t : Slot) (y : Sized s) (z : Sized t) (e : numbersOf s ≡ numbersOf t) where
   at : (k : ℕ) → getD (numbersOf s) k 0 ≡ getD (numbersOf t) k 0
@@ -102,7 +102,7 @@ module _ (s t : Slot) (y : Sized s) (z : Sized t) (e : numbersOf s ≡ numbersOf
       bit-back _ _ (ap (λ (l : List ℕ). getD l 2 0) (sym (sensing-has s k) ∙ by-kind ∙ sensing-has t (sym kinds ∙ k))))
       (λ e. q e ∙ sym (r (ap (λ n. eqb n 2) (sym kinds) ∙ e)))
 
-  olds : Bare s → Bare t → s .old ≡ t .old
+  olds : Newer s → Newer t → s .old ≡ t .old
   unfolding older olderNumbers
   olds q r =
       by-test (older s)
@@ -153,7 +153,7 @@ module _ (s t : Slot) (y : Sized s) (z : Sized t) (e : numbersOf s ≡ numbersOf
 
   -- EVERY NUMBER IS TOLD: two slots that are told alike, with nothing pending where there is no sensor and nothing of an older
   -- module's in another, are the same slot
-  pub numbers-decide : Quiet s → Quiet t → Bare s → Bare t → s ≡ t
+  pub numbers-decide : Quiet s → Quiet t → Newer s → Newer t → s ≡ t
   unfolding plainNumbers
   numbers-decide q r u w =
       let p : s .protection ≡ t .protection = bits 8 4 (s .protection) (t .protection) (y .0) (z .0) (λ k h. protection-at s (8 + k) y (omega arith) (omega arith)) (λ k h. protection-at t (8 + k) z (omega arith) (omega arith)) in
