@@ -348,7 +348,7 @@ static int a_register_value(int n, int which)
         if (one_in(6)) value |= 0x0040;
         if (one_in(locks(n) || value & 0x00C0 ? 2 : 6)) value |= 0x0100;
     } else if (which >= 2 && which <= 4) {
-        if (one_in(4))
+        if (one_in(which == 4 ? 3 : 4))
             value = ONE_OF(ends);
         else if (one_in(4))
             value = between(-160, 500) * 4;
@@ -1075,7 +1075,7 @@ static void move_pin(int n)
 
     insert(at, WRITE_PROTECT, n, on);
     if (below(3)) {
-        at = between(at + 1, count);
+        at = one_in(2) ? count : between(at + 1, count);
         insert(at, WRITE_PROTECT, n, !on);
     }
 }
@@ -1100,7 +1100,7 @@ static void write_module(int n)
     one_in(8) ? play() : play_as_is();
     if (one_in(3))
         record(WRITE_PROTECT, n, below(2));
-    if (one_in(6))
+    if (one_in(4))
         record(POWER, 0, a_number());
     if (one_in(3))
         is_busy(n);
@@ -1133,7 +1133,7 @@ static void move_voltage(int n)
     int at = between(2, count), on = !voltage[n];
 
     insert(at, VOLTAGE, n, on);
-    if (below(3)) {
+    if (one_in(2)) {
         at = between(at + 1, count);
         insert(at, VOLTAGE, n, !on);
     }
@@ -1207,10 +1207,12 @@ static void refuse(int n)
 {
     static const int outside[] = { -1, -1, 2, 256, 257, -32768, 32767 };
 
-    if (one_in(3))
-        record(one_in(4) ? VOLTAGE : WRITE_PROTECT, n + 8, below(2));
-    else
-        record(one_in(3) ? TEMPERATURE : one_in(4) ? VOLTAGE : WRITE_PROTECT, n, ONE_OF(outside));
+    switch (below(6)) {
+    case 0: record(POWER, 0, a_wrong_number()); break;
+    case 1: record(TEMPERATURE, n, between(0, 30)); break;
+    case 2: record(one_in(4) ? VOLTAGE : WRITE_PROTECT, n + 8, below(2)); break;
+    default: record(one_in(4) ? VOLTAGE : WRITE_PROTECT, n, ONE_OF(outside)); break;
+    }
     one_in(3) ? ask_module(n) : try_byte(n);
 }
 
