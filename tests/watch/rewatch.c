@@ -36,18 +36,24 @@ static long scripts, events, lines;
 static int within_bits(long value, long bits) { return (value & ~bits) == 0; }
 static int within_ends(long value, long least, long most) { return least <= value && value <= most; }
 
+/* What an older module does not have is 0: another half, other blocks. */
+static int is_none(int at, int kind) { return kind == OLDER && (at == AT_HALF || within_ends(at, AT_PROTECTION + 1, AT_COMING - 1)); }
+
 /* Of a present slot; `slot_length` is its write cycle's. */
-static int is_in_range(int at, long value, long slot_length)
+static int is_in_range(int at, long value, int kind, long slot_length)
 {
+    if (is_none(at, kind))
+        return value == 0;
     if (within_ends(at, AT_PROTECTION, AT_LATCH - 1) || within_ends(at, AT_MARK, AT_POINTER - 1))
         return within_ends(value, 0, 1);
     if (within_ends(at, AT_LATCH, AT_MARK - 1))
         return within_ends(value, 0, 255);
     switch (at) {
-    case AT_KIND: return within_ends(value, MEMORY, MEMORY_WITH_SENSOR);
+    case AT_KIND: return within_ends(value, MEMORY, OLDER);
     case AT_LENGTH: return within_ends(value, 1, 5);
     case AT_LEFT: return within_ends(value, 0, slot_length);
     case AT_HALF: case AT_VOLTAGE: case AT_ASSERTED: case AT_LEVEL: case AT_PENDING: return within_ends(value, 0, 1);
+    case AT_PERMANENT: case AT_LASTING: case AT_WRITE_PROTECT: return within_ends(value, 0, 1);
     case AT_COUNTER: return within_ends(value, 0, 255);
     case AT_PLACE: return within_ends(value, 0, 15);
     case AT_PHASE: return within_ends(value, 0, 14);
@@ -116,11 +122,13 @@ static long read_number(int n, const char *name)
 static void read_numbers(int n, long to[NUMBERS])
 {
     memset(to, 0, NUMBERS * sizeof to[0]);
-    for (int i = 0; i < numbers_in(bus[n].kind); i++) {
+    for (int i = 0; i < NUMBERS; i++) {
+        if (!has_number(bus[n].kind, i))
+            continue;
         if (!comes(" ") || !comes(name_of[i]) || !comes("="))
             WRONG("%s, slot %d: \"%s=\" was to come, not \"%.*s\"", where, n, name_of[i], rest_of_line(), at);
         to[i] = read_number(n, name_of[i]);
-        if (!is_in_range(i, to[i], to[AT_LENGTH]))
+        if (!is_in_range(i, to[i], bus[n].kind, to[AT_LENGTH]))
             WRONG("%s, slot %d: %s is out of its range: %ld", where, n, name_of[i], to[i]);
     }
     if (!comes("\n"))
@@ -232,8 +240,9 @@ static size_t bytes_of_changes(long before[SLOTS][NUMBERS])
             continue;
         memcpy(before[n], is, sizeof is);
         many += strlen("0\n");
-        for (int i = 0; i < numbers_in(bus[n].kind); i++)
-            many += (size_t)snprintf(NULL, 0, " %s=%ld", name_of[i], is[i]);
+        for (int i = 0; i < NUMBERS; i++)
+            if (has_number(bus[n].kind, i))
+                many += (size_t)snprintf(NULL, 0, " %s=%ld", name_of[i], is[i]);
     }
     return many;
 }
@@ -291,10 +300,10 @@ static void put_up(const unsigned char *script, size_t many)
 /* Slots of other kinds and lengths, all mixes alike, or all of one kind. */
 static void mix_slots(void)
 {
-    int all = one_in(8) ? below(3) : -1;
+    int all = one_in(8) ? below(4) : -1;
 
     for (int n = 0; n < SLOTS && length >= SETUP; n++) {
-        input[2 * n] = (unsigned char)(all >= 0 ? all : below(3));
+        input[2 * n] = (unsigned char)(all >= 0 ? all : below(4));
         input[2 * n + 1] = (unsigned char)between(1, 5);
     }
     ADD_WHAT(", other slots");
@@ -344,7 +353,7 @@ static void one_script(void)
 static void small_scripts(void)
 {
     static const unsigned char script[SETUP + 14] = {
-        1, 1, 0, 0, 0, 0, 2, 5, 0, 0, 0, 0, 0, 0, 2, 1, START, 0, 0, 0, BYTE, 0, 0, 0xA6, STOP, 0, 0, 0, TICK, 0 };
+        1, 1, 0, 0, 3, 2, 2, 5, 0, 0, 0, 0, 0, 0, 2, 1, START, 0, 0, 0, BYTE, 0, 0, 0xA6, STOP, 0, 0, 0, TICK, 0 };
 
     number = 0;                   /* no run any more */
     for (size_t many = 0; many <= sizeof script; many++) {
@@ -354,7 +363,7 @@ static void small_scripts(void)
     put_up(script, sizeof script);
     try_input(AS_TALK);
     put_up(script, sizeof script);
-    input[0] = 3;
+    input[0] = 4;
     try_input(AS_TALK);
 }
 
