@@ -458,7 +458,7 @@ static void one_run(void)
 
 /* ---- How much of what follows is tried ---------------------------------------------- */
 
-enum { ABOUT_ALL = 101000 };      /* changes of one byte, and cuts */
+enum { ABOUT_ALL = 110000 };      /* changes of one byte, and cuts */
 static long every;                /* one in so many is tried */
 
 /* ---- A bench in every phase --------------------------------------------------------- */
@@ -776,7 +776,7 @@ static void sweep_older(void)
         begin("a small form");
         if (modules + i % 3 > 0)
             put_field(6, bits[i / 3], modules + i % 3 - 1);
-        try_small(modules > 0 || i / 3 < 3);
+        try_small(i / 3 < 3 || (modules > 0 && i % 3 == 1));
     }
     for (int i = 0; modules > 0 && i < 4 * 8; i++) {
         begin("a small form");

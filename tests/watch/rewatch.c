@@ -7,8 +7,8 @@
  *       Each of the scripts DIR/1.script to DIR/COUNT.script is given to the
  *       command line WATCH as it is, with other slots, and cut or with a bad
  *       setup; some in a talk, one record at a time, where the lines of a record
- *       must have come before the next is given.  Then a small script, cut at
- *       every length.
+ *       must have come before the next is given.  Also a small script, cut at
+ *       every length, and all that happens to an older module.
  *
  * What is read: the script's lines, and between them lines of slots.  Those of a
  * record are in ascending order, of present slots, each with all names of its
@@ -367,6 +367,73 @@ static void small_scripts(void)
     try_input(AS_TALK);
 }
 
+/* ---- An older module ---------------------------------------------------------- */
+
+static void add(int kind, int slot, int value)
+{
+    const unsigned char record[4] = { (unsigned char)kind, (unsigned char)slot, 0, (unsigned char)value };
+
+    memcpy(input + length, record, 4);
+    length += 4;
+}
+
+/* What happens to it: s start, p stop, o timeout, t tick, v and u high voltage on
+ * and off, e and d its write-protect pin on and off, r a read, c and x power cycles
+ * with the numbers 0 and 1; l is its own select in a lasting form, w and m are the
+ * control bytes of a memory write and read, and other bytes are in hex. */
+static void add_happening(const char *letters, int n)
+{
+    for (; *letters != 0; letters++)
+        switch (*letters) {
+        case 's': add(START, 0, 0); break;
+        case 'p': add(STOP, 0, 0); break;
+        case 'o': add(TIMEOUT, 0, 0); break;
+        case 't': add(TICK, 0, 0); break;
+        case 'v': add(VOLTAGE, n, 1); break;
+        case 'u': add(VOLTAGE, n, 0); break;
+        case 'e': add(WRITE_PROTECT, n, 1); break;
+        case 'd': add(WRITE_PROTECT, n, 0); break;
+        case 'r': add(READ, 0, 1); break;
+        case 'c': add(POWER, 0, 0); break;
+        case 'x': add(POWER, 0, 1); break;
+        case 'l': add(BYTE, 0, 0x60 + 2 * n); break;
+        case 'w': add(BYTE, 0, 0xA0 + 2 * n); break;
+        case 'm': add(BYTE, 0, 0xA1 + 2 * n); break;
+        default:
+            add(BYTE, 0, (int)strtol((const char[]){ letters[0], letters[1], 0 }, NULL, 16));
+            letters++;
+            break;
+        }
+}
+
+/* The pin, with and without an exchange; lasting forms that are cancelled in every
+ * way, and a page's cycle behind one; protect and clear; and one that lasts, by the
+ * tick or by the power cycle that ends it. */
+static void older_scripts(void)
+{
+    static const char *const happenings[] = {
+        "eedesddp", "esw005Apdsw005A5Ae5Ap", "sw7F5Aepttsmrrp", "sw00p",
+        "sl0000s", "sl0000rp", "sl0000o", "sl000000p", "sl00p", "sl0000epdt", "sl00e00dptcsmp", "sl0000vus62p",
+        "sl0000ps", "sl0000pcsl0000oswF05Aptt", "s6Ep", "s6Cp", "sl", "vs620000ups", "vs620000ptt", "s63p", "usl0000rp",
+        "vs660000ept", "ds660000petd", "vs62p", "vs620000pxusl00op", "vslp" };
+    static const char *const ends[] = { "usl0000ptet", "usl0000vpetts62ps66pudslp", "usl0000pxsw005Ap", "vs620000pttusl0000ptt" };
+
+    for (int i = 0; i < 2 * 4; i++) {
+        int n = below(SLOTS);
+
+        for (int k = 0; k < SLOTS; k++) {
+            input[2 * k] = (unsigned char)(k == n ? OLDER : i < 4 ? ABSENT : between(ABSENT, OLDER));
+            input[2 * k + 1] = 2;
+        }
+        length = SETUP;
+        for (int k = 0; k < (int)(sizeof happenings / sizeof happenings[0]); k++)
+            add_happening(happenings[k], n);
+        add_happening(ends[i % 4], n);
+        SAY_WHAT("all that happens to an older module in slot %d", n);
+        try_input(some_way());
+    }
+}
+
 /* ---- All of it --------------------------------------------------------------- */
 
 int main(int count, char **words)
@@ -384,6 +451,8 @@ int main(int count, char **words)
     watcher = words[4];
     signal(SIGPIPE, SIG_IGN);     /* a program that ends early */
     small_scripts();
+    seed_with(seed);
+    older_scripts();
     for (number = 1; number <= runs; number++) {
         seed_with(seed + (unsigned)number);
         one_script();
