@@ -306,17 +306,36 @@ static void move_six(int where)
     ADD_WHAT(", field 6 before field %d", where);
 }
 
+/* The sensors' field, of which one is left out or put in at slot n. */
+static void change_sensors(int n, int more)
+{
+    static const unsigned char zeros[OF_SENSOR];
+    size_t at = field_at(3) + HEAD;
+
+    for (int i = 0; i < n; i++)
+        at += kind_in_form(i) == MEMORY_WITH_SENSOR ? OF_SENSOR : 0;
+    splice(at, more ? 0 : OF_SENSOR, zeros, more ? OF_SENSOR : 0);
+    bad[field_at(3) + 2] = (unsigned char)(OF_SENSOR * (sensors_in_form() + (more ? 1 : -1)));
+}
+
+/* The memory's field, of which the upper half of slot n is left out or put in. */
+static void change_stored(int n, int more)
+{
+    static const unsigned char upper[SLOT_BYTES / 2] = { 0x5A };
+    size_t half = sizeof upper, now = field_length(1) + (more ? half : -half);
+
+    splice(stored_at(n) + half, more ? 0 : half, upper, more ? half : 0);
+    bad[field_at(1) + 1] = (unsigned char)(now >> 8);
+    bad[field_at(1) + 2] = (unsigned char)now;
+}
+
 /* An older module becomes another slot, or another one an older.  The fields stay
- * as they are, or some of them follow: the memory, the sensors, and tags 5 and 6,
- * from which a form may come that is accepted. */
+ * as they are; or they follow, without tags 5 and 6, from which a form may come
+ * that is accepted. */
 static void change_kind(int n, int follow)
 {
-    static const unsigned char more[SLOT_BYTES] = { 0x5A };
     int from = kind_in_form(n);
     int to = from == OLDER ? between(MEMORY, MEMORY_WITH_SENSOR) : OLDER;
-    size_t half = SLOT_BYTES / 2, sensor = field_at(3) + HEAD;
-    int stored = (int)field_length(1) + bytes_of(to) - bytes_of(from);
-    int sensors = sensors_in_form() + (to == MEMORY_WITH_SENSOR) - (from == MEMORY_WITH_SENSOR);
 
     if (from == ABSENT)
         return;
@@ -324,22 +343,15 @@ static void change_kind(int n, int follow)
     if (!follow)
         return;
     ADD_WHAT(", and its fields");
-    leave_out(6);                 /* the last first, so that places hold */
+    leave_out(6);                 /* the last first, so that the places hold */
     leave_out(5);
-    for (int i = 0; i < n; i++)
-        sensor += kind_in_form(i) == MEMORY_WITH_SENSOR ? OF_SENSOR : 0;
-    if (from == MEMORY_WITH_SENSOR)
-        splice(sensor, OF_SENSOR, NULL, 0);
-    if (to == MEMORY_WITH_SENSOR)
-        splice(sensor, 0, more + 1, OF_SENSOR);
-    bad[field_at(3) + 2] = (unsigned char)(OF_SENSOR * sensors);
+    if (from == MEMORY_WITH_SENSOR || to == MEMORY_WITH_SENSOR)
+        change_sensors(n, to == MEMORY_WITH_SENSOR);
     if (one_in(2)) {
         bad[four_at(n)] &= 1;
         bad[four_at(n) + 1] = 0;
     }
-    splice(stored_at(n) + half, from == OLDER ? 0 : half, more, from == OLDER ? half : 0);
-    bad[field_at(1) + 1] = (unsigned char)(stored >> 8);
-    bad[field_at(1) + 2] = (unsigned char)stored;
+    change_stored(n, from == OLDER);
 }
 
 static void damage_older(void)
