@@ -471,7 +471,8 @@ static const char *const endings[] = {
     "", "s", "sFF", "sn", "sp", "so", "sc", "sw", "sw00", "sw005A", "sw00p", "sw005Ao", "sw005Ap", "sw005Apt", "sw005Aptt",
     "sw005Apc", "sw005As", "sm", "smr", "smn", "smnp", "sm00", "s6C", "s6E", "s6E00", "s6Ep", "s6D", "s63", "s66",
     "vs62", "vs6200", "vs620000", "vs62000000", "vs62u", "vs6200p", "vs620000p", "vs620000pt", "vs620000pst", "vs620000ptt",
-    "vs660000ptt", "sg", "sg0A", "sg01", "sg0107", "sg010700", "sg010700p", "sg01070000", "sk", "skr", "skrr", "skrrp", "sw005Apstt" };
+    "vs600000ptt", "vs680000ptt", "vs6A0000ptt", "vs660000ptt", "sg", "sg0A", "sg01", "sg0107", "sg010700", "sg010700p",
+    "sg01070000", "sk", "skr", "skrr", "skrrp", "sw005Apstt" };
 
 /* Of those with which an EVENT pin has to do; q is the control byte of a sensor
  * write of the next slot, i is h of that slot. */
