@@ -724,6 +724,20 @@ static void sweep_ends(int n)
     }
 }
 
+/* A field, if it is there, under another tag. */
+static void sweep_tag(int tag)
+{
+    static const int others[] = { 0, 4, 5, 6, 7 };
+
+    for (int i = 0; i < 5 && has_tag(tag); i++) {
+        if (others[i] == tag)
+            continue;
+        begin("a small form");
+        change_at(field_at(place_of(tag)), others[i]);
+        try_small(1);
+    }
+}
+
 /* Tag 5, of as many sensors as there are: of every sort of numbers, one too long
  * or too short, left out, twice, with something behind it, before tag 4; and
  * with each of bits 5:0 of a configuration turned over. */
@@ -754,6 +768,7 @@ static void sweep_pending(void)
     begin("a small form");
     leave_out(5);
     try_small(1);
+    sweep_tag(5);
     begin("a small form, its field 5 twice");
     splice(at, 0, good + at, many);
     try_small(1);
@@ -805,6 +820,7 @@ static void sweep_older(void)
     begin("a small form");
     leave_out(6);
     try_small(1);
+    sweep_tag(6);
 }
 
 /* The first bytes of an input. */
