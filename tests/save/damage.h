@@ -318,15 +318,26 @@ static void change_sensors(int n, int more)
     bad[field_at(3) + 2] = (unsigned char)(OF_SENSOR * (sensors_in_form() + (more ? 1 : -1)));
 }
 
-/* The memory's field, of which the upper half of slot n is left out or put in. */
+/* The memory's field, of which the upper half of slot n is left out or put in.  Of
+ * several slots the last comes first, so that the places hold. */
 static void change_stored(int n, int more)
 {
     static const unsigned char upper[SLOT_BYTES / 2] = { 0x5A };
-    size_t half = sizeof upper, now = field_length(1) + (more ? half : -half);
+    size_t half = sizeof upper, head = field_at(1) + 1;
+    size_t now = (size_t)word_at(bad + head) + (more ? half : -half);
 
     splice(stored_at(n) + half, more ? 0 : half, upper, more ? half : 0);
-    bad[field_at(1) + 1] = (unsigned char)(now >> 8);
-    bad[field_at(1) + 2] = (unsigned char)now;
+    bad[head] = (unsigned char)(now >> 8);
+    bad[head + 1] = (unsigned char)now;
+}
+
+/* Every older module with all its 512 bytes. */
+static void store_all(void)
+{
+    for (int n = SLOTS - 1; n >= 0; n--)
+        if (kind_in_form(n) == OLDER)
+            change_stored(n, 1);
+    ADD_WHAT(", 512 bytes of each");
 }
 
 /* An older module becomes another slot, or another one an older.  The fields stay
@@ -360,13 +371,14 @@ static void damage_older(void)
     int modules = in_form(OLDER), where = between(1, 6), n = below(SLOTS);
 
     begin("older modules");
-    switch (below(12)) {
+    switch (below(13)) {
     case 0: put_field(6, none, modules); break;
     case 1: leave_out(6); break;
     case 2: case 3: change_module(); break;
     case 4: case 5: change_kind(n, 1); break;
     case 6: change_kind(n, 0); break;
     case 7: move_six(one_in(2) ? 5 : where); break;
+    case 8: store_all(); break;
     default: change_bits(); break;
     }
 }

@@ -784,7 +784,7 @@ static void sweep_pending(void)
 static void sweep_older(void)
 {
     static const unsigned char bits[][3] = { { 0, 0 }, { 1, 0 }, { 2, 0 }, { 3, 0 }, { 0, 1 }, { 0, 2 }, { 0, 3 }, { 1, 1 }, { 2, 2 },
-                                             { 3, 1 }, { 1, 3 }, { 4, 0 }, { 0, 4 }, { 5, 1 }, { 2, 6 }, { 255, 2 } };
+                                             { 3, 1 }, { 1, 3 }, { 4, 0 }, { 0, 4 }, { 5, 1 }, { 2, 6 }, { 130, 0 }, { 0, 130 }, { 255, 2 } };
     static const int blocks[] = { 0, 1, 2, 3, 4, 8, 9, 16 };
     int modules = in_form(OLDER), sorts = (int)(sizeof bits / sizeof bits[0]);
 
@@ -819,6 +819,9 @@ static void sweep_older(void)
     }
     begin("a small form");
     leave_out(6);
+    try_small(1);
+    begin("a small form");
+    store_all();
     try_small(1);
     sweep_tag(6);
 }
