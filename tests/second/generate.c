@@ -78,8 +78,8 @@ static int any_value(void)
 
 static int any_slot(void)
 {
-    static const int high[] = { 8, 8, 8, 9, 16, 128, 255 };
-    return one_in(3) ? ONE_OF(high) : below(8);
+    static const int high[] = { 8, 8, 8, 8, 8, 9, 16, 128, 255 };
+    return one_in(2) ? ONE_OF(high) : below(8);
 }
 
 /* An exchange is gathered here first, so that it can be disturbed. */
@@ -185,9 +185,9 @@ static void rubbish_at(int at)
     static const int ends[11][4] = {
         [BYTE] = { -1, 0, 255, 256 }, [READ] = { -1, 0, 1, 2 }, [POWER] = { -1, 0, 16, 17 },
         [VOLTAGE] = { -1, 0, 1, 2 }, [TEMPERATURE] = { -641, -640, 2000, 2001 },
-        [WRITE_PROTECT] = { -1, 0, 1, 2 } };
+        [WRITE_PROTECT] = { -1, 1, 2, 256 } };
     int kind = ONE_OF(kinds);
-    int slot = one_in(2) ? any_slot() : kind == WRITE_PROTECT || one_in(4) ? older : with_sensor;
+    int slot = !one_in(3) ? any_slot() : kind == WRITE_PROTECT ? older : with_sensor;
 
     insert(at, kind, slot, kind <= WRITE_PROTECT && one_in(2) ? ends[kind][below(4)] : any_value());
 }
@@ -665,9 +665,10 @@ static void over_critical(int n)
 /* Power or a temperature that is refused, or a timeout. */
 static void leave_alone(int n)
 {
-    switch (below(3)) {
-    case 0: record(POWER, 0, a_wrong_number()); break;
-    case 1: record(TIMEOUT, 0, 0); break;
+    switch (below(5)) {
+    case 0: case 1: record(POWER, 0, a_wrong_number()); break;
+    case 2: record(TIMEOUT, 0, 0); break;
+    case 3: record(TEMPERATURE, one_in(2) ? 8 : n + 8, a_move(n)); break;
     default: record(TEMPERATURE, n, one_in(2) ? -641 : 2001); break;
     }
 }
@@ -1007,9 +1008,9 @@ static int a_0110(int n, int on)
 {
     static const int minded[] = { 0x62, 0x63, 0x66, 0x67 };
 
-    switch (below(5)) {
-    case 0: return 0x60 | below(16);
-    case 1: on = !on;                    /* fall through */
+    switch (below(6)) {
+    case 0: case 1: return 0x60 | below(16);
+    case 2: on = !on;                    /* fall through */
     default: return on ? ONE_OF(minded) : own(n) | below(2);
     }
 }
@@ -1031,23 +1032,25 @@ static void is_busy(int n)
     play_as_is();
 }
 
-/* A 0110 byte of which nothing comes; a read form may have more behind it. */
+/* Some 0110 bytes of which nothing comes; a read form may have more behind it. */
 static void ask_module(int n)
 {
-    int code;
+    for (int many = between(1, 3); many > 0; many--) {
+        int code;
 
-    if (one_in(3))
-        record(VOLTAGE, n, below(2));
-    code = a_0110(n, voltage[n]);
-    add(START, 0);
-    add(BYTE, code);
-    for (int k = code % 2 ? below(4) : one_in(4); k > 0; k--)
-        stray(3);
-    if (below(8))
-        add(STOP, 0);
-    play_as_is();
-    if (code % 2 && one_in(2))
-        is_busy(n);
+        if (one_in(3))
+            record(VOLTAGE, n, below(2));
+        code = a_0110(n, voltage[n]);
+        add(START, 0);
+        add(BYTE, code);
+        for (int k = !one_in(3) ? 0 : code % 2 ? between(1, 3) : 1; k > 0; k--)
+            stray(3);
+        if (one_in(3))
+            add(STOP, 0);
+        play_as_is();
+        if (code % 2 && one_in(4))
+            is_busy(n);
+    }
 }
 
 /* A data byte in the lower half of the 256 or the upper, which a timeout
@@ -1071,7 +1074,7 @@ static void move_pin(int n)
     int at = below(count + 1), on = below(4) != 0;
 
     insert(at, WRITE_PROTECT, n, on);
-    if (one_in(2)) {
+    if (below(3)) {
         at = between(at + 1, count);
         insert(at, WRITE_PROTECT, n, !on);
     }
@@ -1104,20 +1107,22 @@ static void write_module(int n)
     ticks(n);
     if (one_in(2))
         current_read(n);
-    random_read(n, one_in(2) ? place : place & 0xF0, one_in(3) ? 17 : between(1, 4));
+    if (below(3))
+        random_read(n, one_in(2) ? place : place & 0xF0, one_in(6) ? 17 : between(1, 4));
 }
 
 /* What keeps an order, of which the stop is still to come, from its effect: a
- * byte too many or too few, something else instead of the stop, or the pin. */
+ * byte too many or too few, something else before the stop, or the pin. */
 static void hinder(int n)
 {
-    switch (below(8)) {
-    case 0: add(BYTE, below(256)); break;
-    case 1: count--; break;
-    case 2: add(READ, below(2)); break;
-    case 3: add(START, 0); break;
-    case 4: add(TIMEOUT, 0); break;
-    case 5: insert(below(count), WRITE_PROTECT, n, 1); break;
+    switch (below(12)) {
+    case 0: case 1: add(BYTE, below(256)); break;
+    case 2: count--; break;
+    case 3: add(READ, below(2)); break;
+    case 4: add(START, 0); break;
+    case 5: add(TIMEOUT, 0); break;
+    case 6: case 7: add(POWER, one_in(2) ? between(1, 16) : a_number()); break;
+    case 8: insert(below(count), WRITE_PROTECT, n, 1); break;
     default: insert(count, WRITE_PROTECT, n, 1); break;
     }
 }
@@ -1134,34 +1139,38 @@ static void move_voltage(int n)
     }
 }
 
-/* While a cycle of an order runs: the pin, voltage, power. */
+/* While a cycle of an order runs: the pin, voltage, power, which leaves most
+ * lasting forms undone. */
 static void meddle(int n, int lasting)
 {
-    if (one_in(4))
+    if (one_in(3))
         record(WRITE_PROTECT, n, below(4) != 0);
-    if (one_in(4))
+    if (one_in(3))
         record(VOLTAGE, n, !voltage[n]);
-    if (one_in(2))
+    if (one_in(2)) {
+        for (int k = below(3); k > 0; k--)
+            add(TICK, 0);
         is_busy(n);
-    if (one_in(lasting ? 2 : 4))
-        lose_power(one_in(2) ? 0 : one_in(2) ? 1 : a_number());
+    }
+    if (lasting ? below(6) : one_in(4))
+        record(POWER, 0, below(4) ? 0 : one_in(2) ? 1 : a_number());
 }
 
 /* 62h, 66h or the module's own select, with two bytes and a stop.  Protection
  * that lasts ends much, so that this is mostly hindered. */
 static void order_module(int n)
 {
-    int lasting = one_in(3);
-    int hindered = lasting ? below(6) : one_in(5);
+    int lasting = one_in(2);
+    int hindered = lasting ? below(5) < 3 : one_in(5);
 
-    if (one_in(2))
+    if (one_in(4))
         settle();
     set_voltage(n, one_in(12) ? lasting : !lasting);
     set_pin(n, 0);
     send_order(one_in(12) ? 0x60 | below(16) : lasting ? own(n) : one_in(2) ? 0x62 : 0x66);
     if (hindered)
         hinder(n);
-    else if (one_in(4))
+    else if (one_in(3))
         move_pin(n);
     if (one_in(lasting ? 2 : 6))
         move_voltage(n);
@@ -1170,7 +1179,9 @@ static void order_module(int n)
     play_as_is();
     meddle(n, lasting);
     ticks(n);
-    if (one_in(4))
+    if (one_in(2))
+        is_busy(n);
+    if (one_in(6))
         record(POWER, 0, 0);
     if (below(3))
         set_pin(n, 0);
@@ -1191,18 +1202,33 @@ static void mislead(int n)
     random_read(n, a_place(), between(1, 3));
 }
 
+/* An event that is refused, and what it should not have changed. */
+static void refuse(int n)
+{
+    static const int outside[] = { -1, -1, 2, 256, 257, -32768, 32767 };
+
+    if (one_in(3))
+        record(one_in(4) ? VOLTAGE : WRITE_PROTECT, n + 8, below(2));
+    else
+        record(one_in(3) ? TEMPERATURE : one_in(4) ? VOLTAGE : WRITE_PROTECT, n, ONE_OF(outside));
+    one_in(3) ? ask_module(n) : try_byte(n);
+}
+
 /* One thing that an older module minds, or should not. */
 static void touch_module(int n)
 {
-    switch (below(16)) {
+    switch (below(18)) {
     case 0: case 1: case 2: case 3: write_module(n); break;
-    case 4: case 5: case 6: case 7: case 8: order_module(n); break;
-    case 9: case 10: ask_module(n); break;
-    case 11: case 12: try_byte(n); break;
-    case 13: mislead(n); break;
-    case 14: record(one_in(2) ? POWER : TIMEOUT, 0, 0); break;
+    case 4: case 5: case 6: case 7: case 8: case 9: case 10: case 11: order_module(n); break;
+    case 12: ask_module(n); break;
+    case 13: case 14: try_byte(n); break;
+    case 15: mislead(n); break;
+    case 16: refuse(n); break;
     default:
-        record(one_in(2) ? WRITE_PROTECT : one_in(2) ? VOLTAGE : TEMPERATURE, n, below(3));
+        if (one_in(2))
+            record(one_in(2) ? POWER : TIMEOUT, 0, 0);
+        else
+            record(WRITE_PROTECT, n, below(2));
         break;
     }
 }
@@ -1223,15 +1249,27 @@ static void unknown(void)
     static const int codes[] = { 0x64, 0x65, 0x67, 0x6F };
 
     add(START, 0);
-    add(BYTE, one_in(2) ? ONE_OF(codes) : below(256));
+    add(BYTE, one_in(3) ? ONE_OF(codes) : one_in(2) ? below(256) : below(16) << 4 | a_slot() << 1);
     for (int k = below(4); k > 0; k--)
         stray(3);
     add(STOP, 0);
     play();
 }
 
+/* A start, power, and a control byte that comes too late. */
+static void power_behind_start(void)
+{
+    add(START, 0);
+    add(POWER, a_number());
+    add(BYTE, 0xA1 | a_slot() << 1);
+    add(READ, 0);
+    play_as_is();
+}
+
 static void between_exchanges(void)
 {
+    if (one_in(6))
+        power_behind_start();
     for (int k = between(1, 3); k > 0; k--)
         intrude(count);
     play_as_is();
@@ -1239,25 +1277,45 @@ static void between_exchanges(void)
 
 static void rubbish(void)
 {
-    for (int k = between(1, 4); k > 0; k--)
+    for (int k = between(2, 6); k > 0; k--)
         rubbish_at(count);
     play_as_is();
 }
 
 /* ---- The script --------------------------------------------------------- */
 
-/* Each script has a leaning, so that state of one sort builds up in it. */
+/* Each script has a leaning, so that state of one sort builds up in it; a long
+ * one has several, one after the other. */
 enum { MIXED, MEMORY, SENSOR, PROTECTION, OLD };
+
+static int a_leaning(void)
+{
+    static const int leanings[] = { MIXED, MEMORY, SENSOR, SENSOR, SENSOR, PROTECTION, OLD, OLD };
+
+    return ONE_OF(leanings);
+}
+
+/* Another one, or the same; none that the setup has no slots for. */
+static int next_leaning(void)
+{
+    int leaning = a_leaning();
+
+    if (leaning == SENSOR && kind_of[with_sensor] != 2)
+        return MIXED;
+    if (leaning == OLD && kind_of[older] != 3)
+        return MIXED;
+    return leaning;
+}
 
 static void exchange(int leaning)
 {
     static const int shares[5][15] = {
         /* write read current sensor-w sensor-r measure half protect ask unknown between cut-pages cut-order pin module */
-        [MIXED] = { 19, 8, 6, 14, 4, 10, 6, 9, 3, 2, 4, 4, 2, 4, 2 },
-        [MEMORY] = { 39, 14, 10, 2, 1, 2, 9, 3, 2, 2, 3, 7, 1, 0, 2 },
-        [SENSOR] = { 1, 1, 1, 46, 4, 20, 1, 2, 1, 1, 4, 1, 0, 14, 0 },
-        [PROTECTION] = { 22, 5, 4, 2, 1, 2, 8, 29, 9, 2, 4, 2, 5, 0, 2 },
-        [OLD] = { 5, 3, 2, 1, 1, 1, 3, 4, 2, 2, 3, 2, 2, 0, 67 },
+        [MIXED] = { 18, 7, 5, 14, 4, 9, 6, 9, 3, 3, 4, 4, 2, 4, 4 },
+        [MEMORY] = { 38, 14, 9, 2, 1, 2, 9, 3, 2, 3, 3, 7, 1, 0, 2 },
+        [SENSOR] = { 1, 1, 1, 42, 4, 18, 1, 2, 1, 1, 4, 1, 0, 20, 0 },
+        [PROTECTION] = { 21, 5, 4, 2, 1, 1, 8, 28, 9, 3, 4, 2, 5, 0, 4 },
+        [OLD] = { 5, 3, 2, 1, 1, 1, 3, 4, 2, 3, 3, 2, 2, 0, 66 },
     };
     int chosen = below(100);             /* beyond the shares: rubbish */
     int which = 0;
@@ -1301,7 +1359,7 @@ static void exchange(int leaning)
 /* Older modules stand among the others, or alone. */
 static int a_kind(int leaning)
 {
-    if (one_in(leaning == OLD ? 2 : 8))
+    if (one_in(leaning == OLD ? 2 : leaning == SENSOR ? 16 : 8))
         return 3;
     return between(1, 2);
 }
@@ -1311,7 +1369,7 @@ static int a_kind(int leaning)
 static void choose_setup(unsigned char setup[16], int leaning)
 {
     int few = one_in(leaning == OLD ? 2 : 3);
-    int alike = leaning == OLD && one_in(2);
+    int alike = leaning == OLD && one_in(3);
     int found = 0, modules = 0;
 
     favourite[0] = below(8);
@@ -1343,7 +1401,7 @@ static void choose_setup(unsigned char setup[16], int leaning)
 static void spoil(unsigned char setup[16])
 {
     static const int kinds[] = { 4, 4, 5, 128, 255 };
-    static const int lengths[] = { 0, 0, 6, 6, 255 };
+    static const int lengths[] = { 0, 0, 0, 6, 6, 6, 255 };
     int n = below(8);
 
     if (one_in(2)) {
@@ -1356,7 +1414,6 @@ static void spoil(unsigned char setup[16])
 
 int main(int argc, char **argv)
 {
-    static const int leanings[] = { MIXED, MIXED, MEMORY, SENSOR, SENSOR, PROTECTION, OLD, OLD };
     unsigned char setup[16];
     int odd = argc > 3 && strcmp(argv[3], "odd") == 0;
     int oddness, leaning;
@@ -1368,7 +1425,7 @@ int main(int argc, char **argv)
     seed_with(strtoull(argv[1], NULL, 10));
     left = strtol(argv[2], NULL, 10);
     forget();
-    leaning = ONE_OF(leanings);
+    leaning = a_leaning();
     choose_setup(setup, leaning);
     oddness = odd ? below(4) : -1;
     if (oddness == 0 || oddness == 1)
@@ -1385,8 +1442,13 @@ int main(int argc, char **argv)
             record(VOLTAGE, favourite[k], 1);
     if (leaning == SENSOR || one_in(4))
         prime(with_sensor);
-    while (left > 0)
+    for (long since = left; left > 0;) {
         exchange(leaning);
+        if (since - left > 1200) {
+            leaning = next_leaning();
+            since = left;
+        }
+    }
     if (oddness == 3 || oddness == 0)
         fwrite("\1\0\0", 1, (size_t)between(1, 3), stdout);  /* a cut record */
     return 0;
