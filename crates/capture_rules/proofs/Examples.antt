@@ -68,8 +68,8 @@ pub verdicts : map (λ (c : List ℕ × Verdict). verdictOf setup memory (c .0))
 unfolding open-capture
 verdicts = refl
 
--- P9: an older module of length 1 in slot 3. Data bytes get NACK while its write-protect pin is on. Its voltage is off, so 66h is its lasting form, after whose
--- cycle every 0110 byte gets NACK, and which has none with the pin on at the stop; 62h it does not hear. Slot 2 has no such pin.
+-- P9: an older module of length 1 in slot 3. Data bytes get NACK while its write-protect pin is on. Its voltage is off, so 66h is its lasting form, after
+-- whose cycle every 0110 byte gets NACK, and which has none with the pin on at the stop; 62h it does not hear. Slot 2 has no such pin.
 abbrev olderSetup : List Pair
 olderSetup = set setup 3 (record { kind = 3; length = 1 })
 

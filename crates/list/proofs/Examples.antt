@@ -17,13 +17,16 @@ setup = 1 ∷ 1 ∷ replicate 14 0
 abbrev records : List ℕ
 records = (1 ∷ 0 ∷ 0 ∷ 0 ∷ []) ++ (2 ∷ 0 ∷ 0 ∷ 0xA0 ∷ []) ++ (11 ∷ 0 ∷ 0 ∷ 0 ∷ [])
 
--- P9: an older module of length 1 in slot 0, and the write-protect pin: on; a value that is neither 0 nor 1; of a slot that is absent; start, A0h, 00h and a
--- data byte, which gets NACK; off
+-- P9: an older module of length 1 in slot 0, and its write-protect pin: on; a value that is neither 0 nor 1; the pin of a slot that is absent; start,
+-- A0h, 00h and a data byte, which gets NACK; off
 abbrev older : List ℕ
 older = 3 ∷ 1 ∷ replicate 14 0
 
 abbrev pins : List ℕ
-pins = (10 ∷ 0 ∷ 0 ∷ 1 ∷ []) ++ (10 ∷ 0 ∷ 0 ∷ 2 ∷ []) ++ (10 ∷ 1 ∷ 0 ∷ 2 ∷ []) ++ (1 ∷ 0 ∷ 0 ∷ 0 ∷ []) ++ (2 ∷ 0 ∷ 0 ∷ 0xA0 ∷ []) ++ (2 ∷ 0 ∷ 0 ∷ 0 ∷ []) ++ (2 ∷ 0 ∷ 0 ∷ 7 ∷ []) ++ (10 ∷ 0 ∷ 0 ∷ 0 ∷ [])
+pins =
+    (10 ∷ 0 ∷ 0 ∷ 1 ∷ []) ++ (10 ∷ 0 ∷ 0 ∷ 2 ∷ []) ++ (10 ∷ 1 ∷ 0 ∷ 2 ∷ [])
+    ++ (1 ∷ 0 ∷ 0 ∷ 0 ∷ []) ++ (2 ∷ 0 ∷ 0 ∷ 0xA0 ∷ []) ++ (2 ∷ 0 ∷ 0 ∷ 0 ∷ []) ++ (2 ∷ 0 ∷ 0 ∷ 7 ∷ [])
+    ++ (10 ∷ 0 ∷ 0 ∷ 0 ∷ [])
 
 -- "two bytes number of answer places"
 abbrev places : ℕ → List ℕ

@@ -28,7 +28,8 @@ fn kind_of(s: Slot) -> u8
     s.kind
 }
 
-// Row 3: a slot absent or above 7, or one of kind 3. Where it is none of these, what the types say is passed on: the bus has eight slots, and this one a latch and marks of sixteen.
+// Row 3: a slot absent or above 7, or of kind 3. Where it is none of these, what the types say is passed on: the bus has eight slots, and this one a
+// latch and marks of sixteen.
 fn no_such_slot(k: SlotNo, slots: [Slot; 8]) -> bool
     ensures { λ r. ⌜ r ≡ noSuchSlot k (record { slots = slots }) ⌝ }
     ensures { λ r. ⌜ (r ≡ false → SlotTyped (record { slots = slots }) k) ⌝ }

@@ -1,4 +1,4 @@
--- A half selected, at every present slot in no cycle: a start, 6Ch or 6Eh, a stop. A newer slot stands in that half; an older one is left as `feels` has it.
+-- A half selected, at every present slot in no cycle: a start, 6Ch or 6Eh, a stop. A newer slot stands in it; an older one is left as `feels` has it.
 -- Assumes nothing.
 use Prim.Native.Nat.{ℕ, zero, suc, _+_, _*_, _<_}
 use native.Mathlib.Omega.{arith}

@@ -1,17 +1,18 @@
--- Request P9 beside P1: no plan protects a slot for ever. "With it off at the control byte, 0110, the slot's select number and a write bit protects for ever":
--- so 6Ch is that form in slot 6 and 6Eh in slot 7, of an older module whose voltage is off. But "Halves are selected by 6Ch and 6Eh, with no bytes after them
--- before the stop", and a form without its two bytes does nothing.
+-- Request P9 beside P1: no plan protects a slot for ever. "With it off at the control byte, 0110, the slot's select number and a write bit protects
+-- for ever": so 6Ch is that form in slot 6 and 6Eh in slot 7, of an older module whose voltage is off. But "Halves are selected by 6Ch and 6Eh, with no
+-- bytes after them before the stop", and the form without its two bytes does nothing.
 -- Assumes nothing.
 use Prim.Native.Nat.{ℕ, zero, suc, _-_, _<_, _≤_}
 use native.Mathlib.Omega.{arith}
 use mathlib.Core.Path.{_≡_, refl, sym, _∙_, ap, ap₂}
 use mathlib.Core.Bool.{Bool, true, false, not, cond, _&&_, _||_, or-false}
-use mathlib.Core.List.{List}
+use mathlib.Core.List.{List, _++_}
 use lib.Dec.{eqb}
-use lib.ListN.{replicate}
+use lib.ListN.{length, replicate}
 use borrow.Author.Tests.{eqb-true, eqb-false, eq-eqb, ne-eqb}
 use Rattle.proof_lists.specs.Tests.{by-test, cond-cases}
 use Rattle.rules.specs.declared.Act.the-variants.{Tick}
+use Rattle.rules.specs.declared.Event.{Event}
 use Rattle.rules.specs.declared.Phase.the-variants.{Idle}
 use Rattle.rules.specs.declared.Slot.{Slot}
 use Rattle.rules.specs.Modelled.{absent, older, slotCount}
@@ -20,12 +21,15 @@ use Rattle.rules.specs.Fields.{withLeft, toCome}
 use Rattle.rules.specs.Memory.{cancelled, ended}
 use Rattle.rules.specs.Power.{running}
 use Rattle.rules.specs.Refusals.{slotInRange}
-use Rattle.rules.specs.Runs.{Bench, slotAfter}
+use Rattle.rules.specs.Runs.{Bench, after, slotAfter}
 use Rattle.rules.proofs.Document.Cycle.{idle-slot}
 use Rattle.rules.proofs.Document.Exchange.{last-tick, other-tick}
+use Rattle.rules.proofs.Memory.Protection.{number-after}
 use Rattle.rules.proofs.Range.Kept.{facts}
+use Rattle.runs.proofs.Document.Olders.{permanent-never-lost}
 use Rattle.runs.proofs.TwoClerks.Foreign.{absent-after}
-use Rattle.plan_rules.specs.Plan.{settled, slotAt, bytesAt, pageCount, pageHalf, differs, halfBefore}
+use Rattle.runs.proofs.TwoClerks.Joined.{after-joined}
+use Rattle.plan_rules.specs.Plan.{settled, slotAt, bytesAt, planEvents, pageCount, pageHalf, differs, halfBefore}
 use Rattle.plan_rules.specs.Effect.{touched, opens, feels, leaving, rested, feltBefore, ownBefore, otherBefore}
 use Rattle.plan_rules.proofs.Settled.{fiveTimes, settled-slot, slot-ranged, short-cycle, absent-left}
 use Rattle.plan_rules.proofs.LetGo.{let-go-lasts}
@@ -89,11 +93,21 @@ module _ (k : ℕ) (x : Bench) (image : List ℕ) (asked : Asked k x image) (i :
       }
 
   -- where no lasting form's cycle runs, permanent is what was so before
-  pub never-permanent : running (slotAt i x) && (slotAt i x) .old .lasting ≡ false → (slotAt i (done k x image)) .old .permanent ≡ (slotAt i x) .old .permanent
+  pub never-permanent : running (slotAt i x) && (slotAt i x) .old .lasting ≡ false
+      → (slotAt i (done k x image)) .old .permanent ≡ (slotAt i x) .old .permanent
   never-permanent e = spares .from-before ∙ rw e (or-false ((slotAt i x) .old .permanent))
 
--- An older neighbour has no halves. The form that it opened is cancelled, so of one with nothing to come, as every slot that is in no exchange and in no cycle is
--- in a run from setup, the halves leave all as it was.
+  -- and so at every record of the plan on the way, since permanent protection is never lost
+  pub at-no-record : (es fs : List Event) → es ++ fs ≡ planEvents k x image → (slotAt i (after es x)) .old .permanent ≡ true
+      → (slotAt i x) .old .permanent || running (slotAt i x) && (slotAt i x) .old .lasting ≡ true
+  unfolding slotAt
+  at-no-record es fs e p =
+      let in-place : i < length (after es x .bus .slots) = rw (number-after es x) (there k x image asked i l) in
+      sym (spares .from-before) ∙ ap (λ (r : List Event). (slotAt i (after r x)) .old .permanent) (sym e)
+      ∙ ap (λ (y : Bench). (slotAt i y) .old .permanent) (after-joined es fs x) ∙ permanent-never-lost i fs (after es x) in-place p
+
+-- An older neighbour has no halves, and the form that it opened is cancelled. So of one with nothing to come, as every slot has it that is in no exchange
+-- and in no cycle in a run from setup (`runs`: `FromSetup/Reached`), the halves leave all as it was.
 module _ (u : Slot) (is-older : older u ≡ true) (none : u .coming ≡ u .protection) (calm : u .old .lasting ≡ false) where
   nothing-cancelled : cancelled u ≡ u
   unfolding open-memory open-fields

@@ -33,8 +33,8 @@ use Rattle.plan_rules.specs.Effect.{leaving, rested}
 use Rattle.plan_rules.proofs.LetGo.{let-go-lasts}
 use Rattle.plan_rules.proofs.Ran.{Ran, dueFor, dueTo, ran-none, ran-joined, ran-on, ran-begins, ran-ticks}
 
--- what a page can be written to: a present slot, no older module, in no cycle, that stands in the page's half, with its arrays, and the page's block without protection
--- (over the fields, so that a step which replaces others needs no word)
+-- what a page can be written to: a present slot, no older module, in no cycle, that stands in the page's half, with its arrays, and the page's block
+-- without protection (over the fields, so that a step which replaces others needs no word)
 pub record FreeAt (wanted block kind count left half′ : ℕ) (protection : List Bool) (latch : List ℕ) (marks′ : List Bool) : Type 0 where
   pub present : eqb kind 0 ≡ false
   pub newer : eqb kind 3 ≡ false

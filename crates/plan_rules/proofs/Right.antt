@@ -45,8 +45,8 @@ pub record Right (k : ℕ) (x : Bench) (image : List ℕ) : Type 0 where
   pub no-cycle : (i : ℕ) → i < slotCount → (slotAt i (done k x image)) .left ≡ 0
   pub idle : touched (bytesAt k (settled x)) image pageCount ≡ true → (i : ℕ) → i < slotCount → absent (slotAt i x) ≡ false → (slotAt i (done k x image)) .phase ≡ Idle
 
--- what a slot keeps: all but the exchange it stood in, its half and its counter; of the sensor all registers and the pointer; of an older module permanence and
--- the write-protect pin
+-- what a slot keeps: all but the exchange it stood in, its half and its counter; of the sensor all registers and the pointer; of an older module
+-- permanence and the write-protect pin
 pub record Kept (s t : Slot) : Type 0 where
   pub kind : t .kind ≡ s .kind
   pub length : t .length ≡ s .length

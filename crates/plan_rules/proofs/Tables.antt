@@ -14,7 +14,7 @@ use Rattle.rules.specs.declared.Event.{Event}
 use Rattle.rules.specs.declared.Slot.{Slot}
 use Rattle.rules.specs.declared.SlotNo.{SlotNo}
 use Rattle.rules.specs.Open.{open-all}
-use Rattle.rules.specs.Fields.{atCounter, inHalf, withLeft, protecting, expecting, latched}
+use Rattle.rules.specs.Fields.{atCounter, inHalf, withLeft, withVoltage, protecting, expecting, latched}
 use Rattle.rules.specs.Events.{refusalNumber}
 use Rattle.rules.specs.Fresh.{noBytes, noMarks, noBlocks, freshSlot, absentSlot}
 use Rattle.rules.specs.Runs.{Bench, after, slotAfter}
@@ -51,8 +51,8 @@ pub row-1 : map firstRow
 unfolding open-plan
 row-1 = refl
 
--- "a slot absent or above 7 is 3"; P9: "and by P1 for a kind 3 slot": a bus with a memory in slot 0, a sensor in slot 2, an older module in slot 3 and none
--- elsewhere; and one with all eight
+-- "a slot absent or above 7 is 3"; P9: "3 is given [..] by P1 for a kind 3 slot": a bus with a memory in slot 0, a sensor in slot 2, an older module in
+-- slot 3 and none elsewhere; and one with all eight
 abbrev some : Bus
 some = record { slots = freshSlot 1 5 ∷ absentSlot ∷ freshSlot 2 1 ∷ freshSlot 3 1 ∷ replicate 4 absentSlot }
 
@@ -147,14 +147,21 @@ pub after-the-ticks : given (bench protect) 0 last 4096 ∷ given (bench clear) 
 unfolding open-plan
 after-the-ticks = refl
 
--- P9: "by P1 for a kind 3 slot", before 7: an older module whose block is protected, and an image that differs in it
-pub older-refused : given (bench (protecting (set noBlocks 0 true) (freshSlot 3 5))) 0 (set none 0 1) 4096 ∷ given (bench (freshSlot 3 5)) 0 none 4096 ∷ [] ≡ (3, 0) ∷ (3, 0) ∷ []
+-- "by P1 for a kind 3 slot", before 7: an older module whose block is protected, and an image that differs in it; and one with nothing to be written
+abbrev olderProtected : Slot
+olderProtected = protecting (set noBlocks 0 true) (freshSlot 3 5)
+
+pub older-refused : given (bench olderProtected) 0 (set none 0 1) 4096 ∷ given (bench (freshSlot 3 5)) 0 none 4096 ∷ [] ≡ (3, 0) ∷ (3, 0) ∷ []
 unfolding open-plan
 older-refused = refl
 
--- P9: a plan beside older modules in slots 6 and 7, which selects half 1, writes, selects half 0 and writes: both are as they were, and neither is in an exchange
+-- P9: a plan beside older modules in slots 6 and 7, that selects half 0 by 6Ch, writes a page, selects half 1 by 6Eh and writes another: both modules are
+-- as they were
 abbrev beside : Bench
-beside = record { bus = record { slots = inHalf 1 (freshSlot 1 1) ∷ replicate 5 absentSlot ++ freshSlot 3 5 ∷ freshSlot 3 5 ∷ [] }; memory = zeros 4096 }
+beside = record {
+  bus = record { slots = inHalf 1 (freshSlot 1 1) ∷ replicate 5 absentSlot ++ freshSlot 3 5 ∷ freshSlot 3 5 ∷ [] };
+  memory = zeros 4096;
+}
 
 abbrev both : List ℕ
 both = set (set none 0 1) 511 1
@@ -167,17 +174,28 @@ pub unharmed : drop 6 ((after (Plan.planEvents 0 beside both) beside) .bus .slot
 unfolding open-plan
 unharmed = refl
 
--- with two bytes after it the half command would be the lasting form: slot 6 hears 6Ch so, slot 7 6Eh, and neither the other; with its voltage on neither does
+-- With two bytes after it the half command would be the lasting form, of slot 6 by 6Ch and of slot 7 by 6Eh: what is permanent five ticks after a command
+-- with no byte, one, two and three, in slots 5, 6 and 7. With the voltage on it is none.
 abbrev command : List ℕ → ℕ → List Act
 command bytes b = Start ∷ map Byte (b ∷ bytes) ++ Stop ∷ replicate 5 Tick
 
 abbrev permanentAfter : List ℕ → ℕ → ℕ → Slot → Bool
 permanentAfter bytes b n s = (slotAfter n (command bytes b) s) .old .permanent
 
-pub two-bytes : map (λ bytes. map (λ n. map (λ b. permanentAfter bytes b n (freshSlot 3 5)) (0x6C ∷ 0x6E ∷ [])) (5 ∷ 6 ∷ 7 ∷ [])) ([] ∷ (0 ∷ []) ∷ (0 ∷ 0 ∷ []) ∷ (0 ∷ 0 ∷ 0 ∷ []) ∷ [])
-    ≡ replicate 2 (replicate 3 (false ∷ false ∷ [])) ++ ((false ∷ false ∷ []) ∷ (true ∷ false ∷ []) ∷ (false ∷ true ∷ []) ∷ []) ∷ replicate 3 (false ∷ false ∷ []) ∷ []
+abbrev neighbours : Slot → ℕ → List (List Bool)
+neighbours s count = map (λ n. map (λ b. permanentAfter (zeros count) b n s) (0x6C ∷ 0x6E ∷ [])) (5 ∷ 6 ∷ 7 ∷ [])
+
+abbrev nowhere : List (List Bool)
+nowhere = replicate 3 (false ∷ false ∷ [])
+
+pub two-bytes : map (neighbours (freshSlot 3 5)) (0 ∷ 1 ∷ 2 ∷ 3 ∷ [])
+    ≡ nowhere ∷ nowhere ∷ ((false ∷ false ∷ []) ∷ (true ∷ false ∷ []) ∷ (false ∷ true ∷ []) ∷ []) ∷ nowhere ∷ []
 unfolding open-plan slotAfter
 two-bytes = refl
+
+pub voltage-on : neighbours (withVoltage true (freshSlot 3 5)) 2 ≡ nowhere
+unfolding open-plan slotAfter
+voltage-on = refl
 
 -- "kind, slot, value high byte first, two's complement": events as bytes, and read again
 abbrev event : ℕ → ℕ → ℤ → Event
