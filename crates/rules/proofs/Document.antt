@@ -11,4 +11,6 @@ pub mod Joined
 pub mod Flags
 pub mod Reader
 pub mod Looking
+pub mod Older
+pub mod Former
 pub mod Pins

@@ -5,9 +5,9 @@ use mathlib.Core.Bool.{Bool, true, false, not, cond, _&&_, _||_}
 use mathlib.Core.List.{List, [], _∷_, _++_}
 use mathlib.Core.Option.{Option, none, some}
 use lib.Dec.{eqb}
-use lib.IntN.{ℤ}
 use Rattle.proof_lists.specs.Each.{allOf}
 use Rattle.rules.specs.declared.Act.{Act}
+use Rattle.rules.specs.declared.Applied.{Applied}
 use Rattle.rules.specs.declared.Carried.{Carried}
 use Rattle.rules.specs.declared.Carried.the-variants as carries
 use Rattle.rules.specs.declared.Cut.{Cut}
@@ -69,9 +69,8 @@ pub data Gap : Type 0 where
   strayStop : Gap
   timeout : Gap
   tick : Gap
-  voltage : SlotNo → Bool → Gap
   power : Cut → Gap
-  temperature : SlotNo → ℤ → Gap
+  apply : SlotNo → Applied → Gap
 
 pub data Item : Type 0 where
   exchange : List Inside → Item
@@ -88,9 +87,8 @@ gapAct (strayRead more) = Read more
 gapAct strayStop = Stop
 gapAct timeout = Timeout
 gapAct tick = Tick
-gapAct (voltage k on) = Voltage k on
 gapAct (power k) = Power k
-gapAct (temperature k t) = Temperature k t
+gapAct (apply k x) = Apply k x
 
 -- a list of items written out again as a run; `upToStop xs r` is the rest of an exchange, its stop, and then `r`
 unfoldable pub upToStop : List Inside → List Act → List Act
@@ -134,9 +132,8 @@ unfoldable mutual
   itemsOf (Stop ∷ r) = onto (between strayStop ∷_) (itemsOf r)
   itemsOf (Timeout ∷ r) = onto (between timeout ∷_) (itemsOf r)
   itemsOf (Tick ∷ r) = onto (between tick ∷_) (itemsOf r)
-  itemsOf (Voltage k on ∷ r) = onto (between (voltage k on) ∷_) (itemsOf r)
   itemsOf (Power k ∷ r) = onto (between (power k) ∷_) (itemsOf r)
-  itemsOf (Temperature k t ∷ r) = onto (between (temperature k t) ∷_) (itemsOf r)
+  itemsOf (Apply k x ∷ r) = onto (between (apply k x) ∷_) (itemsOf r)
 
   -- inside one
   pub within : List Act → Option Rest
@@ -147,9 +144,8 @@ unfoldable mutual
   within (Stop ∷ r) = onto closed (itemsOf r)
   within (Timeout ∷ r) = none
   within (Tick ∷ r) = none
-  within (Voltage k on ∷ r) = none
   within (Power k ∷ r) = none
-  within (Temperature k t ∷ r) = none
+  within (Apply k x ∷ r) = none
 
 -- the control bytes of an exchange: the first byte after the start and after each start inside; `fresh` says that it is still to come.
 -- "A read before it [..] and there is then no control byte until the next start."
@@ -198,9 +194,8 @@ struckGap s (strayRead m) = false
 struckGap s strayStop = false
 struckGap s timeout = false
 struckGap s tick = false
-struckGap s (voltage k on) = not (eqb (k .0) s)
 struckGap s (power k) = false
-struckGap s (temperature k t) = not (eqb (k .0) s)
+struckGap s (apply k x) = not (eqb (k .0) s)
 
 unfoldable pub struck : ℕ → Item → Bool
 struck s (exchange xs) = toNone (controls true xs) || toOther s (controls true xs)

@@ -1,5 +1,5 @@
 -- Document 01's whole case and its marked bench cases: one table, run on the definitions of the whole bus from setup, under one theorem. Cases of
--- request P3 in the same form: a second table, under another.
+-- requests P3 and P9 in the same form: a second and a third table, under others.
 -- Assumes nothing.
 use Prim.Native.Nat.{ℕ, zero, suc, _%_}
 use mathlib.Core.Path.{_≡_, refl, sym, _∙_, ap₂}
@@ -218,6 +218,46 @@ cuts =
     ∷ inMemory 1 (sent (0xA0 ∷ 0x00 ∷ 0x5A ∷ []) ++ power 17 ∷ tick ∷ []) (acked (0 ∷ 0 ∷ 0 ∷ []) ++ (0x52, 4) ∷ silent 1) ((0, 0x5A) ∷ [])
     ∷ []
 
+-- request P9: slot 0 a memory, slots 1 and 6 older modules
+abbrev pairOf : ℕ → Pair
+pairOf kind = record { kind = kind; length = 1 }
+
+abbrev withOlder : List Event → List Said → List (ℕ × ℕ) → Case
+withOlder run shows bytes = record {
+  setup = pairOf 1 ∷ pairOf 3 ∷ replicate 4 (pairOf 0) ++ pairOf 3 ∷ pairOf 0 ∷ [];
+  memory = blank;
+  run = run;
+  shows = shows;
+  bytes = bytes;
+  bits = [];
+}
+
+abbrev refused : ℕ → Said
+refused n = (0x52, n)
+
+-- one byte to counter c of a slot by its control byte, with the tick that stores it; and so many of its three ACKs
+abbrev stored : ℕ → ℕ → List Event
+stored b c = sent (b ∷ c ∷ 0x5A ∷ []) ++ tick ∷ []
+
+abbrev barred : List Said
+barred = Nothing ∷ Ack ∷ Ack ∷ Nack ∷ silent 2
+
+abbrev olders : List Case
+olders =
+    -- a protect of block 0 that is meant for slot 0 alone is the lasting form of slot 1, whose voltage is off: both are then protected, slot 1 for ever
+    withOlder (highVoltage ∷ command 0x62 ++ stored 0xA0 0x00 ++ stored 0xA2 0x7F ++ stored 0xA2 0x80 ++ command 0x66 ++ stored 0xA0 0x00 ++ stored 0xA2 0x00)
+    (Nothing ∷ commanded ++ barred ++ barred ++ commanded ++ commanded ++ commanded ++ barred) ((0x280, 0x5A) ∷ (0, 0x5A) ∷ [])
+    -- 6Ch with two bytes protects slot 6 for ever; without them, or with one, it does no harm
+    ∷ withOlder (sent (0x6C ∷ []) ++ tick ∷ sent (0x6C ∷ 0 ∷ []) ++ tick ∷ stored 0xAC 0x00 ++ command 0x6C ++ stored 0xAC 0x01)
+    (acked (0 ∷ []) ++ silent 1 ++ acked (0 ∷ 0 ∷ []) ++ silent 1 ++ commanded ++ commanded ++ barred) ((0xC00, 0x5A) ∷ [])
+    -- 6Eh moves slot 0 to half 1, and slot 1, which has none, not: the byte after counter 255 is the one at 0
+    ∷ withOlder (sent (0x6E ∷ []) ++ stored 0xA0 0x00 ++ stored 0xA2 0x00 ++ sent (0xA2 ∷ 0xFF ∷ []) ++ start ∷ byte 0xA3 ∷ more ∷ last ∷ [])
+    (acked (0 ∷ []) ++ commanded ++ commanded ++ acked (0 ∷ 0 ∷ []) ++ Nothing ∷ Ack ∷ Data 0xFF ∷ Data 0x5A ∷ []) ((0x100, 0x5A) ∷ (0x200, 0x5A) ∷ [])
+    -- the pin: "3 is given for kind 10 on a slot not of kind 3"; "the pin's value is 0 or 1, else 4"; and it bars slot 1 alone
+    ∷ withOlder (event 10 0 (pos 1) ∷ event 10 2 (pos 1) ∷ event 10 1 (pos 2) ∷ event 11 1 (pos 1) ∷ event 9 1 (pos 0) ∷ event 10 1 (pos 1) ∷ stored 0xA2 0x00 ++ stored 0xAC 0x00)
+    (refused 3 ∷ refused 3 ∷ refused 4 ∷ refused 2 ∷ refused 3 ∷ Nothing ∷ barred ++ commanded) ((0xC00, 0x5A) ∷ [])
+    ∷ []
+
 -- what the definitions give for a case
 abbrev begun : Case → Bench
 begun c = record { bus = setupOf (c .setup) .bus; memory = c .memory }
@@ -264,12 +304,15 @@ unfolding computed
 got-computed [] = refl
 got-computed (c ∷ cs) = ap₂ _∷_ (sym (done-is (c .run) (begun c) (told (c .bits)))) (got-computed cs)
 
-all-computed : (map computed table ≡ map wanted table) × (map computed cuts ≡ map wanted cuts)
+all-computed : (map computed table ≡ map wanted table) × (map computed cuts ≡ map wanted cuts) × (map computed olders ≡ map wanted olders)
 unfolding open-all letterOf valueOf refusalNumber changed pairedFrom done doneAs computed
-all-computed = (refl, refl)
+all-computed = (refl, refl, refl)
 
 pub marked-cases : map got table ≡ map wanted table
 marked-cases = got-computed table ∙ all-computed .0
 
 pub cut-cases : map got cuts ≡ map wanted cuts
 cut-cases = got-computed cuts ∙ all-computed .1
+
+pub older-cases : map got olders ≡ map wanted olders
+older-cases = got-computed olders ∙ all-computed .2

@@ -8,13 +8,14 @@ use mathlib.Core.List.{List, [], _∷_, _++_, map}
 use lib.Dec.{eqb}
 use lib.IntN.{ℤ}
 use lib.ListN.{getD, replicate}
+use Rattle.rules.specs.declared.Applied.{Applied}
 use Rattle.rules.specs.declared.SlotNo.{SlotNo}
 use Rattle.rules.specs.declared.Cut.{Cut}
 use Rattle.rules.specs.Fresh.{absentSlot}
 use Rattle.rules.specs.Refusals.{setupOf}
 use Rattle.rules.specs.Runs.{Bench}
 use Rattle.runs.specs.Exchanges as Exchanges
-use Rattle.runs.specs.Exchanges.{went, flatten, strayByte, strayRead, strayStop, timeout, tick, voltage, power, temperature, struckGap, struck, again, byte, Item, exchange}
+use Rattle.runs.specs.Exchanges.{went, flatten, strayByte, strayRead, strayStop, timeout, tick, power, apply, struckGap, struck, again, byte, Item, exchange}
 use Rattle.rules.specs.Open.{open-all}
 
 unfoldable open-items : Unit {0}
@@ -58,10 +59,10 @@ pub second-control-byte : Reaches 1 calls-two counterAfter [] 0x05 0x00
 unfolding open-items
 second-control-byte = record { kept = refl; done = refl; undone = refl }
 
--- "the pin and temperature events of other slots" are struck out between exchanges, and nothing else: shared events keep their place, and so do
+-- "the pin and temperature events of other slots", P9's pin among them, are struck out between exchanges, and nothing else: shared events keep their place, and so do
 -- stray bytes, reads and stops, for every slot
-pub between-exchanges : (s : ℕ) (k : SlotNo) (on : Bool) (j : Cut) (t : ℤ)
-    → map (struckGap s) (strayByte 0xA0 ∷ strayRead on ∷ strayStop ∷ timeout ∷ tick ∷ power j ∷ voltage k on ∷ temperature k t ∷ [])
-    ≡ false ∷ false ∷ false ∷ false ∷ false ∷ false ∷ not (eqb (k .0) s) ∷ not (eqb (k .0) s) ∷ []
+pub between-exchanges : (s : ℕ) (k : SlotNo) (on : Bool) (j : Cut) (x : Applied)
+    → map (struckGap s) (strayByte 0xA0 ∷ strayRead on ∷ strayStop ∷ timeout ∷ tick ∷ power j ∷ apply k x ∷ [])
+    ≡ false ∷ false ∷ false ∷ false ∷ false ∷ false ∷ not (eqb (k .0) s) ∷ []
 unfolding struckGap
-between-exchanges s k on j t = refl
+between-exchanges s k on j x = refl

@@ -18,13 +18,13 @@ use Rattle.rules.specs.declared.Phase.the-variants.{Idle, Control, Deaf, Memory
 use Rattle.rules.specs.declared.Slot.{Slot}
 use Rattle.rules.specs.Open.{open-fields, open-memory}
 use Rattle.rules.specs.Fresh.{freshSlot, setupSlot, absentSlot, powered}
-use Rattle.rules.specs.Control.{heardOf, acksControl, obeyed, controlled}
-use Rattle.rules.specs.Memory.{guarded, anyMark}
+use Rattle.rules.specs.Control.{heardOf, acksControl, obeyed, controlled, heardBy}
+use Rattle.rules.specs.Memory.{guarded, anyMark, pinOn}
 use Rattle.rules.specs.Power.{powerCut}
 use Rattle.rules.specs.Slot.{commanding, standing, letGo, lost, pointer, firstByte, secondByte, byteIn, readIn, stopIn, switched, presentNext, slotNext}
 use Rattle.rules.specs.Refusals.{setupOf}
 use Rattle.rules.specs.Runs.{after}
-use Rattle.rules.proofs.Run.Cases.{next-cases, heated-cases, let-go-cases}
+use Rattle.rules.proofs.Run.Cases.{next-cases, apply-cases, let-go-cases}
 use Rattle.rules.proofs.Run.Everywhere.{Everywhere, after-everywhere, setup-everywhere}
 
 abbrev pub Sixteen : Slot → Type 0
@@ -53,7 +53,7 @@ module _ (n : ℕ) (s : Slot) (h : Sixteen s) where
   byte-keeps : (p : Phase) (b : ℕ) → Sixteen (byteIn p n b s)
   unfolding byteIn controlled pointer firstByte secondByte lost letGo open-memory open-fields
   byte-keeps Idle b = h
-  byte-keeps Control b = cond-cases Sixteen (acksControl n b s) (λ e. obeyed-keeps (heardOf b)) (λ e. h)
+  byte-keeps Control b = cond-cases Sixteen (acksControl n b s) (λ e. obeyed-keeps (heardBy n b s)) (λ e. h)
   byte-keeps Deaf b = h
   byte-keeps MemoryCounter b = h
   byte-keeps MemoryData b = cond-cases Sixteen (guarded s) (λ e. (refl, refl)) (λ e. (length-set (s .latch) _ b ∙ h .0, length-set (s .marks) _ true ∙ h .1))
@@ -97,7 +97,7 @@ module _ (n : ℕ) (s : Slot) (h : Sixteen s) where
   stop-keeps HalfSelected = h
   stop-keeps CommandAddress = h
   stop-keeps CommandData = h
-  stop-keeps CommandStop = h
+  stop-keeps CommandStop = cond-cases Sixteen (pinOn s) (λ e. h) (λ e. h)
   stop-keeps SensorPointer = h
   stop-keeps SensorHigh = h
   stop-keeps SensorLow = h
@@ -112,10 +112,8 @@ module _ (n : ℕ) (s : Slot) (h : Sixteen s) where
   present-keeps Stop = stop-keeps (standing s)
   present-keeps Timeout = let-go-keeps (standing s)
   present-keeps Tick = cond-cases Sixteen (eqb (s .left) 1) (λ e. (refl, refl)) (λ e. h)
-  present-keeps (Voltage k on) = cond-cases Sixteen (eqb (k .0) n)
-      (λ e. cond-cases Sixteen (commanding (standing s) && s .voltage && not on) (λ f. let-go-keeps (standing s)) (λ f. h)) (λ e. h)
   present-keeps (Power k) = (refl, refl)
-  present-keeps (Temperature k t) = cond-cases Sixteen (eqb (k .0) n) (λ e. heated-cases Sixteen t s h h) (λ e. h)
+  present-keeps (Apply k x) = apply-cases Sixteen s n k x h (λ on. h) (λ on e. let-go-keeps (standing s)) (λ t e. h) (λ on e. h)
 
 pub slot-sixteen : (n : ℕ) (a : Act) (s : Slot) → Sixteen s → Sixteen (slotNext n a s)
 slot-sixteen n a s h = next-cases Sixteen n a s (λ e. h) (λ e. present-keeps n s h a)

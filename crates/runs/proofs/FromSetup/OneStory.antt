@@ -8,20 +8,22 @@ use mathlib.Core.Bool.{Bool, true, false, false≢true}
 use mathlib.Core.List.{List, [], _∷_, _++_}
 use lib.ListN.{set}
 use Rattle.rules.specs.declared.Act.{Act}
-use Rattle.rules.specs.declared.Act.the-variants.{Start, Byte, Stop, Tick, Voltage}
+use Rattle.rules.specs.declared.Act.the-variants.{Start, Byte, Stop, Tick, Apply}
+use Rattle.rules.specs.declared.Applied.the-variants.{Voltage}
 use Rattle.rules.specs.declared.BlockNo.{BlockNo}
 use Rattle.rules.specs.declared.Heard.{Heard}
 use Rattle.rules.specs.declared.Phase.{Phase}
 use Rattle.rules.specs.declared.Phase.the-variants.{Idle, Control, Deaf, MemoryData, CommandStop}
 use Rattle.rules.specs.declared.Slot.{Slot}
 use Rattle.rules.specs.Open.{open-all}
-use Rattle.rules.specs.Fresh.{freshSlot, freshSensor}
-use Rattle.rules.specs.Control.{heardOf}
+use Rattle.rules.specs.Fresh.{freshSlot, freshSensor, freshOlder}
+use Rattle.rules.specs.Control.{heardOf, heardBy}
 use Rattle.rules.specs.Slot.{commanding, taking, standing, slotNext}
 use Rattle.rules.specs.Runs.{slotAfter}
+use Rattle.runs.proofs.FromSetup.Lasting.{fresh-lasts}
 use Rattle.runs.proofs.FromSetup.Reached.{rests, Reach, some}
 use Rattle.runs.proofs.FromSetup.Together.{ticks-outside, outside-not}
-use Rattle.runs.proofs.FromSetup.Story.{Commanded, Cycling, Throughout, Asks, protect, clear, Asked, CommandBegun, PageBegun, run-reach, stands-outside}
+use Rattle.runs.proofs.FromSetup.Story.{Commanded, Cycling, Throughout, Asks, protect, clear, lasting, Asked, CommandBegun, PageBegun, run-reach, stands-outside}
 
 -- what holds throughout a run holds after each beginning of it
 throughout-at : (P : Slot → Type 0) (n : ℕ) (r q : List Act) (s : Slot) → Throughout P n (r ++ q) s → P (slotAfter n r s)
@@ -65,6 +67,11 @@ asks-one (protect k p) (protect j o) e f = let same : k ≡ j = cc in ap₂ (λ 
 asks-one (protect k p) (clear o) e f = cc
 asks-one (clear p) (protect j o) e f = cc
 asks-one (clear p) (clear o) e f = refl
+asks-one (protect k p) (lasting o) e f = cc
+asks-one (clear p) (lasting o) e f = cc
+asks-one (lasting p) (protect j o) e f = cc
+asks-one (lasting p) (clear o) e f = cc
+asks-one (lasting p) (lasting o) e f = ap (λ (x : List Bool). set x 0 true) f
 
 -- in an exchange no cycle runs
 in-exchange : (f : Phase → Bool) → f Idle ≡ false → f Deaf ≡ false → f Control ≡ false → (s : Slot) → Reach s → f (standing s) ≡ true → Cycling s → ⊥
@@ -87,7 +94,7 @@ module _ (n : ℕ) (s₀ : Slot) where
       let place : h .earlier ≡ g .earlier = one-byte e h g in
       let act : Byte (h .byte) ≡ Byte (g .byte) = same-act (h .earlier) (g .earlier) _ _ (h .later) (g .later) place (sym (h .parts) ∙ e ∙ g .parts) in
       let byte : h .byte ≡ g .byte = cc in
-      asks-one (h .asks) (g .asks) (ap heardOf byte) (ap (λ (r : List Act). (at r) .protection) place)
+      asks-one (h .asks) (g .asks) (ap₂ (λ (b : ℕ) (r : List Act). heardBy n b (at r)) byte place) (ap (λ (r : List Act). (at r) .protection) place)
 
   module _ (reach : Reach s₀) where
     -- The command's cycle that runs at a run's end: one stop began it, one byte began the command, and it brings one protection.
@@ -114,7 +121,7 @@ abbrev command : ℕ → List Act
 command b = Start ∷ Byte b ∷ Byte 0x00 ∷ Byte 0x00 ∷ []
 
 abbrev first : List Act
-first = Voltage (record { 0 = 0 }) true ∷ command 0x62 ++ Stop ∷ Tick ∷ Tick ∷ []
+first = Apply (record { 0 = 0 }) (Voltage true) ∷ command 0x62 ++ Stop ∷ Tick ∷ Tick ∷ []
 
 abbrev run : List Act
 run = first ++ command 0x68 ++ Stop ∷ Tick ∷ []
@@ -145,8 +152,8 @@ second = record {
 
 -- and no other: not that of the first, whose cycle ended in between.
 memory-reach : Reach (freshSlot 1 2)
-unfolding freshSlot freshSensor
-memory-reach = some (λ e. omega arith) (λ e. omega arith) (rests (record { no-ticks = refl; no-bytes = refl; no-marks = refl; steady = refl; no-place = refl; no-word = refl }))
+unfolding freshSlot freshSensor freshOlder
+memory-reach = some (λ e. omega arith) (λ e. omega arith) (rests (record { no-ticks = refl; no-bytes = refl; no-marks = refl; steady = refl; no-place = refl; no-word = refl })) (fresh-lasts 1 2)
 
 pub only-second : (q : List Bool) (h : CommandBegun 0 (freshSlot 1 2) run q)
     → (h .earlier ≡ first ++ command 0x68) × (h .asked .earlier ≡ first ++ Start ∷ []) × (q ≡ bothBlocks)

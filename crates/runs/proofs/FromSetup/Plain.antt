@@ -1,5 +1,5 @@
--- Two more things that hold of every slot after any run from setup: its protection speaks of four blocks, and without a sensor its registers are fresh.
--- Every act keeps both.
+-- More that holds of every slot after any run from setup: its protection speaks of four blocks, without a sensor its registers are fresh, and of a slot that
+-- is no older module (P9) nothing is permanent and no pin is on. Every act keeps it.
 -- Assumes nothing.
 use Prim.Native.Nat.{ℕ}
 use mathlib.Core.Path.{_≡_, refl, sym, _∙_, ap}
@@ -18,18 +18,19 @@ use Rattle.rules.specs.declared.Pair.{Pair}
 use Rattle.rules.specs.declared.Phase.{Phase}
 use Rattle.rules.specs.declared.Phase.the-variants.{Idle, Control, Deaf, MemoryCounter, MemoryData, MemoryRead, HalfSelected, CommandAddress, CommandData, CommandStop, SensorPointer, SensorHigh, SensorLow, SensorReadHigh, SensorReadLow}
 use Rattle.rules.specs.declared.Slot.{Slot}
-use Rattle.rules.specs.Modelled.{absent, sensing}
+use Rattle.rules.specs.Modelled.{absent, sensing, older}
 use Rattle.rules.specs.Open.{open-fields, open-memory}
 use Rattle.rules.specs.Fresh.{freshSensor, freshSlot, setupSlot, absentSlot, powered}
-use Rattle.rules.specs.Control.{heardOf, acksHeard, acksControl, obeyed, controlled}
-use Rattle.rules.specs.Memory.{guarded, anyMark}
+use Rattle.rules.specs.Control.{heardOf, acksHeard, acksControl, obeyed, controlled, heardBy}
+use Rattle.rules.specs.Memory.{guarded, anyMark, brought, pinOn}
 use Rattle.rules.specs.Power.{powerCut}
 use Rattle.rules.specs.Slot.{withSensorIn, commanding, taking, standing, letGo, lost, byteIn, readIn, stopIn, switched, heated, presentNext, slotNext}
 use Rattle.rules.specs.Refusals.{setupOf}
 use Rattle.rules.specs.Runs.{after}
-use Rattle.rules.proofs.Memory.Protection.{Decided, asBefore, asStands, byProtect, byClear, protection-next, coming-next, kind-next}
+use Rattle.rules.proofs.Memory.Protection.{Decided, asBefore, asStands, byProtect, byClear, byLasting, protection-next, coming-next, kind-next}
 use Rattle.rules.proofs.Memory.Stored.{finishes}
-use Rattle.rules.proofs.Run.Cases.{next-cases}
+use Rattle.rules.proofs.Run.Cases.{next-cases, apply-cases}
+use Rattle.runs.proofs.FromSetup.Lasting.{Newer, slot-newer, fresh-newer}
 use Rattle.rules.proofs.Run.Everywhere.{Everywhere, after-everywhere, setup-everywhere}
 
 -- "four blocks": those that are protected, and those that will be
@@ -37,16 +38,21 @@ pub record FourBlocks (s : Slot) : Type 0 where
   pub stands : length (s .protection) ≡ 4
   pub comes : length (s .coming) ≡ 4
 
-four-coming : {n : ℕ} {a : Act} {s : Slot} {stands comes : List Bool} → FourBlocks s → length stands ≡ 4 → Decided n a s stands comes → length comes ≡ 4
-four-coming h l (asBefore e) = ap length e ∙ h .comes
-four-coming h l (asStands e) = ap length e ∙ l
-four-coming {s = s} h l (byProtect b k e p a f g) = ap length g ∙ length-set (s .protection) (k .0) true ∙ h .stands
-four-coming h l (byClear b e p a f g) = ap length g
+four-coming : {n : ℕ} {a : Act} {s : Slot} {stands comes : List Bool} {lasts : Bool} → FourBlocks s → length stands ≡ 4 → Decided n a s stands comes lasts → length comes ≡ 4
+four-coming h l (asBefore e _) = ap length e ∙ h .comes
+four-coming h l (asStands e _) = ap length e ∙ l
+four-coming {s = s} h l (byProtect b k e p a f g _) = ap length g ∙ length-set (s .protection) (k .0) true ∙ h .stands
+four-coming h l (byClear b e p a f g _) = ap length g
+four-coming {s = s} h l (byLasting b e p a f g _) = ap length g ∙ length-set (s .protection) 0 true ∙ h .stands
+
+four-brought : (s : Slot) → FourBlocks s → length (brought s) ≡ 4
+unfolding brought
+four-brought s h = cond-cases (λ (l : List Bool). length l ≡ 4) (older s) (λ e. refl) (λ e. h .comes)
 
 pub slot-blocks : (n : ℕ) (a : Act) (s : Slot) → FourBlocks s → FourBlocks (slotNext n a s)
 slot-blocks n a s h =
     let p : length ((slotNext n a s) .protection) ≡ 4
-    = ap length (protection-next n a s) ∙ cond-cases (λ (l : List Bool). length l ≡ 4) (finishes a s && not (absent s)) (λ e. h .comes) (λ e. h .stands) in
+    = ap length (protection-next n a s) ∙ cond-cases (λ (l : List Bool). length l ≡ 4) (finishes a s && not (absent s)) (λ e. four-brought s h) (λ e. h .stands) in
     record { stands = p; comes = four-coming h p (coming-next n a s) }
 
 pub fresh-blocks : (kind long : ℕ) → FourBlocks (freshSlot kind long)
@@ -89,7 +95,7 @@ module _ (n : ℕ) (s : Slot) (none : sensing s ≡ false) where
   byte-keeps : (p : Phase) (b : ℕ) → withSensorIn p ≡ false → Keeps (byteIn p n b s)
   unfolding byteIn controlled acksControl lost letGo open-memory open-fields
   byte-keeps Idle b e = refl
-  byte-keeps Control b e = cond-cases Keeps (acksControl n b s) (λ a. obeyed-keeps (heardOf b) (and-right (eqb (s .left) 0) (acksHeard (heardOf b) n s) a)) (λ a. refl)
+  byte-keeps Control b e = cond-cases Keeps (acksControl n b s) (λ a. obeyed-keeps (heardBy n b s) (and-right (eqb (s .left) 0) (acksHeard (heardBy n b s) n s) a)) (λ a. refl)
   byte-keeps Deaf b e = refl
   byte-keeps MemoryCounter b e = refl
   byte-keeps MemoryData b e = cond-cases Keeps (guarded s) (λ g. refl) (λ g. refl)
@@ -133,7 +139,7 @@ module _ (n : ℕ) (s : Slot) (none : sensing s ≡ false) where
   stop-keeps HalfSelected e = refl
   stop-keeps CommandAddress e = refl
   stop-keeps CommandData e = refl
-  stop-keeps CommandStop e = refl
+  stop-keeps CommandStop e = cond-cases Keeps (pinOn s) (λ g. refl) (λ g. refl)
   stop-keeps SensorPointer e = absurd (false≢true (sym e))
   stop-keeps SensorHigh e = absurd (false≢true (sym e))
   stop-keeps SensorLow e = absurd (false≢true (sym e))
@@ -141,18 +147,16 @@ module _ (n : ℕ) (s : Slot) (none : sensing s ≡ false) where
   stop-keeps SensorReadLow e = absurd (false≢true (sym e))
 
 present-plain : (n : ℕ) (a : Act) (s : Slot) → sensing s ≡ false → s .sensor ≡ freshSensor → (presentNext n a s) .sensor ≡ freshSensor
-unfolding presentNext heated switched powerCut powered freshSlot lost open-memory open-fields
+unfolding presentNext powerCut powered freshSlot lost open-memory open-fields
 present-plain n Start s e h = let-go-keeps n s e (standing s) (stands-without s e) ∙ h
 present-plain n (Byte b) s e h = byte-keeps n s e (standing s) b (stands-without s e) ∙ h
 present-plain n (Read more) s e h = read-keeps n s e (standing s) more (stands-without s e) ∙ h
 present-plain n Stop s e h = stop-keeps n s e (standing s) (stands-without s e) ∙ h
 present-plain n Timeout s e h = let-go-keeps n s e (standing s) (stands-without s e) ∙ h
 present-plain n Tick s e h = cond-cases (λ (r : Slot). r .sensor ≡ freshSensor) (eqb (s .left) 1) (λ f. h) (λ f. h)
-    (λ f. cond-cases (λ (r : Slot). r .sensor ≡ freshSensor) (commanding (standing s) && s .voltage && not on)
-    (λ f. let-go-keeps n s e (standing s) (stands-without s e) ∙ h) (λ f. h)) (λ f. h)
 present-plain n (Power k) s e h = refl
-present-plain n (Apply k x) s e h = cond-cases (λ (r : Slot). r .sensor ≡ freshSensor) (eqb (k .0) n)
-    (λ f. rw e h) (λ f. h)
+present-plain n (Apply k x) s e h =
+    apply-cases (λ (r : Slot). r .sensor ≡ freshSensor) s n k x h (λ on. h) (λ on f. let-go-keeps n s e (standing s) (stands-without s e) ∙ h) (λ t f. absurd (false≢true (sym e ∙ f))) (λ on f. h)
 
 pub slot-plain : (n : ℕ) (a : Act) (s : Slot) → Plain s → Plain (slotNext n a s)
 unfolding sensing
@@ -160,7 +164,7 @@ slot-plain n a s h e =
     let f : eqb (s .kind) 2 ≡ false = ap (λ (k : ℕ). eqb k 2) (sym (kind-next n a s)) ∙ e in
     next-cases (λ (r : Slot). r .sensor ≡ freshSensor) n a s (λ i. h f) (λ i. present-plain n a s f (h f))
 
--- setup begins with both
+-- setup begins with it
 fresh-plain : (kind long : ℕ) → Plain (freshSlot kind long)
 unfolding freshSlot
 fresh-plain kind long e = refl
@@ -177,3 +181,9 @@ plain ps m es = after-everywhere Plain slot-plain es _ (setup-plain ps)
 
 pub four-blocks : (ps : List Pair) (m : List ℕ) (es : List Event) → Everywhere FourBlocks (after es (record { bus = setupOf ps .bus; memory = m }))
 four-blocks ps m es = after-everywhere FourBlocks slot-blocks es _ (setup-blocks ps)
+
+pub setup-newer : (ps : List Pair) → Every Newer (setupOf ps .bus .slots)
+setup-newer ps = setup-everywhere Newer (λ p g. unfold setupSlot in fresh-newer (p .kind) _) (unfold absentSlot in fresh-newer 0 0) ps
+
+pub newer : (ps : List Pair) (m : List ℕ) (es : List Event) → Everywhere Newer (after es (record { bus = setupOf ps .bus; memory = m }))
+newer ps m es = after-everywhere Newer slot-newer es _ (setup-newer ps)

@@ -12,6 +12,7 @@ use borrow.Author.Tests.{eqb-true, eqb-false, ne-eqb, leb-true, not-false}
 use Rattle.proof_lists.specs.Tests.{cond-cases, by-test, and-left, and-right}
 use Rattle.rules.specs.declared.Act.{Act}
 use Rattle.rules.specs.declared.Act.the-variants.{Start, Byte, Read, Stop, Timeout, Tick, Power, Apply}
+use Rattle.rules.specs.declared.Applied.the-variants.{Voltage, Temperature, WriteProtect}
 use Rattle.rules.specs.declared.Event.{Event}
 use Rattle.rules.specs.declared.Heard.{Heard}
 use Rattle.rules.specs.declared.Heard.the-variants as heard
@@ -20,26 +21,34 @@ use Rattle.rules.specs.declared.Phase.{Phase}
 use Rattle.rules.specs.declared.Phase.the-variants.{Idle, Control, Deaf, MemoryCounter, MemoryData, MemoryRead, HalfSelected, CommandAddress, CommandData, CommandStop, SensorPointer, SensorHigh, SensorLow, SensorReadHigh, SensorReadLow}
 use Rattle.rules.specs.declared.Sensor as sensor
 use Rattle.rules.specs.declared.Slot.{Slot}
-use Rattle.rules.specs.Modelled.{absent, sensing}
+use Rattle.rules.specs.Modelled.{absent, sensing, older}
 use Rattle.rules.specs.Open.{open-fields, open-memory}
 use Rattle.rules.specs.Fields.{inPhase, atCounter, withVoltage, withSensor, holding}
-use Rattle.rules.specs.Fresh.{noBytes, noMarks, freshSlot, setupSlot, absentSlot, powered, freshSensor}
+use Rattle.rules.specs.Fresh.{noBytes, noMarks, freshSlot, setupSlot, absentSlot, powered, freshSensor, freshOlder}
 use Rattle.rules.specs.Pin.{convertedWithPin}
-use Rattle.rules.specs.Control.{acksHeard, acksControl, heardOf, obeyed, controlled, protects}
-use Rattle.rules.specs.Memory.{emptied, ended, cancelled, guarded, latching, fetched, anyMark, ticked}
+use Rattle.rules.specs.Control.{acksHeard, acksControl, heardOf, obeyed, controlled, protects, heardBy}
+use Rattle.rules.specs.Memory.{emptied, ended, cancelled, guarded, latching, fetched, anyMark, ticked, pinOn}
 use Rattle.rules.specs.Power.{powerCut}
-use Rattle.rules.specs.Slot.{withSensorIn, commanding, taking, standing, letGo, lost, pointer, firstByte, secondByte, byteIn, readIn, stopIn, switched, presentNext, slotNext}
+use Rattle.rules.specs.Slot.{withSensorIn, commanding, taking, standing, letGo, lost, pointer, firstByte, secondByte, byteIn, readIn, stopIn, switched, presentNext, slotNext, endures, applied, shielded}
 use Rattle.rules.specs.Refusals.{goodLength, goodPair, setupOf}
 use Rattle.rules.specs.Runs.{after}
 use Rattle.rules.proofs.Document.Cycle.{idle-ticked}
 use Rattle.rules.proofs.Run.Cases.{absent-next, present-next, heated-cases}
 use Rattle.rules.proofs.Memory.Protection.{kind-next, length-next}
 use Rattle.rules.proofs.Registers.Words.{word-fixed}
+use Rattle.runs.proofs.FromSetup.Lasting.{Lasts, forEver, asked-of-older, slot-lasts, fresh-lasts}
 use Rattle.rules.proofs.Run.Everywhere.{Everywhere, after-everywhere, setup-everywhere}
+
+-- what is to come, and what stands: a protection, and whether it will be permanent that was not (P9)
+abbrev pub comingOf : Slot → List Bool × Bool
+comingOf s = (s .coming, s .old .lasting)
+
+abbrev pub standsOf : Slot → List Bool × Bool
+standsOf s = (s .protection, false)
 
 -- Nothing is held: no ticks left, nothing latched, nothing to come that does not stand, no place, no word. (Over the fields, so that a step
 -- which replaces others needs no word.)
-pub record Rests (left : ℕ) (latch : List ℕ) (marks coming protection : List Bool) (place word : ℕ) : Type 0 where
+pub record Rests (left : ℕ) (latch : List ℕ) (marks : List Bool) (coming protection : List Bool × Bool) (place word : ℕ) : Type 0 where
   pub no-ticks : left ≡ 0
   pub no-bytes : latch ≡ noBytes
   pub no-marks : marks ≡ noMarks
@@ -48,33 +57,33 @@ pub record Rests (left : ℕ) (latch : List ℕ) (marks coming protection : List
   pub no-word : word ≡ 0
 
 -- Outside an exchange: nothing is held, or a page's cycle runs with its latched bytes, or a command's cycle with what it will bring.
-pub data Waits (left : ℕ) (latch : List ℕ) (marks coming protection : List Bool) (place word : ℕ) : Type 0 where
+pub data Waits (left : ℕ) (latch : List ℕ) (marks : List Bool) (coming protection : List Bool × Bool) (place word : ℕ) : Type 0 where
   rests : Rests left latch marks coming protection place word → Waits left latch marks coming protection place word
   page : (left ≡ 0 → ⊥) → anyMark marks ≡ true → coming ≡ protection → place ≡ 0 → word ≡ 0 → Waits left latch marks coming protection place word
   command : (left ≡ 0 → ⊥) → latch ≡ noBytes → marks ≡ noMarks → place ≡ 0 → word ≡ 0 → Waits left latch marks coming protection place word
 
 abbrev pub AtRest : Slot → Type 0
-AtRest s = Rests (s .left) (s .latch) (s .marks) (s .coming) (s .protection) (s .place) (s .sensor .word)
+AtRest s = Rests (s .left) (s .latch) (s .marks) (comingOf s) (standsOf s) (s .place) (s .sensor .word)
 
 abbrev pub Waiting : Slot → Type 0
-Waiting s = Waits (s .left) (s .latch) (s .marks) (s .coming) (s .protection) (s .place) (s .sensor .word)
+Waiting s = Waits (s .left) (s .latch) (s .marks) (comingOf s) (standsOf s) (s .place) (s .sensor .word)
 
 -- while data bytes are taken, in a protect or clear, and in an exchange with the sensor
-pub record Takes (left : ℕ) (coming protection : List Bool) (place counter word : ℕ) : Type 0 where
+pub record Takes (left : ℕ) (coming protection : List Bool × Bool) (place counter word : ℕ) : Type 0 where
   pub no-ticks : left ≡ 0
   pub steady : coming ≡ protection
   pub in-step : place ≡ counter % 16
   pub no-word : word ≡ 0
 
-pub record Commands (left : ℕ) (latch : List ℕ) (marks : List Bool) (voltage : Bool) (place word : ℕ) : Type 0 where
+pub record Commands (kind left : ℕ) (latch : List ℕ) (marks : List Bool) (coming : List Bool × Bool) (voltage : Bool) (place word : ℕ) : Type 0 where
   pub no-ticks : left ≡ 0
   pub no-bytes : latch ≡ noBytes
   pub no-marks : marks ≡ noMarks
-  pub high : voltage ≡ true
+  pub high : (eqb kind 3 && coming .1) ≡ false → voltage ≡ true
   pub no-place : place ≡ 0
   pub no-word : word ≡ 0
 
-pub record Senses (kind left : ℕ) (latch : List ℕ) (marks coming protection : List Bool) (place : ℕ) : Type 0 where
+pub record Senses (kind left : ℕ) (latch : List ℕ) (marks : List Bool) (coming protection : List Bool × Bool) (place : ℕ) : Type 0 where
   pub kinds : eqb kind 2 ≡ true
   pub no-ticks : left ≡ 0
   pub no-bytes : latch ≡ noBytes
@@ -83,16 +92,16 @@ pub record Senses (kind left : ℕ) (latch : List ℕ) (marks coming protection 
   pub no-place : place ≡ 0
 
 abbrev pub Taking : Slot → Type 0
-Taking s = Takes (s .left) (s .coming) (s .protection) (s .place) (s .counter) (s .sensor .word)
+Taking s = Takes (s .left) (comingOf s) (standsOf s) (s .place) (s .counter) (s .sensor .word)
 
 abbrev pub Commanding : Slot → Type 0
-Commanding s = Commands (s .left) (s .latch) (s .marks) (s .voltage) (s .place) (s .sensor .word)
+Commanding s = Commands (s .kind) (s .left) (s .latch) (s .marks) (comingOf s) (s .voltage) (s .place) (s .sensor .word)
 
 abbrev pub Sensing : Slot → Type 0
-Sensing s = Senses (s .kind) (s .left) (s .latch) (s .marks) (s .coming) (s .protection) (s .place)
+Sensing s = Senses (s .kind) (s .left) (s .latch) (s .marks) (comingOf s) (standsOf s) (s .place)
 
 -- what a slot holds, by the phase that it is in
-abbrev holdsAt : Phase → ℕ → ℕ → List ℕ → List Bool → List Bool → List Bool → Bool → ℕ → ℕ → ℕ → Type 0
+abbrev holdsAt : Phase → ℕ → ℕ → List ℕ → List Bool → List Bool × Bool → List Bool × Bool → Bool → ℕ → ℕ → ℕ → Type 0
 holdsAt Idle kind left latch marks coming protection voltage place counter word = Waits left latch marks coming protection place word
 holdsAt Control kind left latch marks coming protection voltage place counter word = Waits left latch marks coming protection place word
 holdsAt Deaf kind left latch marks coming protection voltage place counter word = Waits left latch marks coming protection place word
@@ -100,9 +109,9 @@ holdsAt MemoryCounter kind left latch marks coming protection voltage place coun
 holdsAt MemoryData kind left latch marks coming protection voltage place counter word = Takes left coming protection place counter word
 holdsAt MemoryRead kind left latch marks coming protection voltage place counter word = Rests left latch marks coming protection place word
 holdsAt HalfSelected kind left latch marks coming protection voltage place counter word = Rests left latch marks coming protection place word
-holdsAt CommandAddress kind left latch marks coming protection voltage place counter word = Commands left latch marks voltage place word
-holdsAt CommandData kind left latch marks coming protection voltage place counter word = Commands left latch marks voltage place word
-holdsAt CommandStop kind left latch marks coming protection voltage place counter word = Commands left latch marks voltage place word
+holdsAt CommandAddress kind left latch marks coming protection voltage place counter word = Commands kind left latch marks coming voltage place word
+holdsAt CommandData kind left latch marks coming protection voltage place counter word = Commands kind left latch marks coming voltage place word
+holdsAt CommandStop kind left latch marks coming protection voltage place counter word = Commands kind left latch marks coming voltage place word
 holdsAt SensorPointer kind left latch marks coming protection voltage place counter word = Senses kind left latch marks coming protection place × (word ≡ 0)
 holdsAt SensorHigh kind left latch marks coming protection voltage place counter word = Senses kind left latch marks coming protection place × (word ≡ 0)
 holdsAt SensorLow kind left latch marks coming protection voltage place counter word = Senses kind left latch marks coming protection place
@@ -110,15 +119,15 @@ holdsAt SensorReadHigh kind left latch marks coming protection voltage place cou
 holdsAt SensorReadLow kind left latch marks coming protection voltage place counter word = Senses kind left latch marks coming protection place
 
 abbrev pub Holds : Phase → Slot → Type 0
-Holds p s = holdsAt p (s .kind) (s .left) (s .latch) (s .marks) (s .coming) (s .protection) (s .voltage) (s .place) (s .counter) (s .sensor .word)
+Holds p s = holdsAt p (s .kind) (s .left) (s .latch) (s .marks) (comingOf s) (standsOf s) (s .voltage) (s .place) (s .counter) (s .sensor .word)
 
 abbrev Held : Slot → Type 0
 Held s = Holds (s .phase) s
 
--- an absent slot is as setup left it; a present one has a cycle's length, and holds what its phase may
+-- an absent slot is as setup left it; a present one has a cycle's length, and holds what its phase may, an older module's protection its one bit
 pub data Reach (s : Slot) : Type 0 where
   none : s ≡ absentSlot → Reach s
-  some : (s .kind ≡ 0 → ⊥) → (s .length ≡ 0 → ⊥) → Holds (s .phase) s → Reach s
+  some : (s .kind ≡ 0 → ⊥) → (s .length ≡ 0 → ⊥) → Holds (s .phase) s → Lasts s → Reach s
 
 -- outside an exchange: idle, deaf, or before the control byte
 abbrev pub Outside : Phase → Type 0
@@ -178,8 +187,9 @@ releases s h = rests (record { no-ticks = h .no-ticks; no-bytes = h .no-bytes; n
 senses : (s : Slot) → eqb (s .kind) 2 ≡ true → AtRest s → Sensing s
 senses s k r = record { kinds = k; no-ticks = r .no-ticks; no-bytes = r .no-bytes; no-marks = r .no-marks; steady = r .steady; no-place = r .no-place }
 
-commands : (s : Slot) → s .voltage ≡ true → AtRest s → Commanding s
-commands s v r = record { no-ticks = r .no-ticks; no-bytes = r .no-bytes; no-marks = r .no-marks; high = v; no-place = r .no-place; no-word = r .no-word }
+commands : (c : List Bool × Bool) (s : Slot) → ((eqb (s .kind) 3 && c .1) ≡ false → s .voltage ≡ true) → AtRest s
+    → Commands (s .kind) (s .left) (s .latch) (s .marks) c (s .voltage) (s .place) (s .sensor .word)
+commands c s v r = record { no-ticks = r .no-ticks; no-bytes = r .no-bytes; no-marks = r .no-marks; high = v; no-place = r .no-place; no-word = r .no-word }
 
 -- what is let go leaves nothing held, save what a cycle holds
 let-go-waits : (p : Phase) (s : Slot) → Holds p s → Waiting (letGo p s)
@@ -208,25 +218,25 @@ quiet s (page l m c p w) e = absurd (l e)
 quiet s (command l b m p w) e = absurd (l e)
 
 -- the control byte that a slot at rest acknowledges
-obeyed-holds : (h : Heard) (n : ℕ) (s : Slot) → acksHeard h n s ≡ true → AtRest s → Held (obeyed h s)
-unfolding obeyed acksHeard sensing open-fields
-obeyed-holds (heard.Memory k false) n s e r = r
-obeyed-holds (heard.Memory k true) n s e r = r
-obeyed-holds (heard.Sensor k false) n s e r = (senses s (and-right (eqb (k .0) n) (eqb (s .kind) 2) e) r, r .no-word)
-obeyed-holds (heard.Sensor k true) n s e r = senses s (and-right (eqb (k .0) n) (eqb (s .kind) 2) e) r
-obeyed-holds (heard.Protect k) n s e r = commands s (and-left (s .voltage) (not (protects k s)) e) r
-obeyed-holds heard.ClearAll n s e r = commands s e r
-obeyed-holds (heard.ReadProtection k) n s e r = rests r
-obeyed-holds (heard.SelectHalf h) n s e r = r
-obeyed-holds heard.ReadHalf n s e r = rests r
-obeyed-holds heard.ProtectForEver n s e r = rests r
-obeyed-holds heard.Nothing n s e r = rests r
+obeyed-holds : (h : Heard) (n : ℕ) (s : Slot) → acksHeard h n s ≡ true → (forEver h ≡ true → older s ≡ true) → AtRest s → Held (obeyed h s)
+unfolding obeyed acksHeard sensing older open-fields
+obeyed-holds (heard.Memory k false) n s e o r = r
+obeyed-holds (heard.Memory k true) n s e o r = r
+obeyed-holds (heard.Sensor k false) n s e o r = (senses s (and-right (eqb (k .0) n) (eqb (s .kind) 2) e) r, r .no-word)
+obeyed-holds (heard.Sensor k true) n s e o r = senses s (and-right (eqb (k .0) n) (eqb (s .kind) 2) e) r
+obeyed-holds (heard.Protect k) n s e o r = commands _ s (λ f. and-left (s .voltage) (not (protects k s)) e) r
+obeyed-holds heard.ClearAll n s e o r = commands _ s (λ f. e) r
+obeyed-holds (heard.ReadProtection k) n s e o r = rests r
+obeyed-holds (heard.SelectHalf h) n s e o r = r
+obeyed-holds heard.ReadHalf n s e o r = rests r
+obeyed-holds heard.ProtectForEver n s e o r = commands _ s (λ f. absurd (false≢true (sym f ∙ rw (o refl)))) r
+obeyed-holds heard.Nothing n s e o r = rests r
 
 controlled-holds : (n b : ℕ) (s : Slot) → Waiting s → Held (controlled n b s)
 unfolding controlled acksControl open-fields
 controlled-holds n b s w = cond-cases Held (acksControl n b s)
-    (λ e. obeyed-holds (heardOf b) n s (and-right (eqb (s .left) 0) (acksHeard (heardOf b) n s) e)
-    (quiet s w (eqb-true (s .left) 0 (and-left (eqb (s .left) 0) (acksHeard (heardOf b) n s) e)))) (λ e. w)
+    (λ e. obeyed-holds (heardBy n b s) n s (and-right (eqb (s .left) 0) (acksHeard (heardBy n b s) n s) e) (asked-of-older n b s)
+    (quiet s w (eqb-true (s .left) 0 (and-left (eqb (s .left) 0) (acksHeard (heardBy n b s) n s) e)))) (λ e. w)
 
 -- a byte, a read and a stop in each phase
 byte-holds : (p : Phase) (n b : ℕ) (s : Slot) → s .phase ≡ p → Holds p s → Held s → Held (byteIn p n b s)
@@ -277,7 +287,7 @@ stop-holds MemoryRead s l q = rests q
 stop-holds HalfSelected s l q = rests q
 stop-holds CommandAddress s l q = cancels s q
 stop-holds CommandData s l q = cancels s q
-stop-holds CommandStop s l q = command l (q .no-bytes) (q .no-marks) refl (q .no-word)
+stop-holds CommandStop s l q = cond-cases Waiting (pinOn s) (λ e. cancels s q) (λ e. command l (q .no-bytes) (q .no-marks) refl (q .no-word))
 stop-holds SensorPointer s l q = let-go-waits SensorPointer s q
 stop-holds SensorHigh s l q = let-go-waits SensorHigh s q
 stop-holds SensorLow s l q = let-go-waits SensorLow s q
@@ -304,14 +314,23 @@ by-outside P p i d c o = ⊎-elim (λ e. subst P (sym e) i) (λ o. ⊎-elim (λ 
 tick-holds : (p : Phase) (s : Slot) → Holds p s → Holds p (ticked s)
 tick-holds p s h = ⊎-elim (λ o. by-outside (λ q. Holds q s → Holds q (ticked s)) p (tick-waits s) (tick-waits s) (tick-waits s) o h) (λ e. subst (Holds p) (sym (idle-ticked s e)) h) (no-ticks-in p s h)
 
--- high voltage: a command whose voltage goes off is left, so that it is on in those that go on
-still-high : (on : Bool) (s : Slot) → (s .voltage && not on) ≡ false → Commanding s → Commanding (withVoltage on s)
-unfolding withVoltage
-still-high on s e h =
-    let f : not on ≡ false = subst (λ (v : Bool). (v && not on) ≡ false) (h .high) e in
-    record { no-ticks = h .no-ticks; no-bytes = h .no-bytes; no-marks = h .no-marks; high = not-false on f; no-place = h .no-place; no-word = h .no-word }
+-- high voltage: a command whose voltage goes off is left, but the lasting form, so that it is on in the others that go on
+still-high : (on : Bool) (s : Slot) → (s .voltage && not on && not (endures s)) ≡ false → Commanding s → Commanding (withVoltage on s)
+unfolding withVoltage endures older
+still-high on s e h = record {
+  no-ticks = h .no-ticks;
+  no-bytes = h .no-bytes;
+  no-marks = h .no-marks;
+  high = λ g. not-false on (and-true (not on) (subst (λ (l : Bool). (true && not on && not l) ≡ false) g (subst (λ (v : Bool). (v && not on && not (eqb (s .kind) 3 && s .old .lasting)) ≡ false) (h .high g) e)));
+  no-place = h .no-place;
+  no-word = h .no-word;
+}
+  where
+    and-true : (a : Bool) → (a && true) ≡ false → a ≡ false
+    and-true true e = e
+    and-true false e = refl
 
-voltage-holds : (p : Phase) (on : Bool) (s : Slot) → (commanding p && s .voltage && not on) ≡ false → Holds p s → Holds p (withVoltage on s)
+voltage-holds : (p : Phase) (on : Bool) (s : Slot) → (commanding p && s .voltage && not on && not (endures s)) ≡ false → Holds p s → Holds p (withVoltage on s)
 unfolding withVoltage
 voltage-holds Idle on s e h = h
 voltage-holds Control on s e h = h
@@ -330,16 +349,16 @@ voltage-holds SensorReadHigh on s e h = h
 voltage-holds SensorReadLow on s e h = h
 
 switched-holds : (p : Phase) (on : Bool) (s : Slot) → s .phase ≡ p → Holds p s
-    → Held (withVoltage on (cond (commanding p && s .voltage && not on) (lost p s) s))
+    → Held (withVoltage on (cond (commanding p && s .voltage && not on && not (endures s)) (lost p s) s))
 unfolding withVoltage lost inPhase
-switched-holds p on s e h = cond-cases (λ (r : Slot). Held (withVoltage on r)) (commanding p && s .voltage && not on)
+switched-holds p on s e h = cond-cases (λ (r : Slot). Held (withVoltage on r)) (commanding p && s .voltage && not on && not (endures s))
     (λ g. let-go-waits p s h) (λ g. subst (λ (q : Phase). Holds q (withVoltage on s)) (sym e) (voltage-holds p on s g h))
 
 -- a sensor that keeps its word
 worded-holds : (p : Phase) (x : sensor.Sensor) (s : Slot) → x .word ≡ s .sensor .word → Holds p s → Holds p (withSensor x s)
 unfolding withSensor
 worded-holds p x s e h =
-    subst (λ (w : ℕ). holdsAt p (s .kind) (s .left) (s .latch) (s .marks) (s .coming) (s .protection) (s .voltage) (s .place) (s .counter) w) (sym e) h
+    subst (λ (w : ℕ). holdsAt p (s .kind) (s .left) (s .latch) (s .marks) (comingOf s) (standsOf s) (s .voltage) (s .place) (s .counter) w) (sym e) h
 
 -- an exchange with the sensor stands only where there is one
 has-sensor : (p : Phase) (s : Slot) → withSensorIn p ≡ true → Holds p s → sensing s ≡ true
@@ -362,40 +381,41 @@ tick-held s h = by-test (eqb (s .left) 1) (λ e. rw e (rw e at h)) (λ e. rw e (
 
 -- each act, of a present slot whose cycle has a length
 present-holds : (n : ℕ) (a : Act) (s : Slot) → standing s ≡ s .phase → (s .length ≡ 0 → ⊥) → Held s → Held (presentNext n a s)
-unfolding presentNext switched powerCut powered freshSlot freshSensor open-fields
+unfolding presentNext applied switched shielded powerCut powered freshSlot freshSensor open-fields
 present-holds n Start s e l h = subst (λ (p : Phase). Waiting (letGo p s)) (sym e) (let-go-waits (s .phase) s h)
 present-holds n (Byte b) s e l h = subst (λ (p : Phase). Held (byteIn p n b s)) (sym e) (byte-holds (s .phase) n b s refl h h)
 present-holds n (Read more) s e l h = subst (λ (p : Phase). Held (readIn p more s)) (sym e) (read-holds (s .phase) more s h h)
 present-holds n Stop s e l h = subst (λ (p : Phase). Waiting (stopIn p s)) (sym e) (stop-holds (s .phase) s l h)
 present-holds n Timeout s e l h = subst (λ (p : Phase). Waiting (letGo p s)) (sym e) (let-go-waits (s .phase) s h)
 present-holds n Tick s e l h = tick-held s (tick-holds (s .phase) s h)
-present-holds n (Voltage k on) s e l h = cond-cases Held (eqb (k .0) n)
-    (λ f. subst (λ (p : Phase). Held (withVoltage on (cond (commanding p && s .voltage && not on) (lost p s) s))) (sym e) (switched-holds (s .phase) on s refl h)) (λ f. h)
 present-holds n (Power k) s e l h = rests (record { no-ticks = refl; no-bytes = refl; no-marks = refl; steady = refl; no-place = refl; no-word = refl })
-present-holds n (Temperature k t) s e l h = cond-cases Held (eqb (k .0) n) (λ f. heated-cases Held t s (worded-holds (s .phase) (convertedWithPin (s .sensor) t) s (word-fixed (s .sensor) t) h) h) (λ f. h)
+present-holds n (Apply k (Voltage on)) s e l h = cond-cases Held (eqb (k .0) n)
+    (λ f. subst (λ (p : Phase). Held (withVoltage on (cond (commanding p && s .voltage && not on && not (endures s)) (lost p s) s))) (sym e) (switched-holds (s .phase) on s refl h)) (λ f. h)
+present-holds n (Apply k (Temperature t)) s e l h = cond-cases Held (eqb (k .0) n) (λ f. heated-cases Held t s (worded-holds (s .phase) (convertedWithPin (s .sensor) t) s (word-fixed (s .sensor) t) h) h) (λ f. h)
+present-holds n (Apply k (WriteProtect on)) s e l h = cond-cases Held (eqb (k .0) n) (λ f. cond-cases Held (older s) (λ o. h) (λ o. h)) (λ f. h)
 
 -- every act keeps what is reached
 pub slot-reach : (n : ℕ) (a : Act) (s : Slot) → Reach s → Reach (slotNext n a s)
 slot-reach n a s (none e) = none (absent-next n a s (ap absent e ∙ unfold absent absentSlot freshSlot in refl) ∙ e)
-slot-reach n a s (some k l h) =
+slot-reach n a s (some k l h w) =
     let there : absent s ≡ false = unfold absent in ne-eqb (s .kind) 0 k in
     some (λ e. k (sym (kind-next n a s) ∙ e)) (λ e. l (sym (length-next n a s) ∙ e))
-    (subst Held (sym (present-next n a s there)) (present-holds n a s (stands-own s there h) l h))
+    (subst Held (sym (present-next n a s there)) (present-holds n a s (stands-own s there h) l h)) (slot-lasts n a s w)
 
 -- and setup begins with it
 present-lasts : (p : Pair) → goodPair p ≡ true → eqb (p .kind) 0 ≡ false → p .length ≡ 0 → ⊥
 unfolding goodPair goodLength
 present-lasts p g e z =
-    let h = and-right (leb (p .kind) 2) (eqb (p .kind) 0 || (leb 1 (p .length) && leb (p .length) 5)) g in
+    let h = and-right (leb (p .kind) 3) (eqb (p .kind) 0 || (leb 1 (p .length) && leb (p .length) 5)) g in
     let l = leb-true 1 (p .length) (and-left (leb 1 (p .length)) (leb (p .length) 5) (rw e at h)) in
     omega (arith, l)
 
 setup-reach : (p : Pair) → goodPair p ≡ true → Reach (setupSlot p)
-unfolding setupSlot freshSlot freshSensor absentSlot
+unfolding setupSlot freshSlot freshSensor freshOlder absentSlot
 setup-reach p g = by-test (eqb (p .kind) 0)
     (λ e. none (rw (eqb-true (p .kind) 0 e)))
     (λ e. some (eqb-false (p .kind) 0 e) (rw e (present-lasts p g e))
-    (rests (record { no-ticks = refl; no-bytes = refl; no-marks = refl; steady = refl; no-place = refl; no-word = refl })))
+    (rests (record { no-ticks = refl; no-bytes = refl; no-marks = refl; steady = refl; no-place = refl; no-word = refl })) (fresh-lasts (p .kind) _))
 
 -- Every slot, after any run of events from setup.
 pub reached : (ps : List Pair) (m : List ℕ) (es : List Event) → Everywhere Reach (after es (record { bus = setupOf ps .bus; memory = m }))

@@ -21,22 +21,23 @@ use Rattle.rules.specs.declared.Heard.the-variants as heard
 use Rattle.rules.specs.declared.Phase.{Phase}
 use Rattle.rules.specs.declared.Phase.the-variants.{Idle, Control, MemoryData, CommandStop}
 use Rattle.rules.specs.declared.Slot.{Slot}
-use Rattle.rules.specs.Modelled.{absent}
+use Rattle.rules.specs.Modelled.{absent, older}
 use Rattle.rules.specs.Open.{open-fields, open-memory, open-slot}
 use Rattle.rules.specs.Fields.{inPhase, withVoltage}
-use Rattle.rules.specs.Fresh.{noBlocks, noMarks, freshSlot, powered}
-use Rattle.rules.specs.Control.{heardOf, acksHeard, acksControl, controlled}
-use Rattle.rules.specs.Memory.{anyMark}
+use Rattle.rules.specs.Fresh.{noBlocks, noMarks, freshSlot, powered, absentSlot}
+use Rattle.rules.specs.Control.{heardOf, acksHeard, acksControl, controlled, heardBy}
+use Rattle.rules.specs.Memory.{anyMark, pinOn, brought}
 use Rattle.rules.specs.Power.{firstOf, powerCut}
 use Rattle.rules.specs.Slot.{commanding, standing, letGo, lost, byteIn, readIn, stopIn, acksIn, acks, presentNext, slotNext, partNext}
 use Rattle.rules.specs.Runs.{slotAfter}
-use Rattle.rules.proofs.Run.Cases.{next-cases, heated-cases, stands}
+use Rattle.rules.proofs.Run.Cases.{next-cases, apply-cases, stands}
 use Rattle.rules.proofs.Run.Joined.{slots-joined}
 use Rattle.rules.proofs.Memory.First.{first-at}
 use Rattle.rules.proofs.Memory.Stored.{pageStart, storing, finishes, finishes-runs, part-stored, part-still, put-none}
 use Rattle.rules.proofs.Memory.Stored as stored
-use Rattle.rules.proofs.Memory.Protection.{Decided, asBefore, asStands, byProtect, byClear, Cycle, asWas, pageBegins, commandBegins, goesOn, powerEnds, protection-next, coming-next, cycle-next}
-use Rattle.runs.proofs.FromSetup.Reached.{Outside, by-outside, Reach, slot-reach}
+use Rattle.rules.proofs.Memory.Protection.{Decided, asBefore, asStands, byProtect, byClear, byLasting, Cycle, asWas, pageBegins, commandBegins, goesOn, powerEnds, protection-next, coming-next, cycle-next}
+use Rattle.runs.proofs.FromSetup.Reached.{Outside, by-outside, Reach, none, some, slot-reach}
+use Rattle.runs.proofs.FromSetup.Lasting.{brings}
 use Rattle.runs.proofs.FromSetup.Together.{ticks-outside, taking-steady, command-stands, command-bare, cycle-marks}
 
 -- what a cycle stores, and where, is the same in both
@@ -85,7 +86,7 @@ run-reach n (a ∷ r) s h = run-reach n r (slotNext n a s) (slot-reach n a s h)
 -- a control byte is acknowledged only outside a cycle, and a stop is no byte
 acked-free : (n b : ℕ) (s : Slot) → standing s ≡ Control → acks n b s ≡ true → eqb (s .left) 0 ≡ true
 unfolding acks acksIn acksControl
-acked-free n b s p k = and-left (eqb (s .left) 0) (acksHeard (heardOf b) n s) (sym (ap (λ (q : Phase). acksIn q n b s) p) ∙ k)
+acked-free n b s p k = and-left (eqb (s .left) 0) (acksHeard (heardBy n b s) n s) (sym (ap (λ (q : Phase). acksIn q n b s) p) ∙ k)
 
 stop-no-byte : (b : ℕ) → Stop ≡ Byte b → ⊥
 stop-no-byte b e = let z : _≡_ {A = ℕ} 0 1 = cc in omega arith
@@ -118,10 +119,8 @@ module _ (n : ℕ) (s : Slot) (o : Outside (standing s)) (l : Cycling s) where
   present-runs Stop = inr (by-outside (λ p. RunsOn s (stopIn p s)) (standing s) same same same o)
   present-runs Timeout = inr (by-outside (λ p. RunsOn s (letGo p s)) (standing s) same same same o)
   present-runs Tick = cond-cases (Runs s) (eqb (s .left) 1) (λ e. inl (refl, refl)) (λ e. inr (λ z. omega (arith, l, eqb-false (s .left) 1 e), same .1))
-  present-runs (Voltage k on) = inr (cond-cases (RunsOn s) (eqb (k .0) n)
-      (λ e. by-outside (λ p. RunsOn s (withVoltage on (cond (commanding p && s .voltage && not on) (lost p s) s))) (standing s) same same same o) (λ e. same))
   present-runs (Power k) = inl (refl, refl)
-  present-runs (Temperature k t) = inr (cond-cases (RunsOn s) (eqb (k .0) n) (λ e. heated-cases (RunsOn s) t s same same) (λ e. same))
+  present-runs (Apply k x) = inr (apply-cases (RunsOn s) s n k x same (λ on. same) (λ on e. by-outside (λ p. RunsOn s (withVoltage on (lost p s))) (standing s) same same same o) (λ t e. same) (λ on e. same))
 
 running : (n : ℕ) (a : Act) (s : Slot) → Outside (s .phase) → Cycling s → Runs s (slotNext n a s)
 running n a s o l = next-cases (Runs s) n a s (λ e. inr (l, (refl, refl, refl, refl))) (λ e. present-runs n s (stands-outside s o) l a)
@@ -138,7 +137,7 @@ stop-page n a s e p m = stop-next (SamePage s) n a s MemoryData e p (refl, refl,
 
 stop-bare : (n : ℕ) (a : Act) (s : Slot) → a ≡ Stop → standing s ≡ CommandStop → s .marks ≡ noMarks → (slotNext n a s) .marks ≡ noMarks
 unfolding stopIn open-memory open-fields
-stop-bare n a s e p m = stop-next (λ (r : Slot). r .marks ≡ noMarks) n a s CommandStop e p m m
+stop-bare n a s e p m = stop-next (λ (r : Slot). r .marks ≡ noMarks) n a s CommandStop e p m (cond-cases (λ (r : Slot). r .marks ≡ noMarks) (pinOn s) (λ f. m) (λ f. m))
 
 none-marked : anyMark noMarks ≡ false
 unfolding anyMark anyFrom
@@ -158,10 +157,16 @@ stores a s m ne = by-test (absent s) (λ e. absurd (ne (part-stored a s m ∙ rw
       λ u. ne (part-stored a s m ∙ rw (e, f) (put-none (s .latch) (firstOf (storing a) (s .marks)) (pageStart s) 16 m (λ j. first-at (storing a) (s .marks) j ∙ rw (u, none-latched 16 j)))),
     )) (λ f. absurd (ne (part-stored a s m ∙ rw (e, f))))
 
+-- what a cycle's end brings of a slot that a run from setup reaches is what was to come
+reach-brings : (s : Slot) → Reach s → brought s ≡ s .coming
+reach-brings s (none e) = subst (λ (r : Slot). brought r ≡ r .coming) (sym e) (unfold brought older absentSlot freshSlot in refl)
+reach-brings s (some k l h w) = brings s w
+
 -- What a command asks for, of the protection that stands when it is acknowledged.
 pub data Asks : Heard → List Bool → List Bool → Type 0 where
   protect : (k : BlockNo) (p : List Bool) → Asks (heard.Protect k) p (set p (k .0) true)
   clear : (p : List Bool) → Asks heard.ClearAll p noBlocks
+  lasting : (p : List Bool) → Asks heard.ProtectForEver p (set p 0 true)
 
 module _ (n : ℕ) (s₀ : Slot) where
   abbrev at : List Act → Slot
@@ -175,7 +180,7 @@ module _ (n : ℕ) (s₀ : Slot) where
     pub parts : r ≡ earlier ++ Byte byte ∷ later
     pub awaited : standing (at earlier) ≡ Control
     pub acked : acks n byte (at earlier) ≡ true
-    pub asks : Asks (heardOf byte) ((at earlier) .protection) q
+    pub asks : Asks (heardBy n byte (at earlier)) ((at earlier) .protection) q
     pub stood : Throughout Commanded n later (slotNext n (Byte byte) (at earlier))
 
   -- In the run r a stop ended such a command's exchange, which had both its bytes, and the cycle that it began has run since, to r's end.
@@ -255,7 +260,7 @@ module _ (n : ℕ) (s₀ : Slot) where
     unfolding Throughout
     begins d z w l (asWas f) = absurd (l (f ∙ z))
     begins d z w l (pageBegins e p m f) = absurd (d (taking-steady (at r) reach p))
-    begins d z w l (commandBegins e p f) = inr (record {
+    begins d z w l (commandBegins e p g f) = inr (record {
       earlier = r;
       later = [];
       parts = ap (λ (b : Act). r ++ b ∷ []) e;
@@ -279,7 +284,7 @@ module _ (n : ℕ) (s₀ : Slot) where
         (λ w. inr (begun-on a (subst (CommandBegun r) (sym same) w) (still (since-end Cycling (w .earlier) Stop (w .later) r (w .parts) (w .ran))))) (told d)
 
     -- a command acknowledged: the byte is the run's last act, and no cycle runs
-    asked-now : (b : ℕ) → a ≡ Byte b → standing (at r) ≡ Control → acks n b (at r) ≡ true → Asks (heardOf b) ((at r) .protection) (t .coming) → Tells
+    asked-now : (b : ℕ) → a ≡ Byte b → standing (at r) ≡ Control → acks n b (at r) ≡ true → Asks (heardBy n b (at r)) ((at r) .protection) (t .coming) → Tells
     unfolding Throughout
     asked-now b e p k q =
         let none : t .left ≡ 0 = none-left (cycle-next n a (at r)) in
@@ -303,23 +308,25 @@ module _ (n : ℕ) (s₀ : Slot) where
         none-left : Cycle a (at r) (t .left) → t .left ≡ 0
         none-left (asWas l) = l ∙ free
         none-left (pageBegins f q m l) = absurd (stop-no-byte b (sym f ∙ e))
-        none-left (commandBegins f q l) = absurd (stop-no-byte b (sym f ∙ e))
+        none-left (commandBegins f q g l) = absurd (stop-no-byte b (sym f ∙ e))
         none-left (goesOn f l) = l ∙ omega (arith, free)
         none-left (powerEnds k f l) = l
 
-    decides : Decided n a (at r) (t .protection) (t .coming) → Tells
-    decides (asStands e) = absurd (ne e)
-    decides (byProtect b k e p f h c) =
+    decides : Decided n a (at r) (t .protection) (t .coming) (t .old .lasting) → Tells
+    decides (asStands e _) = absurd (ne e)
+    decides (byProtect b k e p f h c _) =
         asked-now b e p f (subst (λ (x : Heard). Asks x ((at r) .protection) (t .coming)) (sym h) (subst (Asks (heard.Protect k) ((at r) .protection)) (sym c) (protect k ((at r) .protection))))
-    decides (byClear b e p f h c) =
+    decides (byLasting b e p f h c _) =
+        asked-now b e p f (subst (λ (x : Heard). Asks x ((at r) .protection) (t .coming)) (sym h) (subst (Asks heard.ProtectForEver ((at r) .protection)) (sym c) (lasting ((at r) .protection))))
+    decides (byClear b e p f h c _) =
         asked-now b e p f (subst (λ (x : Heard). Asks x ((at r) .protection) (t .coming)) (sym h) (subst (Asks heard.ClearAll ((at r) .protection)) (sym c) (clear ((at r) .protection))))
-    decides (asBefore e) = by-test ends (λ f. absurd (ne (e ∙ sym (q ∙ cond-true ends _ _ f)))) (λ f. goes e (λ c. ne (e ∙ c ∙ sym (q ∙ cond-false ends _ _ f))))
+    decides (asBefore e _) = by-test ends (λ f. absurd (ne (e ∙ sym (q ∙ cond-true ends _ _ f)))) (λ f. goes e (λ c. ne (e ∙ c ∙ sym (q ∙ cond-false ends _ _ f))))
       where
         ends : Bool
         ends = finishes a (at r) && not (absent (at r))
 
         q : t .protection ≡ cond ends ((at r) .coming) ((at r) .protection)
-        q = protection-next n a (at r)
+        q = protection-next n a (at r) ∙ ap (λ (p : List Bool). cond ends p ((at r) .protection)) (reach-brings (at r) reach)
 
   told-snoc : Reach s₀ → (r : List Act) (a : Act) → Told r (at r) → Told (r ++ a ∷ []) (at (r ++ a ∷ []))
   told-snoc reach r a told = subst (Told (r ++ a ∷ [])) (sym (slot-snoc n r a s₀))
@@ -336,7 +343,7 @@ module _ (n : ℕ) (s₀ : Slot) where
       → (finishes a (at r) ≡ true) × CommandBegun r ((slotNext n a (at r)) .protection)
   protection-story reach calm r a ne = by-test ends
       (λ e. let done : finishes a (at r) ≡ true = and-left (finishes a (at r)) (not (absent (at r))) e in
-      let q : (slotNext n a (at r)) .protection ≡ (at r) .coming = protection-next n a (at r) ∙ cond-true ends _ _ e in (
+      let q : (slotNext n a (at r)) .protection ≡ (at r) .coming = protection-next n a (at r) ∙ cond-true ends _ _ e ∙ reach-brings (at r) (run-reach n r s₀ reach) in (
         done,
         ⊎-elim (λ w. absurd (finishes-runs a (at r) done (w .0))) (λ w. subst (CommandBegun r) (sym q) w) (told reach calm r (λ c. ne (q ∙ c))),
       ))
@@ -374,7 +381,7 @@ module _ (n : ℕ) (s₀ : Slot) where
       starts z (asWas e) = absurd (l (e ∙ z))
       starts z (goesOn f e) = absurd (l (e ∙ omega (arith, z)))
       starts z (powerEnds k f e) = absurd (l e)
-      starts z (commandBegins f p e) = absurd (false≢true (sym none-marked ∙ sym (ap anyMark (stop-bare n a s f p (command-bare s reach p))) ∙ m))
+      starts z (commandBegins f p g e) = absurd (false≢true (sym none-marked ∙ sym (ap anyMark (stop-bare n a s f p (command-bare s reach p))) ∙ m))
       starts z (pageBegins f p k e) = record { earlier = r; later = []; parts = ap (λ (b : Act). r ++ b ∷ []) f; taking = p; page = stop-page n a s f p k; ran = subst (λ (b : Act). Cycling (slotNext n b s)) f l }
 
   pub pages : Reach s₀ → s₀ .left ≡ 0 → (r : List Act) → Pages r (at r)

@@ -15,7 +15,7 @@ use Rattle.rules.specs.declared.Slot.{Slot}
 use Rattle.rules.specs.Modelled.{absent, sensing}
 use Rattle.rules.specs.Open.{open-fields}
 use Rattle.rules.specs.Fields.{inPhase}
-use Rattle.rules.specs.Control.{acksControl, heardOf, obeyed, controlled}
+use Rattle.rules.specs.Control.{acksControl, heardOf, obeyed, controlled, heardBy}
 use Rattle.rules.specs.Memory.{loaded, guarded, latching, dataByte, fetched}
 use Rattle.rules.specs.Slot.{withSensorIn, standing, lost, pointer, firstByte, secondByte, byteIn, readIn, presentNext, slotNext}
 use Rattle.rules.proofs.Memory.Protection.{still-present}
@@ -72,7 +72,7 @@ lost-served p s = refl
 byte-served : (p : Phase) (n b : ℕ) (s : Slot) → (awaiting p ≡ false → Served s) → Served (byteIn p n b s)
 unfolding byteIn controlled loaded dataByte latching pointer firstByte secondByte open-fields
 byte-served Idle n b s h = h refl
-byte-served Control n b s h = cond-cases Served (acksControl n b s) (λ e. obeyed-served (heardOf b) s) (λ e. refl)
+byte-served Control n b s h = cond-cases Served (acksControl n b s) (λ e. obeyed-served (heardBy n b s) s) (λ e. refl)
 byte-served Deaf n b s h = h refl
 byte-served MemoryCounter n b s h = refl
 byte-served MemoryData n b s h = cond-cases Served (guarded s) (λ e. refl) (λ e. h refl)

@@ -46,13 +46,16 @@ module _ (k : ℕ) where
   slot x = slotAt absentSlot k x
 
   -- at the end: slot k, with its bytes, its protection, counter, registers and all else; the answers to its own exchanges; and, P8, "The pin of
-  -- slot s joins the things that demand 3 holds equal": asserted or not, its level, and whether a change is pending
+  -- slot s joins the things that demand 3 holds equal": asserted or not, its level, and whether a change is pending; P9, of an older module:
+  -- whether its protection is permanent, and its write-protect pin
   pub record Same (x y : Bench) (r q : List Event) (is js : List Item) : Type 0 where
     pub slots : slot (after r x) ≡ slot (after q y)
     pub bytes : partOf k (after r x) ≡ partOf k (after q y)
     pub answers : ownTold k is x ≡ ownTold k js y
     pub pins : pinOf (slot (after r x) .sensor) ≡ pinOf (slot (after q y) .sensor)
     pub pending : slot (after r x) .sensor .pending ≡ slot (after q y) .sensor .pending
+    pub permanent : slot (after r x) .old .permanent ≡ slot (after q y) .old .permanent
+    pub write-protect : slot (after r x) .old .pin ≡ slot (after q y) .old .pin
 
   pub demand3 : (x y : Bench) (r q : List Event) (is js : List Item) → Ready x → Ready y → Agree absentSlot k x y
       → Parts x r is → Parts y q js → strike k is ≡ strike k js → Same x y r q is js
@@ -67,6 +70,8 @@ module _ (k : ℕ) where
         answers = n .answers;
         pins = ap (λ (t : Slot). pinOf (t .sensor)) s;
         pending = ap (λ (t : Slot). t .sensor .pending) s;
+        permanent = ap (λ (t : Slot). t .old .permanent) s;
+        write-protect = ap (λ (t : Slot). t .old .pin) s;
       }
 
 -- a bench right after setup

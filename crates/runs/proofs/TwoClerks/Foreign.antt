@@ -3,7 +3,7 @@
 use Prim.Native.Nat.{ℕ, _/_}
 use native.Mathlib.Omega.{arith}
 use mathlib.Core.Path.{_≡_, refl, sym, _∙_, ap, ap₂, subst}
-use mathlib.Core.Bool.{Bool, true, false, not, _&&_, _||_}
+use mathlib.Core.Bool.{Bool, true, false, not, _&&_, _||_, and-false}
 use mathlib.Core.List.{List, [], _∷_}
 use lib.Dec.{eqb}
 use borrow.Author.Tests.{eqb-true, eqb-false, ne-eqb, not-true}
@@ -16,9 +16,9 @@ use Rattle.rules.specs.declared.Act.the-variants.{Start, Byte, Read, Stop}
 use Rattle.rules.specs.declared.Phase.{Phase}
 use Rattle.rules.specs.declared.Phase.the-variants.{Idle, Control, Deaf}
 use Rattle.rules.specs.declared.Slot.{Slot}
-use Rattle.rules.specs.Modelled.{absent}
+use Rattle.rules.specs.Modelled.{absent, older}
 use Rattle.rules.specs.Fields.{inPhase}
-use Rattle.rules.specs.Control.{selectOf, heardOf, acksHeard, acksControl, controlled}
+use Rattle.rules.specs.Control.{selectOf, heardOf, acksHeard, acksControl, controlled, heardBy}
 use Rattle.rules.specs.Memory.{emptied, abandoned, cancelled}
 use Rattle.rules.specs.Open.{open-fields}
 use Rattle.rules.specs.Events.{carried}
@@ -32,14 +32,14 @@ use Rattle.runs.proofs.TwoClerks.Alone.{SilentFor, SilentOver}
 
 -- slot n does not hear the control byte, whatever state it is in
 abbrev pub Unheard : ℕ → ℕ → Type 0
-Unheard n c = (s : Slot) → acksHeard (heardOf c) n s ≡ false
+Unheard n c = (s : Slot) → acksHeard (heardBy n c s) n s ≡ false
 
 abbrev pub NoneHeard : ℕ → List ℕ → Type 0
 NoneHeard n [] = Unit {0}
 NoneHeard n (c ∷ cs) = Unheard n c × NoneHeard n cs
 
 mute-unheard : (n c : ℕ) → mute c ≡ true → Unheard n c
-unfolding mute heardOf acksHeard
+unfolding mute heardBy heardOf acksHeard
 mute-unheard n c e s =
     let a : Bool = not (eqb (c / 16) 0xA) in
     let b : Bool = not (eqb (c / 16) 0x3) in
@@ -47,18 +47,18 @@ mute-unheard n c e s =
     let f : eqb (c / 16) 0xA ≡ false = not-true _ (and-left a b (and-left (a && b) d e)) in
     let g : eqb (c / 16) 0x3 ≡ false = not-true _ (and-right a b (and-left (a && b) d e)) in
     let h : eqb (c / 16) 0x6 ≡ false = not-true _ (and-right (a && b) d e) in
-    rw (f, g, h)
+    rw (f, g, h, and-false (older s))
 
 named-unheard : (n t c : ℕ) → (t ≡ n → ⊥) → names t c ≡ true → Unheard n c
-unfolding names heardOf acksHeard
+unfolding names heardBy heardOf acksHeard
 named-unheard n t c ne e s =
     let m : Bool = eqb (c / 16) 0xA in
     let x : Bool = eqb (c / 16) 0x3 in
     let f : selectOf c .0 ≡ t = eqb-true (selectOf c .0) t (and-right (m || x) (eqb (selectOf c .0) t) e) in
     let g : eqb (selectOf c .0) n ≡ false = rw f (ne-eqb t n ne) in
     or-cases m x (and-left (m || x) (eqb (selectOf c .0) t) e)
-    (λ p. rw (p, g))
-    (λ p. rw (ne-eqb (c / 16) 0xA (let q : c / 16 ≡ 3 = eqb-true (c / 16) 0x3 p in omega arith), p, g))
+    (λ p. rw (ne-eqb (c / 16) 0x6 (let q : c / 16 ≡ 10 = eqb-true (c / 16) 0xA p in omega arith), and-false (older s), p, g))
+    (λ p. let q : c / 16 ≡ 3 = eqb-true (c / 16) 0x3 p in rw (ne-eqb (c / 16) 0x6 (omega arith), and-false (older s), ne-eqb (c / 16) 0xA (omega arith), p, g))
 
 all-mute : (n : ℕ) (cs : List ℕ) → allOf mute cs ≡ true → NoneHeard n cs
 unfolding allOf

@@ -8,6 +8,7 @@ use mathlib.Core.Bool.{true, false}
 use mathlib.Core.List.{List, [], _∷_, _++_}
 use lib.IntN.{ℤ, pos}
 use lib.ListN.{getD, replicate}
+use Rattle.rules.specs.declared.Applied.the-variants.{Voltage, Temperature}
 use Rattle.rules.specs.declared.Answer.{Answer}
 use Rattle.rules.specs.declared.Answer.the-variants.{Nothing, Ack, Data, Refused}
 use Rattle.rules.specs.declared.Event.{Event}
@@ -15,7 +16,7 @@ use Rattle.rules.specs.declared.Pair.{Pair}
 use Rattle.rules.specs.declared.Refusal.the-variants.{UnknownKind, WrongSlot, WrongValue}
 use Rattle.rules.specs.Runs.{Bench, after, answers}
 use Rattle.runs.specs.Exchanges as Exchanges
-use Rattle.runs.specs.Exchanges.{Inside, Item, exchange, between, again, byte, read, tick, voltage, temperature, controls, addressed, ownTold}
+use Rattle.runs.specs.Exchanges.{Inside, Item, exchange, between, again, byte, read, tick, controls, addressed, ownTold, apply}
 use Rattle.rules.specs.Open.{open-all}
 use Rattle.runs.proofs.TwoClerks.Demand3.{Parts, slot, Same, begun, demand3-from-setup}
 use Rattle.runs.proofs.TwoClerks.Stretches.{Moved, swap-from-setup}
@@ -111,7 +112,7 @@ abbrev writes1 : List Inside
 writes1 = byte 0xA2 ∷ byte 0x10 ∷ byte 0xC3 ∷ []
 
 abbrev before : List Item
-before = between (temperature (record { 0 = 1 }) (pos 400)) ∷ []
+before = between (apply (record { 0 = 1 }) (Temperature (pos 400))) ∷ []
 
 abbrev reads : List Item
 reads = exchange (byte 0xA0 ∷ byte 0x00 ∷ again ∷ byte 0xA1 ∷ read false ∷ []) ∷ exchange (byte 0x6E ∷ []) ∷ exchange (byte 0xA1 ∷ read false ∷ []) ∷ []
@@ -162,7 +163,7 @@ items = before ++ exchange writes0 ∷ exchange writes1 ∷ later
 
 abbrev otherItems : List Item
 otherItems =
-    between (voltage (record { 0 = 1 }) true)
+    between (apply (record { 0 = 1 }) (Voltage true))
     ∷ exchange (byte 0x50 ∷ [])
     ∷ exchange writes0
     ∷ between tick

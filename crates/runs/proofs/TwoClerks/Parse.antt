@@ -5,7 +5,7 @@ use mathlib.Core.List.{List, [], _∷_}
 use mathlib.Core.Option.{Option, none, some, Option·none-ne-some, Option·some-injective}
 use Rattle.rules.specs.declared.Act.{Act}
 use Rattle.rules.specs.declared.Act.the-variants.{Start, Byte, Read, Stop, Timeout, Tick, Power, Apply}
-use Rattle.runs.specs.Exchanges.{Inside, again, byte, read, Gap, strayByte, strayRead, strayStop, timeout, tick, voltage, power, temperature, Item, exchange, between, insideAct, gapAct, upToStop, itemActs, flatten, Rest, onto, opened, closed, more, itemsOf, within}
+use Rattle.runs.specs.Exchanges.{Inside, again, byte, read, Gap, strayByte, strayRead, strayStop, timeout, tick, power, apply, Item, exchange, between, insideAct, gapAct, upToStop, itemActs, flatten, Rest, onto, opened, closed, more, itemsOf, within}
 
 -- how the parse takes one act: inside an exchange, and between two
 within-inside : (x : Inside) (r : List Act) → within (insideAct x ∷ r) ≡ onto (more x) (within r)
@@ -21,9 +21,8 @@ items-gap (strayRead m) r = refl
 items-gap strayStop r = refl
 items-gap timeout r = refl
 items-gap tick r = refl
-items-gap (voltage k on) r = refl
 items-gap (power k) r = refl
-items-gap (temperature k t) r = refl
+items-gap (apply k x) r = refl
 
 -- a run written from items parses into them
 within-stop : (xs : List Inside) (r : List Act) (is : List Item) → itemsOf r ≡ some is → within (upToStop xs r) ≡ some (record { insides = xs; items = is })
@@ -70,9 +69,8 @@ mutual
   flatten-items (Stop ∷ r) is e = gap-first r strayStop is (flatten-items r) e
   flatten-items (Timeout ∷ r) is e = gap-first r timeout is (flatten-items r) e
   flatten-items (Tick ∷ r) is e = gap-first r tick is (flatten-items r) e
-  flatten-items (Voltage k on ∷ r) is e = gap-first r (voltage k on) is (flatten-items r) e
   flatten-items (Power k ∷ r) is e = gap-first r (power k) is (flatten-items r) e
-  flatten-items (Temperature k t ∷ r) is e = gap-first r (temperature k t) is (flatten-items r) e
+  flatten-items (Apply k x ∷ r) is e = gap-first r (apply k x) is (flatten-items r) e
 
   stop-within : (r : List Act) (t : Rest) → within r ≡ some t → written t ≡ r
   stop-within [] t e = absurd (Option·none-ne-some _ e)
@@ -82,6 +80,5 @@ mutual
   stop-within (Stop ∷ r) t e = let (is, p, q) = onto-some closed (itemsOf r) t e in ap written (sym q) ∙ ap (Stop ∷_) (flatten-items r is p)
   stop-within (Timeout ∷ r) t e = absurd (Option·none-ne-some _ e)
   stop-within (Tick ∷ r) t e = absurd (Option·none-ne-some _ e)
-  stop-within (Voltage k on ∷ r) t e = absurd (Option·none-ne-some _ e)
   stop-within (Power k ∷ r) t e = absurd (Option·none-ne-some _ e)
-  stop-within (Temperature k u ∷ r) t e = absurd (Option·none-ne-some _ e)
+  stop-within (Apply k x ∷ r) t e = absurd (Option·none-ne-some _ e)

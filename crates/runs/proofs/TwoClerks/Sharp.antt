@@ -7,12 +7,13 @@ use mathlib.Core.Bool.{true, false}
 use mathlib.Core.List.{List, [], _∷_}
 use lib.IntN.{pos}
 use lib.ListN.{getD, replicate}
+use Rattle.rules.specs.declared.Applied.the-variants.{Voltage, Temperature}
 use Rattle.rules.specs.declared.Answer.{Answer}
 use Rattle.rules.specs.declared.Answer.the-variants.{Nothing, Ack, Data}
 use Rattle.rules.specs.Fresh.{absentSlot}
 use Rattle.rules.specs.Refusals.{setupOf}
 use Rattle.rules.specs.Runs.{Bench}
-use Rattle.runs.specs.Exchanges.{went, told, insideAct, gapAct, upToStop, itemActs, flatten, controls, names, someOf, addressed, own, ownTold, again, byte, read, Item, exchange, between, tick, power, temperature}
+use Rattle.runs.specs.Exchanges.{went, told, insideAct, gapAct, upToStop, itemActs, flatten, controls, names, someOf, addressed, own, ownTold, again, byte, read, Item, exchange, between, tick, power, apply}
 use Rattle.rules.specs.Open.{open-all}
 
 -- slot 0 with memory and sensor, its cycle a tick long, and FFh everywhere
@@ -71,7 +72,7 @@ abbrev shows : ℕ → ℕ → List (List Answer)
 shows high low = (Nothing ∷ Ack ∷ Ack ∷ Nothing ∷ Ack ∷ Data high ∷ Data low ∷ Nothing ∷ []) ∷ []
 
 abbrev warm : Item
-warm = between (temperature (record { 0 = 0 }) (pos 400))
+warm = between (apply (record { 0 = 0 }) (Temperature (pos 400)))
 
 pub past-its-temperature : (ownTold 0 (reads ∷ warm ∷ []) bench ≡ shows 0x00 0x00) × (ownTold 0 (warm ∷ reads ∷ []) bench ≡ shows 0xC1 0x90)
 unfolding open-all went told ownTold own addressed someOf names controls flatten itemActs upToStop insideAct gapAct

@@ -22,11 +22,11 @@ use Rattle.rules.specs.Memory.{emptied, ended, ticked}
 use Rattle.rules.specs.Power.{powerCut}
 use Rattle.rules.specs.Slot.{withSensorIn, standing, commanding, letGo, lost, byteIn, readIn, switched, presentNext, slotNext, partNext}
 use Rattle.rules.specs.Runs.{slotAfter, partAfter}
-use Rattle.runs.specs.Exchanges.{toldAlone, strayByte, strayRead, strayStop, timeout, tick, voltage, power, temperature, Item, exchange, between, gapAct, upToStop, itemActs, struckGap, struck, strike, own}
+use Rattle.runs.specs.Exchanges.{toldAlone, strayByte, strayRead, strayStop, timeout, tick, power, apply, Item, exchange, between, gapAct, upToStop, itemActs, struckGap, struck, strike, own}
 use Rattle.runs.proofs.TwoClerks.Classes.{struck-not-own}
 use Rattle.runs.proofs.TwoClerks.Foreign.{struck-unheard, started-waits, absent-after, as-it-was, same-part, ends-idle}
 use Rattle.rules.proofs.Memory.Protection.{still-present}
-use Rattle.rules.proofs.Run.Cases.{next-cases, present-next, heated-cases}
+use Rattle.rules.proofs.Run.Cases.{next-cases, present-next, apply-cases}
 
 -- between exchanges a slot is idle
 abbrev pub Idles : Slot → Type 0
@@ -61,10 +61,8 @@ unfoldable pub itemPart : ℕ → Item → Slot → List ℕ → List ℕ
 itemPart n i s m = partAfter n (itemActs i []) s m
 
 -- idle goes on, whatever the item
-idle-switched : (on : Bool) (s : Slot) → Idles s → Idles (switched on s)
-unfolding switched open-fields
-idle-switched on s e =
-    idle-stands (λ p. Idles (Fields.withVoltage on (cond (commanding p && s .voltage && not on) (lost p s) s))) s e e e
+idle-calm : (s : Slot) → Idles s → commanding (standing s) ≡ true → ⊥
+idle-calm s e c = idle-stands (λ p. commanding p ≡ true → ⊥) s e false≢true false≢true c
 
 idle-ticked : (s : Slot) → Idles s → Idles (ticked s)
 unfolding ticked ended emptied open-fields
@@ -82,9 +80,8 @@ idle-item n (between (strayRead m)) s e = idle-next n (Read m) s e (ap (λ (t : 
 idle-item n (between strayStop) s e = idle-next n Stop s e refl
 idle-item n (between timeout) s e = idle-next n Timeout s e refl
 idle-item n (between tick) s e = idle-next n Tick s e (idle-ticked s e)
-idle-item n (between (voltage k on)) s e = idle-next n (Voltage k on) s e (cond-cases Idles (eqb (k .0) n) (λ f. idle-switched on s e) (λ f. e))
 idle-item n (between (power k)) s e = idle-next n (Power k) s e refl
-idle-item n (between (temperature k t)) s e = idle-next n (Temperature k t) s e (cond-cases Idles (eqb (k .0) n) (λ f. heated-cases Idles t s e e) (λ f. e))
+idle-item n (between (apply k x)) s e = idle-next n (Apply k x) s e (apply-cases Idles s n k x e (λ on. e) (λ on c. absurd (idle-calm s e c)) (λ t f. e) (λ on f. e))
 
 -- what is struck out leaves an idle slot and its bytes as they are
 struck-slot : (n : ℕ) (i : Item) (s : Slot) → Idles s → struck n i ≡ true → itemSlot n i s ≡ s
@@ -101,9 +98,8 @@ struck-slot n (between (strayRead m)) s e p = absurd (false≢true p)
 struck-slot n (between strayStop) s e p = absurd (false≢true p)
 struck-slot n (between timeout) s e p = absurd (false≢true p)
 struck-slot n (between tick) s e p = absurd (false≢true p)
-struck-slot n (between (voltage k on)) s e p =
 struck-slot n (between (power k)) s e p = absurd (false≢true p)
-struck-slot n (between (temperature k t)) s e p =
+struck-slot n (between (apply k x)) s e p =
     next-cases (λ (r : Slot). r ≡ s) n (Apply k x) s (λ a. refl) (λ a. rw (not-true (eqb (k .0) n) p))
 
 struck-part : (n : ℕ) (i : Item) (s : Slot) (m : List ℕ) → struck n i ≡ true → itemPart n i s m ≡ m
@@ -114,9 +110,8 @@ struck-part n (between (strayRead b)) s m p = refl
 struck-part n (between strayStop) s m p = refl
 struck-part n (between timeout) s m p = refl
 struck-part n (between tick) s m p = absurd (false≢true p)
-struck-part n (between (voltage k on)) s m p = refl
 struck-part n (between (power k)) s m p = absurd (false≢true p)
-struck-part n (between (temperature k t)) s m p = refl
+struck-part n (between (apply k x)) s m p = refl
 
 -- the slot alone, item by item: its state, its bytes, the answers to its own exchanges
 unfoldable pub slotItems : ℕ → List Item → Slot → Slot
