@@ -11,7 +11,8 @@
 #         facts  what `watch` wrote of it, in the file `lines`, as rows, fields parted by tabs. What is not written of
 #                this run ends with status 1.
 #
-#   C  byte, slot: a control byte that such a slot, when fresh, acknowledges; without high voltage (0) or with it (1)
+#   C  byte, slot: a control byte that such a slot, when fresh, acknowledges; without high voltage (0), with it (1), or
+#      (both) as well without as with it, and then stands alike
 #   Q  event, slot: at this control byte, which it would acknowledge; whether it then stands otherwise than deaf (1, 0);
 #      at which level the byte is to be left out if the slot does not hear it: 0 not at all, since nothing of it lasts
 #      to the next start; 1 what is behind it, up to the next start; 2 the byte itself, too
@@ -34,13 +35,18 @@ function begin(   i) {
   for (i = 0; i < SLOTS; i++) printf "%s", i == slot ? octal(kind_of[i]) octal(ticks_of[i]) : octal(0) octal(0)
 }
 # First every control byte, without high voltage and with it; then the slot is to be fresh again.
-function try_all(   first, on, byte) {
+function try_all(   first, on, byte, after, without) {
   first = stands
   for (on = 0; on <= 1; on++) {
     feed(7, slot, on)
     for (byte = 0; byte < 256; byte++) {
       feed(1, 0, 0); feed(2, 0, byte)
-      if (said == "A") fact("C\t" byte "\t" slot "\t" on)
+      if (said != "A") continue
+      fact("C\t" byte "\t" slot "\t" on)
+      after = stands
+      sub(/ voltage=1 /, " voltage=0 ", after)
+      if (!on) without[byte] = after
+      else if (without[byte] == after) fact("C\t" byte "\t" slot "\tboth")
     }
     feed(8, 0, 0)
   }

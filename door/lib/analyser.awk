@@ -164,11 +164,10 @@ function phases() {
     "gives the high byte of a register,gives the low byte of a register", doing, ",")
   sub(/;/, ",", doing[12])
 }
-function memory_words(   address, i, n, list) {
-  for (i = 0; i < 4; i++) if (now("protection" i)) list[++n] = i
+function memory_words(   address) {
   address = 256 * now("half") + now("counter")
-  return "half " now("half") ", counter " show(now("counter")) " (address " sprintf("%03X", address) "h, block " int(address / 128) "), " \
-    protected_words(list, n) ", high voltage " (now("voltage") ? "on" : "off")
+  return half_told(line) "counter " show(now("counter")) " (address " sprintf("%03X", address) "h, block " int(address / 128) "), " \
+    protection_told(line) ", " voltage_told(line)
 }
 function sensor_words(   names, name, text) {
   split("configuration,high,low,critical,temperature,-,-,resolution,timeout", names, ",")

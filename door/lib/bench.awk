@@ -5,13 +5,14 @@
 
 BEGIN {
   SLOTS = 8
-  split("memory,sensor", KIND, ",")                    # by their number, as cases have them; 0 is absent
-  split("memory,memory with sensor", KIND_TOLD, ",")
+  split("memory,sensor,old", KIND, ",")                # by their number, as cases have them; 0 is absent
+  split("memory,memory with sensor,older memory", KIND_TOLD, ",")
   name_bytes("protect", "62 68 6A 60", "protect|block %d")
   name_bytes("is protected", "63 69 6B 61", "is block %d|protected?")
   name_bytes("clear", "66", "clear|protection")
   name_bytes("half", "6C 6E", "select|half %d")
   name_bytes("which half", "6D", "which|half?")
+  OLDER["62"] = TOLD["62"]; OLDER["63"] = OLDER["67"] = TOLD["63"]; OLDER["66"] = TOLD["66"]    # with high voltage on
   REGISTERS = split("1 2 3 4 5 8 9", REGISTER, " ")    # those that a form keeps, and their names
   split("configuration high low critical temperature resolution timeout", REGISTER_NAME, " ")
 }
@@ -27,10 +28,25 @@ function is_memory(byte) { return int(byte / 16) == 10 }
 function is_sensor(byte) { return int(byte / 16) == 3 }
 function is_command(byte) { return int(byte / 16) == 6 }
 function named_slot(byte) { return is_memory(byte) || is_sensor(byte) ? int(byte % 16 / 2) : -1 }
-# What it is called, in two short lines; nothing where it has no name
-function called(byte) {
-  if (named_slot(byte) < 0) return TOLD[sprintf("%02X", byte)]
-  return (byte % 2 ? "read" : "write") " slot " named_slot(byte) "|" (is_memory(byte) ? "memory" : "sensor")
+# What it is called, in two short lines; nothing where it has no name. A command of an older memory goes by its high
+# voltage and its select number, so that one byte can be two commands: kinds[] and on[] tell of each slot what it is, and
+# whether high voltage is on there.
+function called(byte, kinds, on,   s, any, name, all) {
+  if (named_slot(byte) >= 0) return (byte % 2 ? "read" : "write") " slot " named_slot(byte) "|" (is_memory(byte) ? "memory" : "sensor")
+  for (s = 0; s < SLOTS; s++) any += is_older(kinds[s])
+  if (!any) return TOLD[sprintf("%02X", byte)]
+  for (s = 0; s < SLOTS; s++) {
+    name = !kinds[s] ? "" : is_older(kinds[s]) ? older_called(byte, s, on[s]) : TOLD[sprintf("%02X", byte)]
+    if (name == "" || name == all) continue
+    if (all != "") return "two commands|in one byte"
+    all = name
+  }
+  return all
+}
+function older_called(byte, slot, on) {
+  if (on) return OLDER[sprintf("%02X", byte)]
+  if (!is_command(byte) || int(byte % 16 / 2) != slot) return ""
+  return byte % 2 ? "is slot " slot "|protected?" : "protect slot " slot "|for ever"
 }
 
 # ---- words and escapes
@@ -43,6 +59,7 @@ function joined(list, n,   i, text) {
 }
 function blocks_named(list, n) { return (n == 1 ? "block " : "blocks ") joined(list, n) }
 function protected_words(list, n) { return n ? blocks_named(list, n) " protected" : "no block protected" }
+function on_words(on) { return on ? "on" : "off" }
 # Octal escapes of printf: of a byte, of a record
 function octal(byte) {
   if (!(byte in OCTAL)) OCTAL[byte] = sprintf("\\%03o", byte)
@@ -60,16 +77,34 @@ function number_of(line, name,   at) {
   at = index(line, " " name "=")
   return at ? substr(line, at + length(name) + 2) + 0 : 0
 }
-# the pin of a sensor. A run uses it where it is asserted, or has another level than at first.
+# the EVENT pin of a sensor. A run uses it where it is asserted, or has another level than at first.
 function tells_pin(line) { return line ~ / asserted=[01]( |$)/ && line ~ / level=[01]( |$)/ }
 function pin_words(line) {
   return (number_of(line, "asserted") ? "asserted" : "released") " " (number_of(line, "level") ? "high" : "low")
 }
 function uses_pin(is_asserted, is_high, first) { return is_asserted == 1 || is_high != first }
+# what is protected in a slot, and what an older memory alone has: whether that is so for ever, and its write-protect pin
+function protection_told(line,   k, n, list) {
+  for (k = 0; k < 4; k++) if (number_of(line, "protection" k)) list[++n] = k
+  return protected_words(list, n) (number_of(line, "permanent") ? " for ever" : "")
+}
+function half_told(line) { return is_older(number_of(line, "kind")) ? "" : "half " number_of(line, "half") ", " }
+function voltage_told(line) {
+  return "high voltage " on_words(number_of(line, "voltage")) \
+    (is_older(number_of(line, "kind")) ? ", write-protect pin " on_words(number_of(line, "write-protect")) : "")
+}
 
 # ---- kinds
 function has_sensor(kind) { return kind == 2 }
+function is_older(kind) { return kind == 3 }
+function bytes_of(kind) { return is_older(kind) ? 256 : 512 }
+function whose_memory(kind) { return is_older(kind) ? "an older module's" : "a slot's" }
 function kind_words(kind) { return kind ? KIND_TOLD[kind] : "absent" }
+# their words, as in: memory, sensor or old
+function kinds_listed(between, last,   k, text) {
+  for (k = 1; k in KIND; k++) text = text (k == 1 ? "" : (k + 1) in KIND ? between : last) KIND[k]
+  return text
+}
 function kind_named(word,   k) {
   for (k = 1; k in KIND; k++) if (KIND[k] == word) return k
   return word == "absent" ? 0 : -1

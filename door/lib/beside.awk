@@ -21,15 +21,17 @@ function time_of(digits, unit,   scale) {
 # ---- the events behind it
 function allowed(word) {
   if (word ~ /^(start|stop|byte|read|write|look|set|get)$/)
-    bad("\"" word "\" is on the wires: only what is not on them stands here (voltage, temperature, power, timeout)")
+    bad("\"" word "\" is on the wires: only what is not on them stands here (voltage, temperature, write-protect, power, timeout)")
   if (word == "tick") bad("ticks are not told: they are placed where the wires show that a write cycle has ended")
-  if (word ~ /^(event|raw|pin)$/) bad("\"" word "\" can't stand here: say voltage, temperature, power or timeout")
+  if (word ~ /^(event|raw|pin)$/) bad("\"" word "\" can't stand here: say voltage, temperature, write-protect, power or timeout")
 }
 function one(i,   r, kind, slot, v) {
   split(record_of(code[i]), r, "\t"); kind = r[1]; slot = r[2] + 0; v = r[3]
-  if (kind == 7 || kind == 9) {
-    if (!(slot in kind_of)) bad("slot " slot " is not told: say --slot " (slot < SLOTS ? slot : "N") " memory or sensor, and its write cycle")
-    if (kind == 9 && !has_sensor(kind_of[slot])) bad("slot " slot " is told as a memory: it has no sensor that feels a temperature")
+  if (kind == 7 || kind == 9 || kind == 10) {
+    if (!(slot in kind_of))
+      bad("slot " slot " is not told: say --slot " (slot < SLOTS ? slot : "N") " " kinds_listed(", ", " or ") ", and its write cycle")
+    if (kind == 9 && !has_sensor(kind_of[slot])) bad("slot " slot " is told as " KIND[kind_of[slot]] ": it has no sensor that feels a temperature")
+    if (kind == 10 && !is_older(kind_of[slot])) bad("slot " slot " is told as " KIND[kind_of[slot]] ": it has no write-protect pin")
   }
   if (kind == 9 && (v < -640 || v > 2000)) bad("the temperature " v " is not from -640 to 2000 sixteenths of a degree")
   if (kind == 8 && (v < 0 || v > 16))

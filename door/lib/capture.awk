@@ -42,6 +42,7 @@ function memory_line(   slot, rest, w, n, i, bytes) {
   n = split(substr(rest, 2), w, " ")
   n = spread(w, 1, n)
   if (n > 512) bad("a slot has 512 bytes, and here are " n)
+  told_bytes[slot] = n
   for (i = 1; i <= n; i++) bytes = bytes octal(hex_word(w[i], 255, "byte"))
   row("M\t" NR "\t" slot "\t" bytes)
 }
@@ -62,8 +63,13 @@ function event_line(   i) {
 
 function end_read(   i, slot) {
   if (!lines) { NR = NR ? NR : 1; bad("neither setup nor event in this file") }
-  for (slot = 0; slot < SLOTS; slot++)
+  for (slot = 0; slot < SLOTS; slot++) {
     if ((slot in memory_at) && !kind[slot]) { NR = memory_at[slot]; bad("slot " slot " is absent: it has no memory") }
+    if (told_bytes[slot] > bytes_of(kind[slot])) {
+      NR = memory_at[slot]
+      bad("slot " slot " is an older memory, of " bytes_of(kind[slot]) " bytes, and here are " told_bytes[slot])
+    }
+  }
   printf "I\t%d\t%s\t", nevents, setupbytes()
   for (i = 1; i <= NR; i++) if (i in records) printf "%s", records[i]
   print ""

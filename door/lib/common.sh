@@ -66,14 +66,17 @@ unreadable() {
     *) die "there is no file '$1'" ;;
     esac
 }
-# image FILE: the bytes of a slot's memory, as octal escapes, in `bytes`; if it has none such, `why` says so
+# image FILE KIND: the bytes of the memory of such a slot, as octal escapes, in `bytes`; if it has none such, `why` says
+# so
 image() {
+    local most whose
     is_readable "$1" || return
+    most=$(bench "bytes_of($2)") whose=$(bench "whose_memory($2)")
     # shellcheck disable=SC1003    # a backslash
-    bytes=$(od -An -v -to1 -N513 <"$1" | tr -d '\n' | tr ' ' '\\')
+    bytes=$(od -An -v -to1 -N$((most + 1)) <"$1" | tr -d '\n' | tr ' ' '\\')
     case ${#bytes} in
-    0) why="it is empty; a slot's memory is 1 to 512 bytes" ;;
-    2052) why="it has more than 512 bytes; a slot's memory is 1 to 512 bytes" ;;
+    0) why="it is empty; $whose memory is 1 to $most bytes" ;;
+    $((4 * most + 4))) why="it has more than $most bytes; $whose memory is 1 to $most bytes" ;;
     esac
     [ -z "$why" ]
 }

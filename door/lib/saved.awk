@@ -1,5 +1,6 @@
-# Where a saved bench (request P5, "Saving a bench overnight", with P8's pins) that the program `show` has refused departs
-# from the form, and why, in words, for ./plungerhen show and resume: its bytes on standard input, as od -tu1 gives them.
+# Where a saved bench (request P5, "Saving a bench overnight", with the fields of P8 and P9) that the program `show` has
+# refused departs from the form, and why, in words, for ./plungerhen show and resume: its bytes on standard input, as od
+# -tu1 gives them.
 #
 #   size  how many bytes it has; what stands behind byte 65,535 is not read, since a form is shorter
 #
@@ -24,9 +25,10 @@ function next_byte(what) {
 function must(good, sentence) { if (!good) depart(at - 1, sentence) }
 function bounded(what, most, form, why,   v) { v = next_byte(what); must(v <= most, what " is " sprintf(form, v) ", " why) }
 
-function head(tag, each, count, what,   v, all, why) {
-  field = tag; all = each * count
-  why = (tag == 1 ? "two" : each) " for each of " plural(count, what)
+# a field's tag and its length, `all`, which is so long for the reason `why`
+function for_each(each, count, what) { return each " for each of " plural(count, what) }
+function head(tag, all, why,   v) {
+  field = tag
   v = next_byte("the tag " tag)
   must(v == tag, "the tag is " v ", and must be " tag)
   v = next_byte("the length")
@@ -44,10 +46,17 @@ function read_pair(i,   ticks, why) {
   must(kind[i] || !ticks, "slot " i " is absent, and its write-cycle length is " ticks ", not 0")
   if (kind[i]) present++
   if (has_sensor(kind[i])) sensors++
+  if (is_older(kind[i])) older++
 }
-function read_state(of) {
-  bounded(of "protection", 15, "%02Xh", "and there are four blocks, 00h to 0Fh")
-  bounded(of "half", 1, "%d", "not 0 or 1")
+function read_state(i, of) {
+  if (is_older(kind[i])) {
+    bounded(of "protection", 1, "%02Xh", "and of an older memory block 0 alone is protected, 00h or 01h")
+    guarded[i] = b[at - 1]
+    bounded(of "half", 0, "%d", "and an older memory has half 0 alone")
+  } else {
+    bounded(of "protection", 15, "%02Xh", "and there are four blocks, 00h to 0Fh")
+    bounded(of "half", 1, "%d", "not 0 or 1")
+  }
   next_byte(of "counter")
   bounded(of "high voltage", 1, "%d", "not 0 or 1 (off, on)")
 }
@@ -62,10 +71,10 @@ function read_sensor(i, of,   r) {
   for (r = 1; r <= REGISTERS; r++) read_register(of "register " hex(REGISTER[r], 2) " (" REGISTER_NAME[r] ")", kept[r])
   bits[i] = b[at - 13] % 16      # 3 to 0 of register 01h
 }
-# The last field is there only where one of its bytes is 1.
+# The two last fields are there only where one of their bytes is not 0.
 function read_pending(   i, from, any, v) {
   from = at
-  head(5, 1, sensors, "sensor")
+  head(5, sensors, for_each(1, sensors, "sensor"))
   for (i = 0; i < SLOTS; i++) {
     if (!has_sensor(kind[i])) continue
     v = next_byte("slot " i "'s pending change")
@@ -76,29 +85,48 @@ function read_pending(   i, from, any, v) {
   }
   if (!any) depart(from, "no change is pending, and then this field is left out")
 }
-function read_form(   i, j) {
-  head(1, 2, SLOTS, "slot")
-  for (i = 0; i < SLOTS; i++) read_pair(i)
-  head(2, 512, present, "present slot")
-  for (i = 0; i < SLOTS; i++) for (j = 0; kind[i] && j < 512; j++) next_byte("byte " j " of slot " i "'s memory")
-  head(3, 4, present, "present slot")
-  for (i = 0; i < SLOTS; i++) if (kind[i]) read_state("slot " i "'s ")
-  head(4, 15, sensors, "sensor")
+function read_older(   i, from, any, v) {
+  from = at
+  head(6, older, for_each(1, older, "older slot"))
+  for (i = 0; i < SLOTS; i++) {
+    if (!is_older(kind[i])) continue
+    v = next_byte("slot " i "'s permanent protection and write-protect pin")
+    must(v <= 3, "slot " i "'s permanent protection (bit 0) and write-protect pin (bit 1) are " hex(v, 2) ", not 00h to 03h")
+    must(v % 2 == 0 || guarded[i], "slot " i "'s protection is permanent, and by field 3 it is not protected")
+    any += v
+  }
+  if (!any) depart(from, "nothing is protected for ever and no write-protect pin is on, and then this field is left out")
+}
+function memory_why() {
+  if (!older) return for_each(512, present, "present slot")
+  return for_each(256, older, "older slot") (present > older ? " and " for_each(512, present - older, "other present slot") : "")
+}
+function read_form(   i, j, all, may) {
+  head(1, 2 * SLOTS, for_each("two", SLOTS, "slot"))
+  for (i = 0; i < SLOTS; i++) { read_pair(i); if (kind[i]) all += bytes_of(kind[i]) }
+  head(2, all + 0, memory_why())
+  for (i = 0; i < SLOTS; i++) for (j = 0; kind[i] && j < bytes_of(kind[i]); j++) next_byte("byte " j " of slot " i "'s memory")
+  head(3, 4 * present, for_each(4, present, "present slot"))
+  for (i = 0; i < SLOTS; i++) if (kind[i]) read_state(i, "slot " i "'s ")
+  head(4, 15 * sensors, for_each(15, sensors, "sensor"))
   for (i = 0; i < SLOTS; i++) if (has_sensor(kind[i])) read_sensor(i, "slot " i "'s ")
   if (b[at] == 5) read_pending()
+  if (b[at] == 6) read_older()
   over = 1
+  may = field == 4 ? "5" : ""
+  if (older && field < 6) may = may (may == "" ? "6" : " or 6")
   if (at < size)
-    depart(at, "the form ends before this byte" (field == 4 ? ", or has the tag 5 here" : "") ", and " \
+    depart(at, "the form ends before this byte" (may == "" ? "" : ", or has the tag " may " here") ", and " \
       (size - at == 1 ? "1 byte follows" : sprintf("%.0f", size - at) " bytes follow"))
 }
 
 BEGIN {
-  split("setup;memory;protection, half, counter, high voltage;sensors;pending changes", title, ";")
+  split("setup;memory;protection, half, counter, high voltage;sensors;pending changes;permanent protection, write-protect pins", title, ";")
   split("1999 8188 8188 8188 65535 3 1", kept, " ")      # 07CFh, 1FFCh three times, FFFFh, 0003h, 0001h
 }
 { for (i = 1; i <= NF; i++) b[nbytes++] = $i + 0 }
 END {
-  nbytes += 0; at = 0; size += 0; present = 0; sensors = 0
+  nbytes += 0; at = 0; size += 0; present = 0; sensors = 0; older = 0
   read_form()
   print departure == "" ? "the place where it departs is not found here" : departure
 }

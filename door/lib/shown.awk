@@ -16,11 +16,6 @@ function sum(   i, n, list) {
   return plural(size, "byte") ", " (n ? (n == 1 ? "slot " : "slots ") joined(list, n) : "every slot absent")
 }
 
-function protection_words(i,   k, n, list) {
-  for (k = 0; k < 4; k++) if (of(i, "protection" k)) list[++n] = k
-  return protected_words(list, n)
-}
-
 # Sixteenths of a degree: bits 12 to 0, two's complement.
 function degrees(v,   text) {
   v %= 8192
@@ -68,7 +63,7 @@ function show_sensor(i,   r, text) {
 
 # The lines of sixteen bytes in which one is not FFh.
 function show_memory(i,   page, j, v, any, digits, text, shown) {
-  for (page = 0; page < 512; page += 16) {
+  for (page = 0; page < bytes_of(of(i, "kind")); page += 16) {
     digits = text = ""; any = 0
     for (j = 0; j < 16; j++) {
       v = b[memory + page + j]
@@ -81,11 +76,11 @@ function show_memory(i,   page, j, v, any, digits, text, shown) {
     printf "  %s %s   %s\n", hex(page, 3), digits, text
   }
   if (!shown) print "  memory: FFh in every byte"
-  memory += 512
+  memory += bytes_of(of(i, "kind"))
 }
 function show_slot(i) {
   print "slot " i ": " kind_words(of(i, "kind")) ", write cycle of " plural(of(i, "length"), "tick")
-  print "  " protection_words(i) ", half " of(i, "half") ", counter " hex(of(i, "counter"), 2) ", high voltage " (of(i, "voltage") ? "on" : "off")
+  print "  " protection_told(slot[i]) ", " half_told(slot[i]) "counter " hex(of(i, "counter"), 2) ", " voltage_told(slot[i])
   if (has_sensor(of(i, "kind"))) show_sensor(i)
   show_memory(i)
 }

@@ -4,13 +4,14 @@
 # Reads the case's plan and the lines of the program `watch` (watched.awk), which have the answers and the slots' numbers.
 # Writes rows, fields parted by tabs, times in microseconds:
 #
-#   P  slot, kind (1 memory, 2 memory with sensor), write cycle in ticks: a present slot
+#   P  slot, kind, write cycle in ticks: a present slot
 #   C  text: a comment line of the case, or a line of its setup
 #   E  number from 1, line in the case, from, to, kind, slot, value, in words, answer, expected answer (? if the case
 #      says none), comment behind it
 #   S  time, slot, ticks left of the write cycle, protection of blocks 0 to 3 (as 0110), high voltage (0, 1), whether its
-#      pin is asserted (0, 1), the pin's level (0 low, also where there is no sensor, 1 high): each slot at first, then
-#      where it changes
+#      EVENT pin is asserted (0, 1), that pin's level (0 low, also where there is no sensor, 1 high), whether protection
+#      is permanent (0, 1), its write-protect pin (0, also where there is none, 1): each slot at first, then where it
+#      changes
 #   Z  time: the end
 #
 # bench.awk and watched.awk are read before this.
@@ -32,6 +33,7 @@ function state_rows(at,   i, slot, line, now, b) {
     now = number_of(line, "left") "\t"
     for (b = 0; b < 4; b++) now = now number_of(line, "protection" b)
     now = now "\t" number_of(line, "voltage") "\t" number_of(line, "asserted") "\t" number_of(line, "level")
+    now = now "\t" number_of(line, "permanent") "\t" number_of(line, "write-protect")
     if (now != stood[slot]) print "S\t" at "\t" slot "\t" now
     stood[slot] = now
   }

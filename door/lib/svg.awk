@@ -17,9 +17,11 @@
 
 BEGIN {
   REFUSED = 0; START = 1; BYTE = 2; READ = 3; STOP = 4; TIMEOUT = 5; TICK = 6; VOLTAGE = 7; POWER = 8; TEMPERATURE = 9
+  WRITE_PROTECT = 10
   WIDE = 1046; PAGE = 718     # see head()
   LEFT = 95; RIGHT = 1040     # between them are the pieces
   FLAG = 60                   # the width of what is not to scale
+  WORDY = 76                  # the same, of longer words
   NOTE = 56                   # the bytes in a line of a note
   PIN = 14                    # the height of a pin's row
 }
@@ -78,11 +80,12 @@ function words_above(n,   s) {
   s = words[n]
   if (kind[n] == REFUSED) { sub(/ /, "|", s); return s }
   if (kind[n] == POWER) return "power cycle" (value[n] ? "|keeps " value[n] : "")
-  return n in control ? called(value[n]) : ""
+  return n in control ? name_of[n] : ""
 }
 function width_of(n) {
   if (kind[n] == REFUSED) return max(FLAG, 5 * (length(words[n]) - index(words[n], " ")) + 8)
   if (kind[n] == BYTE || kind[n] == READ) return 45
+  if (kind[n] == WRITE_PROTECT) return WORDY
   return kind[n] != START && kind[n] != STOP ? FLAG : differs(n) ? 45 : 10
 }
 function to_scale(n) { return kind[n] != REFUSED && (to[n] - from[n]) / 2 == width_of(n) }
@@ -220,7 +223,8 @@ function draw_piece(p,   n, w, svg, y) {
   if (differs(n)) svg = svg text(middle(p), bus_y + 40, "due mid red", "expected") text(middle(p), bus_y + 49, "due mid red", in_words(expected[n]))
   if (kind[n] == POWER) svg = svg path("M" middle(p) " " bus_y + 1 "V" axis_y, "power")
   y = lane_y[slot[n]]
-  if (kind[n] == VOLTAGE) svg = svg text(middle(p), y + 10, "small mid", value[n] ? "SA0 on" : "SA0 off")
+  if (kind[n] == VOLTAGE) svg = svg text(middle(p), y + 10, "small mid", "SA0 " on_words(value[n]))
+  if (kind[n] == WRITE_PROTECT) svg = svg text(middle(p), y + 10, "small mid", "write-protect " on_words(value[n]))
   if (kind[n] == TEMPERATURE) svg = svg text(middle(p), y + 10, "small mid", degrees(value[n])) path("M" middle(p) " " y + 13 "v6", "axis")
   return svg
 }
@@ -245,27 +249,30 @@ function end_voltage(i, x) {
 function end_protection(i, x,   b, y) {
   y = lane_y[i] + bar_y[i] + 9
   if (guarded[i] && x > since_safe[i])
-    for (b = 1; b <= 4; b++) marks = marks rect(since_safe[i], y + 4 * b, x - since_safe[i], 3, substr(safe[i], b, 1) == 1 ? "safe" : "open")
+    for (b = 1; b <= stripes[i]; b++)
+      marks = marks rect(since_safe[i], y + 4 * b, x - since_safe[i], 3, substr(safe[i], b, 1) != 1 ? "open" : lasts[i] ? "lasting" : "safe")
   since_safe[i] = x
 }
-function change(i, x, left, bits, on,   says) {
+function change(i, x, left, bits, on, for_ever,   says) {
   if ((left > 0) != busy[i]) { end_cycle(i, x); busy[i] = left > 0 }
   if (on != volts[i]) { end_voltage(i, x); volts[i] = on }
-  if (bits == safe[i]) return
+  if (bits == safe[i] && for_ever == lasts[i]) return
   end_protection(i, x)
-  if (blocks_of(bits, safe[i]) != "") says = in_a_row(blocks_of(bits, safe[i])) " protected "
+  if (for_ever != lasts[i]) says = in_a_row(blocks_of(bits, "")) " protected for ever"
+  else if (blocks_of(bits, safe[i]) != "") says = in_a_row(blocks_of(bits, safe[i])) " protected "
   if (blocks_of(safe[i], bits) != "") says = says in_a_row(blocks_of(safe[i], bits)) " free again"
   marks = marks text(x + 4, lane_y[i] + bar_y[i] + 9, "small", says)
-  safe[i] = bits
+  safe[i] = bits; lasts[i] = for_ever
 }
-# The EVENT pin, in a row of its own at the lane's foot: a line for its level, a shade where it is asserted.
+# A pin, in a row of its own at the lane's foot: a line for its level, a shade where a sensor's EVENT pin is asserted, or
+# an older memory's write-protect pin is on.
 function pin_y(i) { return lane_y[i] + lane_high[i] - PIN }
 function level_y(i) { return pin_y(i) + (up[i] ? 3 : PIN - 3) }
 function end_asserted(i, x,   w) {
   w = x - since_asserted[i]
   if (asserted[i] && w > 0)
     marks = marks rect(since_asserted[i], pin_y(i), w, PIN, "asserted") \
-      (w >= 50 ? text(since_asserted[i] + 4, pin_y(i) + 10, "small", "asserted") : "")
+      (w >= 50 ? text(since_asserted[i] + 4, pin_y(i) + 10, "small", pinned[i] == "EVENT" ? "asserted" : "on") : "")
   since_asserted[i] = x
 }
 function change_pin(i, x, is_asserted, is_high) {
@@ -286,7 +293,7 @@ function draw_lanes(s, x_end,   i, p, w, k, j, f, x) {
     for (j = 1; j <= k; j++) {
       split(w[j], f, " ")
       x = kind[last[p]] == TICK || kind[last[p]] == BYTE ? at[p] + wide[p] : middle(p)
-      change(f[1], x, f[2], f[3], f[4]); change_pin(f[1], x, f[5], f[6])
+      change(f[1], x, f[2], f[3], f[4], f[7]); change_pin(f[1], x, f[5], f[6])
     }
   }
   for (i = 0; i < SLOTS; i++) {
@@ -303,8 +310,9 @@ function draw_labels(n,   i, svg) {
   for (i = 0; i < SLOTS; i++) {
     if (!(i in module)) continue
     svg = svg text(6, lane_y[i] + 10, "strong", "slot " i) text(6, lane_y[i] + 20, "small", module[i])
-    if (safe[i] ~ /1/) svg = svg text(6, lane_y[i] + 30, "small", "protected:" blocks_of(safe[i], ""))
-    if (pinned[i]) svg = svg text(6, pin_y(i) + 11, "small", "EVENT pin, " (up[i] ? "high" : "low"))
+    if (safe[i] ~ /1/) svg = svg text(6, lane_y[i] + 30, "small", lasts[i] ? "protected for ever" : "protected:" blocks_of(safe[i], ""))
+    if (pinned[i] == "EVENT") svg = svg text(6, pin_y(i) + 11, "small", "EVENT pin, " (up[i] ? "high" : "low"))
+    if (pinned[i] == "write-protect") svg = svg text(6, pin_y(i) + 11, "small", "write-protect, " on_words(up[i]))
   }
   return svg
 }
@@ -394,8 +402,12 @@ function legend(   svg, i) {
   svg = svg rect(408, 52, 45, 15, "voltage") text(459, 62, "small", "high voltage on SA0")
   for (i = 0; i < 4; i++) svg = svg rect(580, 52 + 4 * i, 45, 3, i ? "open" : "safe")
   svg = svg text(631, 62, "small", "blocks 0 to 3 of a slot, block 0 protected") path("M872 50v18", "power") text(880, 62, "small", "power cycle")
-  if (pins) svg = svg rect(26, 76, 25, PIN, "asserted") path("M6 79h20v8h25", "axis") text(57, 86, "small", "EVENT pin, its level, asserted")
-  block(svg, pins ? 96 : 72)
+  if ("EVENT" in pins)
+    svg = svg rect(26, 76, 25, PIN, "asserted") path("M6 79h20v8h25", "axis") text(57, 86, "small", "EVENT pin, its level, asserted")
+  if ("write-protect" in pins)
+    svg = svg rect(284, 76, 36, PIN, "asserted") path("M264 87h20v-8h36", "axis") text(326, 86, "small", "write-protect pin, on")
+  if (lasting) svg = svg rect(580, 80, 45, 3, "lasting") text(631, 86, "small", "block 0 of an older memory, protected for ever")
+  block(svg, lasting || pin_rows ? 96 : 72)
 }
 
 function define_byte(id, d, y) { print "<g id=\"" id "\"><path d=\"" d "\"/><text x=\"38\" y=\"" y "\" class=\"bit\">" substr(id, 2) "</text></g>" }
@@ -425,7 +437,8 @@ function head(high) {
   print ".power { fill: none; stroke: #222; stroke-width: 2; stroke-dasharray: 6 2 } .frame { fill: none; stroke: #bbb }"
   print ".timeout { fill: #fff; stroke: #222 } .fold { fill: #f1f1f1 } .cycle { fill: #33628f }"
   print ".voltage { fill: #ffe680; fill-opacity: .8 } .safe { fill: #5b2a86 } .open { fill: #d8d8d8 }"
-  if (pins) print ".asserted { fill: #bfe3ea }"
+  if (pin_rows) print ".asserted { fill: #bfe3ea }"
+  if (lasting) print ".lasting { fill: #b00020 }"
   print "</style>"
   print "<defs>"
   define_byte("wA", "M.5 .5h44v23l-22 5l-22 -5z", 15); define_byte("wN", "M.5 .5h44v23l-22 5l-22 -5z", 15)
@@ -447,7 +460,7 @@ function print_pages(   b, y, page, n) {
   print "</svg>"
 }
 
-$1 == "P" { module[$2] = KIND[$3] ", " $4 " ms" }
+$1 == "P" { module[$2] = KIND[$3] ", " $4 " ms"; kind_at[$2] = $3; stripes[$2] = bytes_of($3) / 128 }
 $1 == "C" && $2 !~ /^ *#/ {
   setup = 1
   if (i = index($2, "#")) add_line(comments, events + 1, bare(substr($2, 1, i - 1)) ": " bare(substr($2, i)))
@@ -460,19 +473,22 @@ $1 == "E" {
   n = ++events
   line[n] = $3; from[n] = $4; to[n] = $5; slot[n] = $7; value[n] = $8; words[n] = clean($9); answer[n] = $10; expected[n] = $11
   kind[n] = $10 ~ /^R|^short/ ? REFUSED : $6 + 0
+  if (kind[n] == BYTE) name_of[n] = called(value[n], kind_at, on_at)
   if (!($3 in begins)) begins[$3] = n
   if (bare($12) != "") note[$3] = bare($12)
   unlike += differs(n); loose += $11 == "?"
-  if (kind[n] == VOLTAGE || kind[n] == TEMPERATURE) flagged[$7] = 1
+  if (kind[n] == VOLTAGE || kind[n] == TEMPERATURE || kind[n] == WRITE_PROTECT) flagged[$7] = 1
 }
 $1 == "S" {
-  shown = ($4 > 0) " " $5 " " $6 " " $7 " " $8
-  if (!events) { busy[$3] = $4 > 0; volts[$3] = $6; safe[$3] = protection[$3] = $5; asserted[$3] = $7; up[$3] = $8 }
-  else if (shown != was[$3]) add_line(changes, events, $3 " " $4 " " $5 " " $6 " " $7 " " $8)
-  if (uses_pin($7, $8, up[$3])) pins = pinned[$3] = 1
-  if ($5 != protection[$3]) tells[events] = 1
+  if (is_older(kind_at[$3])) $7 = $8 = $10      # the pin that it has
+  shown = ($4 > 0) " " $5 " " $6 " " $7 " " $8 " " $9
+  if (!events) { busy[$3] = $4 > 0; volts[$3] = $6; safe[$3] = protection[$3] = $5; asserted[$3] = $7; up[$3] = $8; lasts[$3] = permanent[$3] = $9 }
+  else if (shown != was[$3]) add_line(changes, events, $3 " " $4 " " $5 " " $6 " " $7 " " $8 " " $9)
+  if (uses_pin($7, $8, up[$3])) { pinned[$3] = is_older(kind_at[$3]) ? "write-protect" : "EVENT"; pins[pinned[$3]] = pin_rows = 1 }
+  if ($5 != protection[$3] || $9 != permanent[$3]) tells[events] = 1
   if ($5 ~ /1/) guarded[$3] = 1
-  was[$3] = shown; protection[$3] = $5
+  if ($9 == 1) lasting = 1
+  was[$3] = shown; protection[$3] = $5; permanent[$3] = $9; on_at[$3] = $6
 }
 END {
   events += 0

@@ -67,14 +67,14 @@ function on_byte(val, ack) {
   if (control == -1) { control = val; asked(val, ack) }
   if (!ack) spoiled = 1
 }
-# A control byte shows that a slot that would acknowledge it is ready; or, if that takes no high voltage, that each that
-# would heed it is not.
+# A control byte shows that a slot that would acknowledge it is ready; or, if high voltage is nothing to it, that each
+# that would heed it is not.
 function asked(val, ack,   s) {
   s = ack ? readiest(val) : -1
   if (s >= 0) answers(s, val)
   for (s = 0; s < SLOTS; s++) {
     if (!((n, s) in heeds)) continue
-    if (!ack && heeds[n, s] && ((val, s, 0) in could)) declines(s)
+    if (!ack && heeds[n, s] && ((val, s, "both") in could)) declines(s)
     if ((s in open) && ack && ((n "," s) in forced)) { ended_by[open[s]] = val; ends(s, start_gate, "heard") }
     if (!(s in open)) continue
     deaf[s] = 1
@@ -94,7 +94,7 @@ function is_cut(s, c,   m, w, i) {
 # Which slot it was that acknowledged a control byte: the only one that could; or, if all that would are in a cycle, the
 # one whose cycle has had the most of its time.
 function readiest(val,   s, many, part, most, best) {
-  for (s = 0; s < SLOTS; s++) if ((val, s, 1) in could) { best = s; many++ }
+  for (s = 0; s < SLOTS; s++) if (((val, s, 0) in could) || ((val, s, 1) in could)) { best = s; many++ }
   if (many == 1) return best
   best = -1
   for (s = 0; s < SLOTS; s++) {

@@ -3,4 +3,4 @@
 # the case's name; words.awk is read before this.
 
 BEGIN { print "# what the run of " ENVIRON["CASE"] " has beside the two wires" }
-$1 == "E" && $4 < $5 && $6 ~ /^[5789]$/ { printf "at %.3f ms %s\n", ($4 + 10) / 1000, record_words($6, $7, $8) }
+$1 == "E" && $4 < $5 && $6 ~ /^([5789]|10)$/ { printf "at %.3f ms %s\n", ($4 + 10) / 1000, record_words($6, $7, $8) }

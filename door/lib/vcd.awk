@@ -4,7 +4,8 @@
 # SCL and SDA stand high at rest. SDA moves while SCL is low, two microseconds behind its fall, but for a start (it
 # falls while SCL is high) and a stop (it rises). Where nobody drives it, SDA goes up. Comments stand before the first
 # time, each with its own, and a temperature, in sixteenths of a degree, is a real: at a comment between times, or a
-# vector, sigrok's reader (libsigrok 0.5.2) drops what follows. A sensor's EVENT pin is a wire too, where the run uses it.
+# vector, sigrok's reader (libsigrok 0.5.2) drops what follows. A sensor's EVENT pin is a wire too, where the run uses it,
+# and an older memory's write-protect pin, where the run sets it.
 
 function at(time, text) {
   if (time != clock) { print "#" time; clock = time }
@@ -49,6 +50,7 @@ function header(   i, name) {
     if (i in voltage_set) print "$var wire 1 v" i " slot" i "_voltage $end"
     if (i in temperature_set) print "$var real 64 t" i " slot" i "_temperature $end"
     if (i in pin_used) print "$var wire 1 e" i " slot" i "_event $end"
+    if (i in guard_set) print "$var wire 1 g" i " slot" i "_write_protect $end"
   }
   print "$upscope $end"
   print "$enddefinitions $end"
@@ -59,6 +61,7 @@ function header(   i, name) {
     if (i in present) print "0w" i
     if (i in voltage_set) print "0v" i
     if (i in pin_used) print pin_is[i] "e" i
+    if (i in guard_set) print "0g" i
   }
   print "$end"
   scl_is = sda_is = 1; clock = 0
@@ -73,6 +76,7 @@ function remark() {
   else if ($6 == 5) comment("timeout, SCL is held low, for longer than is drawn here")
   else if ($6 == 7) voltage_set[$7] = 1
   else if ($6 == 9) temperature_set[$7] = 1
+  else if ($6 == 10) guard_set[$7] = 1
 }
 function event(   t, kind) {
   if (refused()) return
@@ -90,10 +94,11 @@ function state() {
   if (($4 > 0) != cycle[$3]) { cycle[$3] = $4 > 0; at($2, cycle[$3] "w" $3) }
   if (($3 in voltage_set) && $6 != voltage[$3]) { voltage[$3] = $6; at($2, $6 "v" $3) }
   if (($3 in pin_used) && $8 != pin_is[$3]) { pin_is[$3] = $8; at($2, $8 "e" $3) }
+  if (($3 in guard_set) && $10 != guard[$3]) { guard[$3] = $10; at($2, $10 "g" $3) }
 }
 
 { row[++rows] = $0 }
-$1 == "P" { present[$2] = 1; cycle[$2] = voltage[$2] = 0 }
+$1 == "P" { present[$2] = 1; cycle[$2] = voltage[$2] = guard[$2] = 0 }
 $1 == "E" { remark() }
 $1 == "S" {
   if (!($3 in pin_is)) pin_is[$3] = $8

@@ -122,11 +122,10 @@ function event(part,   w, n, i, k, s, v, bytes, digits, words) {
     else if (w[2] == "nack") add(3, 0, 0, "")
     else reads(decimal(w[2], 1, 10000, "count"))
   }
-  else if (w[1] == "voltage") {
-    wants(n, 3, 3, "voltage SLOT on, or voltage SLOT off")
+  else if (w[1] == "voltage" || w[1] == "write-protect") {
+    if (n != 3 || (w[3] != "on" && w[3] != "off")) bad("the form is: " w[1] " SLOT on, or " w[1] " SLOT off")
     s = decimal(w[2], 0, 255, "slot number that a record can hold")
-    if (w[3] != "on" && w[3] != "off") bad("the form is: voltage SLOT on, or voltage SLOT off")
-    add(7, s, w[3] == "on", "")
+    add(w[1] == "voltage" ? 7 : 10, s, w[3] == "on", "")
   }
   else if (w[1] == "temperature") {
     wants(n, 3, 3, "temperature SLOT SIXTEENTHS")
@@ -189,11 +188,11 @@ function setupwords(left,   w, n, i) {
   if (index(left, ";")) bad("a setup line stands alone, without ;")
   if (w[1] == "slot") {
     if (form == "setup") bad("either slot lines or one setup line, not both")
-    wants(n, 3, 4, "slot NUMBER absent|memory|sensor LENGTH")
+    wants(n, 3, 4, "slot NUMBER absent|" kinds_listed("|", "|") " LENGTH")
     i = slot_number(w[2])
     if (i in kind) bad("slot " i " is named twice")
     kind[i] = kind_named(w[3])
-    if (kind[i] < 0) bad("a slot is absent, memory or sensor, not \"" w[3] "\"")
+    if (kind[i] < 0) bad("a slot is absent, " kinds_listed(", ", " or ") ", not \"" w[3] "\"")
     if (n == 3 && kind[i]) bad("the write-cycle length is missing: slot NUMBER " w[3] " LENGTH")
     size[i] = n == 4 ? decimal(w[4], 0, 255, "length that a setup can hold") : 0
   } else {
@@ -267,9 +266,10 @@ function record_words(kind, slot, val,   plain) {
   if (plain[kind] ~ /[a-z]/) return plain[kind]
   if (kind == 2 && val >= 0 && val <= 255) return "byte " show(val)
   if (kind == 3 && (val == 0 || val == 1)) return "read " (val ? "ack" : "nack")
-  if (kind == 7 && (val == 0 || val == 1)) return "voltage " slot " " (val ? "on" : "off")
+  if (kind == 7 && (val == 0 || val == 1)) return "voltage " slot " " on_words(val)
   if (kind == 8) return val ? "power " val : "power"
   if (kind == 9) return "temperature " slot " " val
+  if (kind == 10 && (val == 0 || val == 1)) return "write-protect " slot " " on_words(val)
   return "event " kind " " slot " " val
 }
 # An answer as a capture has it: its code and its byte
@@ -285,7 +285,7 @@ function answer_words(a) {
   if (a ~ /^D[0-9A-F][0-9A-F]$/) return substr(a, 2) "h"
   if (a == "R1") return "refused: 1 (memory of the wrong length)"
   if (a == "R2") return "refused: 2 (no such kind of event)"
-  if (a == "R3") return "refused: 3 (no such slot, or no sensor)"
+  if (a == "R3") return "refused: 3 (no such slot, or no sensor or write-protect pin)"
   if (a == "R4") return "refused: 4 (value out of range)"
   if (a == "R5") return "refused: 5 (bad setup)"
   if (a == "R6") return "refused: 6 (state out of range)"

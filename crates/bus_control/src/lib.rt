@@ -1,9 +1,10 @@
-// The control byte: what it asks for. Which slot then acknowledges is the slot's matter.
+// The control byte: what it asks for, of every slot and of an older module. Which slot then acknowledges is the slot's matter.
 ghost use mathlib.Core.Path.{_≡_};
 ghost use Rattle.bus_control.specs.Rows.{foundIn};
-ghost use Rattle.rules.specs.Control.{heardOf, commandOf};
+ghost use Rattle.rules.specs.Control.{heardOf, commandOf, raisedCommand, ownCommand, olderCommand, heardBy};
 use rules::BlockNo;
 use rules::Heard;
+use rules::Slot;
 use rules::SlotNo;
 
 // A row of the table of commands: the control byte, and what it asks for.
@@ -71,4 +72,54 @@ pub fn hear(b: u8) -> Heard
         0x60..=0x6F => command(b),
         _ => Heard::Nothing,
     }
+}
+
+// The commands of an older module with high voltage on (source document 002): 62h protects, 66h clears, and with the read bit both ask whether its
+// one block is protected.
+fn raised(b: u8) -> Heard
+    ensures { λ r. ⌜ r ≡ raisedCommand b ⌝ }
+{
+    match b {
+        0x62 => Heard::Protect(BlockNo(0)),
+        0x66 => Heard::ClearAll,
+        0x63 | 0x67 => Heard::ReadProtection(BlockNo(0)),
+        _ => Heard::Nothing,
+    }
+}
+
+// With it off the slot's select number protects for ever, and with the read bit asks the same.
+fn own(n: SlotNo, b: u8) -> Heard
+    ensures { λ r. ⌜ r ≡ ownCommand (n .0) b ⌝ }
+{
+    if b / 2 % 8 != n.0 {
+        return Heard::Nothing;
+    }
+    if b % 2 == 1 {
+        return Heard::ReadProtection(BlockNo(0));
+    }
+    Heard::ProtectForEver
+}
+
+// What a byte of the family 0110 asks of an older module in slot n: by the voltage at this byte, and nothing once its protection is permanent.
+fn older_command(n: SlotNo, b: u8, s: Slot) -> Heard
+    ensures { λ r. ⌜ r ≡ olderCommand (n .0) b s ⌝ }
+{
+    if s.old.permanent {
+        return Heard::Nothing;
+    }
+    if s.voltage {
+        return raised(b);
+    }
+    own(n, b)
+}
+
+// What a control byte asks of slot n; h is what it asks for by document 01, which holds for all but the 0110 bytes of an older module.
+pub fn heard_by(h: Heard, n: SlotNo, b: u8, s: Slot) -> Heard
+    requires { ⌜ h ≡ heardOf b ⌝ }
+    ensures { λ r. ⌜ r ≡ heardBy (n .0) b s ⌝ }
+{
+    if (s.kind == 3) & (b / 16 == 6) {
+        return older_command(n, b, s);
+    }
+    h
 }

@@ -1,7 +1,7 @@
 // The range of a state, by document 01's row 6: docs/RANGES.md has every number.
 ghost use mathlib.Core.Path.{_≡_};
 ghost use Rattle.proof_lists.specs.Each.{allOf};
-ghost use Rattle.rules.specs.Refusals.{lengthInRange, sensorInRange, pendingInRange, slotInRange};
+ghost use Rattle.rules.specs.Refusals.{lengthInRange, sensorInRange, pendingInRange, olderInRange, slotInRange};
 use rules::Sensor;
 use rules::Slot;
 
@@ -36,12 +36,21 @@ fn pending_in_range(s: Slot) -> bool
     !x.pending | (s.kind == 2) & bus_sensor::pin::can_pend(x.configuration)
 }
 
+// An older module's half is 0, and of its protection only block 0's is there, and is if permanent.
+fn older_in_range(s: Slot) -> bool
+    ensures { λ r. ⌜ r ≡ olderInRange s ⌝ }
+{
+    let protection = s.protection;
+    (s.kind != 3)
+        | (s.half == 0) & !protection[1] & !protection[2] & !protection[3] & (!s.old.permanent | protection[0])
+}
+
 // Every number of the slot is in its range.
 fn slot_in_range(s: Slot) -> bool
     ensures { λ r. ⌜ r ≡ slotInRange s ⌝ }
 {
     let x = s.sensor;
-    (s.kind <= 2)
+    (s.kind <= 3)
         & length_in_range(s)
         & (s.left <= s.length)
         & (s.half <= 1)
@@ -49,6 +58,7 @@ fn slot_in_range(s: Slot) -> bool
         & (s.place <= 15)
         & sensor_in_range(x)
         & pending_in_range(s)
+        & older_in_range(s)
 }
 
 // Row 6 lets the state pass: every number of every slot is in its range.

@@ -5,6 +5,7 @@ ghost use Rattle.rules.specs.Events.{actOf};
 ghost use Rattle.rules.specs.Refusals.{kindAt, wrongSlot, outside, wrongValue, ruledFor};
 ghost use Rattle.bus_refusals.specs.Kinds.{kindsIn};
 use rules::Act;
+use rules::Applied;
 use rules::Cut;
 use rules::Event;
 use rules::Refusal;
@@ -32,12 +33,15 @@ pub fn kind_at(slots: [Slot; 8], n: SlotNo) -> u8
     kind
 }
 
-// Row 3, by the kind of the slot that the event names: a voltage for one that is not there, or a temperature for one without a sensor.
+// Row 3, by the kind of the slot that the event names: a voltage for one that is not there, a temperature for one without a sensor, or a write-protect
+// pin of one that is no older module.
 fn wrong_slot(kind: u8, e: Event) -> bool
     ensures { λ r. ⌜ r ≡ wrongSlot kind e ⌝ }
 {
     let n = e.slot;
-    ((e.kind == 7) | (e.kind == 9)) & ((7 < n.0) | (kind == 0)) | (e.kind == 9) & (kind != 2)
+    ((e.kind == 7) | (e.kind == 9) | (e.kind == 10)) & ((7 < n.0) | (kind == 0))
+        | (e.kind == 9) & (kind != 2)
+        | (e.kind == 10) & (kind != 3)
 }
 
 // A value outside a range.
@@ -55,7 +59,7 @@ fn wrong_value(e: Event) -> bool
     let v = e.value;
     match kind {
         2 => outside(0, 255, v),
-        3 | 7 => outside(0, 1, v),
+        3 | 7 | 10 => outside(0, 1, v),
         8 => outside(0, 16, v),
         9 => outside(-640, 2000, v),
         _ => false,
@@ -77,9 +81,10 @@ fn act_of(e: Event) -> Act
         4 => Act::Stop,
         5 => Act::Timeout,
         6 => Act::Tick,
-        7 => Act::Voltage(n, 0 < v),
+        7 => Act::Apply(n, Applied::Voltage(0 < v)),
         8 => Act::Power(Cut(v as u8)),
-        _ => Act::Temperature(n, v),
+        9 => Act::Apply(n, Applied::Temperature(v)),
+        _ => Act::Apply(n, Applied::WriteProtect(0 < v)),
     }
 }
 
@@ -87,8 +92,8 @@ fn act_of(e: Event) -> Act
 pub fn ruled(kind: u8, e: Event) -> Ruling
     ensures { λ r. ⌜ r ≡ ruledFor kind e ⌝ }
 {
-    // Row 2: the kind is not 1 to 9.
-    if (e.kind < 1) | (9 < e.kind) {
+    // Row 2: the kind is not 1 to 10.
+    if (e.kind < 1) | (10 < e.kind) {
         return Ruling::Refused(Refusal::UnknownKind);
     }
     if wrong_slot(kind, e) {

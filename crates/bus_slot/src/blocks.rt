@@ -1,10 +1,10 @@
-// A slot's blocks and their protection, and the address that the counter points to, which lies in one of them.
+// A slot's blocks and what guards them, and the address that the counter points to, which lies in one of them.
 ghost use mathlib.Core.Path.{_≡_};
 ghost use mathlib.Core.Bool.{true, false};
 ghost use lib.ListN.{getD, set};
 ghost use Rattle.rules.specs.Modelled.{addressOf};
 ghost use Rattle.rules.specs.Control.{protects};
-ghost use Rattle.rules.specs.Memory.{guarded};
+ghost use Rattle.rules.specs.Memory.{pinOn, guarded};
 ghost use Rattle.rules.specs.Refusals.{slotInRange};
 use rules::Address;
 use rules::BlockNo;
@@ -49,11 +49,18 @@ pub fn protects(k: BlockNo, s: Slot) -> bool
     block_at(k, protection)
 }
 
-// The block of the next data byte is protected.
+// An older module's write-protect pin is on; no other slot has one.
+pub fn pin_on(s: Slot) -> bool
+    ensures { λ r. ⌜ r ≡ pinOn s ⌝ }
+{
+    (s.kind == 3) & s.old.pin
+}
+
+// The block of the next data byte is protected, or the write-protect pin is on.
 pub fn guarded(s: Slot) -> bool
     requires { ⌜ slotInRange s ≡ true ⌝ }
     ensures { λ r. ⌜ r ≡ guarded s ⌝ }
 {
     let a = address_of(s);
-    protects(BlockNo((a.0 / 128) as u8), s)
+    protects(BlockNo((a.0 / 128) as u8), s) | pin_on(s)
 }

@@ -4,7 +4,7 @@ ghost use mathlib.Core.Bool.{true};
 ghost use Prim.Native.Nat.{_+_, _≤_};
 ghost use lib.ListN.{length};
 ghost use Rattle.rules.specs.Modelled.{slotBytes};
-ghost use Rattle.rules.specs.Memory.{anyMark, begun, dataStop, ended, putUpTo, stored, tickedPart};
+ghost use Rattle.rules.specs.Memory.{anyMark, begun, commandStop, dataStop, brought, ended, putUpTo, stored, tickedPart};
 ghost use Rattle.rules.specs.Slot.{slotNext};
 ghost use Rattle.rules.specs.Refusals.{slotInRange};
 use super::blocks;
@@ -24,13 +24,23 @@ fn any_mark(marks: [bool; 16]) -> bool
 }
 
 // A stop that begins the write cycle, at its full length.
-pub fn begun(s: Slot) -> Slot
+fn begun(s: Slot) -> Slot
     ensures { λ r. ⌜ r ≡ begun s ⌝ }
 {
     let mut next = s;
     next.left = s.length;
     next.place = 0;
     next
+}
+
+// A stop after a command's two bytes: the write cycle begins, but under the write-protect pin neither cycle nor effect follows.
+pub fn command_stop(s: Slot) -> Slot
+    ensures { λ r. ⌜ r ≡ commandStop s ⌝ }
+{
+    if blocks::pin_on(s) {
+        return leaving::cancelled(s);
+    }
+    begun(s)
 }
 
 // A stop after data bytes: the write cycle begins if at least one is latched. It is a page's, and brings no protection.
@@ -56,7 +66,19 @@ fn put(part: &mut [u8], at: usize, latch: [u8; 16], marks: [bool; 16])
     }
 }
 
-// The write cycle ends: what is latched goes to part, the slot's own 512 bytes, and the protection to come stands.
+// The protection that the end brings: the one to come; of an older module block 0 alone, which stays protected if that is permanent.
+fn brought(s: Slot) -> [bool; 4]
+    ensures { λ r. ⌜ r ≡ brought s ⌝ }
+{
+    let coming = s.coming;
+    if s.kind == 3 {
+        return [coming[0] | (s.old.permanent | s.old.lasting), false, false, false];
+    }
+    coming
+}
+
+// The write cycle ends: what is latched goes to part, the slot's own 512 bytes, the protection to come stands, for ever if it is a lasting one, and
+// nothing more is to come.
 pub fn ended(s: Slot, part: &mut [u8]) -> Slot
     requires { ⌜ (slotInRange s ≡ true) × (length (now part) ≡ slotBytes) ⌝ }
     ensures { λ r. ⌜ (r ≡ ended s) × (now (part .exit) ≡ stored s (now (part .entry))) ⌝ }
@@ -66,10 +88,14 @@ pub fn ended(s: Slot, part: &mut [u8]) -> Slot
     let latch = s.latch;
     let marks = s.marks;
     put(part, at, latch, marks);
-    let protection = s.coming;
+    let protection = brought(s);
+    let permanent = s.old.permanent | s.old.lasting;
     let mut next = s;
     next.left = 0;
     next.protection = protection;
+    next.coming = protection;
+    next.old.permanent = permanent;
+    next.old.lasting = false;
     next.latch = [0u8; 16];
     next.marks = [false; 16];
     next

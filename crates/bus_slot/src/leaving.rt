@@ -17,13 +17,14 @@ pub fn abandoned(s: Slot) -> Slot
     next
 }
 
-// A protect or clear is cancelled: the protection to come is the one that stands.
+// A protect or clear is cancelled: the protection to come is the one that stands, and none will be permanent that was not.
 pub fn cancelled(s: Slot) -> Slot
     ensures { λ r. ⌜ r ≡ cancelled s ⌝ }
 {
     let standing = s.protection;
     let mut next = s;
     next.coming = standing;
+    next.old.lasting = false;
     next
 }
 

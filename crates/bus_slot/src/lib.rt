@@ -8,6 +8,6 @@ pub mod listen; // a byte from the master
 pub mod memory; // the memory in an exchange: counter, latch, bytes read
 pub mod obey; // a control byte
 pub mod phase; // where a slot stands in an exchange
-pub mod pins; // what reaches one slot alone: high voltage, temperature
+pub mod pins; // what reaches one slot alone: high voltage, temperature, the write-protect pin
 pub mod power; // a power cycle, and what it still does of a running write cycle
 pub mod signal; // what reaches every slot and carries nothing: start, stop, timeout

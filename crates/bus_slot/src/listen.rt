@@ -2,7 +2,7 @@
 ghost use mathlib.Core.Path.{_≡_};
 ghost use mathlib.Core.Bool.{true, not};
 ghost use lib.Dec.{leb};
-ghost use Rattle.rules.specs.Control.{heardOf};
+ghost use Rattle.rules.specs.Control.{heardBy};
 ghost use Rattle.rules.specs.Memory.{guarded, dataByte};
 ghost use Rattle.rules.specs.Slot.{pointer, firstByte, secondByte};
 ghost use Rattle.rules.specs.Refusals.{slotInRange};
@@ -18,7 +18,7 @@ use rules::Phase;
 use rules::Slot;
 use rules::SlotNo;
 
-// A data byte: refused in a protected block, else latched.
+// A data byte: refused in a protected block and under the write-protect pin, else latched.
 fn data_byte(b: u8, s: Slot) -> Heed
     requires { ⌜ slotInRange s ≡ true ⌝ }
     ensures { λ r. ⌜ r ≡ record { slot = dataByte b s; ack = not (guarded s) } ⌝ }
@@ -62,9 +62,9 @@ fn second_byte(b: u8, s: Slot) -> Slot
     leaving::lost(Phase::SensorLow, next)
 }
 
-// A byte from the master at slot n; h is what it asks for as a control byte.
+// A byte from the master at slot n; h is what it asks of this slot as a control byte.
 pub fn byte(s: Slot, n: SlotNo, b: u8, h: Heard) -> Heed
-    requires { ⌜ (slotInRange s ≡ true) × (h ≡ heardOf b) ⌝ }
+    requires { ⌜ (slotInRange s ≡ true) × (h ≡ heardBy (n .0) b s) ⌝ }
     ensures { λ r. ⌜ r ≡ heeded (n .0) b s ⌝ }
 {
     let phase = phase::standing(s);

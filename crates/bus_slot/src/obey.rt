@@ -3,7 +3,7 @@ ghost use mathlib.Core.Path.{_≡_};
 ghost use mathlib.Core.Bool.{true, false, cond, _&&_};
 ghost use lib.Dec.{eqb};
 ghost use lib.ListN.{set};
-ghost use Rattle.rules.specs.Fields.{inPhase, expecting, holding};
+ghost use Rattle.rules.specs.Fields.{inPhase, toCome, holding};
 ghost use Rattle.rules.specs.Pin.{readOf};
 ghost use Rattle.rules.specs.Control.{acksHeard, obeyed};
 use super::blocks;
@@ -46,18 +46,20 @@ fn acks_heard(h: Heard, n: SlotNo, s: Slot) -> bool
         Heard::ReadProtection(k) => !blocks::protects(k, s),
         Heard::SelectHalf(_) => true,
         Heard::ReadHalf => s.half == 0,
+        Heard::ProtectForEver => true,
         Heard::Nothing => false,
     }
 }
 
-// The slot with a protect begun: block k is to come to the protection that stands.
-fn protecting(k: BlockNo, s: Slot) -> Slot
-    ensures { λ r. ⌜ r ≡ inPhase Phase.CommandAddress (expecting (set (s .protection) (k .0) true) s) ⌝ }
+// The slot with a protect begun: block k is to come to the protection that stands, and whether that will be permanent.
+fn protecting(k: BlockNo, lasting: bool, s: Slot) -> Slot
+    ensures { λ r. ⌜ r ≡ inPhase Phase.CommandAddress (toCome (set (s .protection) (k .0) true) lasting s) ⌝ }
 {
     let protection = s.protection;
     let coming = blocks::with_block(k, protection);
     let mut next = s;
     next.coming = coming;
+    next.old.lasting = lasting;
     phase::in_phase(Phase::CommandAddress, next)
 }
 
@@ -89,10 +91,11 @@ fn obeyed(h: Heard, s: Slot) -> Slot
             }
             phase::in_phase(Phase::SensorPointer, s)
         }
-        Heard::Protect(k) => protecting(k, s),
+        Heard::Protect(k) => protecting(k, false, s),
         Heard::ClearAll => {
             let mut next = s;
             next.coming = [false; 4];
+            next.old.lasting = false;
             phase::in_phase(Phase::CommandAddress, next)
         }
         Heard::ReadProtection(_) => phase::in_phase(Phase::Deaf, s),
@@ -102,6 +105,7 @@ fn obeyed(h: Heard, s: Slot) -> Slot
             phase::in_phase(Phase::HalfSelected, next)
         }
         Heard::ReadHalf => phase::in_phase(Phase::Deaf, s),
+        Heard::ProtectForEver => protecting(BlockNo(0), true, s),
         Heard::Nothing => phase::in_phase(Phase::Deaf, s),
     }
 }

@@ -27,22 +27,18 @@ fn first_of(k: Cut, marks: [bool; 16]) -> [bool; 16]
     first
 }
 
-// A running cycle with the rest lost: of its bytes the first so many are left, and of the protection to come all or nothing.
+// A running cycle with the rest lost: of its bytes the first so many are left.
 fn shortened(k: Cut, s: Slot) -> Slot
     ensures { λ r. ⌜ r ≡ cut k s ⌝ }
 {
     let marks = s.marks;
-    let protection = s.protection;
     let first = first_of(k, marks);
     let mut next = s;
     next.marks = first;
-    if k.0 == 0 {
-        next.coming = protection;
-    }
     next
 }
 
-// Power keeps protection and voltage, and all else is fresh.
+// Power keeps protection, permanent or not, the voltage and the write-protect pin, and all else is fresh.
 fn powered(s: Slot) -> Slot
     ensures { λ r. ⌜ r ≡ powered s ⌝ }
 {
@@ -51,10 +47,13 @@ fn powered(s: Slot) -> Slot
     next.protection = protection;
     next.coming = protection;
     next.voltage = s.voltage;
+    next.old.permanent = s.old.permanent;
+    next.old.pin = s.old.pin;
     next
 }
 
-// A power cycle; part is the slot's own 512 bytes, which change where it cuts a write cycle short. An absent slot is left alone.
+// A power cycle; part is the slot's own 512 bytes, which change where it cuts a write cycle short. Without a cycle the number has no effect, and 0
+// drops a running one: no byte is stored and no protection comes. An absent slot is left alone.
 pub fn cut(k: Cut, s: Slot, part: &mut [u8]) -> Slot
     requires { ⌜ (slotInRange s ≡ true) × (length (now part) ≡ slotBytes) ⌝ }
     ensures { λ r. ⌜ (r ≡ slotNext 0 (Act.Power k) s) × (now (part .exit) ≡ cutPart k s (now (part .entry))) ⌝ }
@@ -62,7 +61,7 @@ pub fn cut(k: Cut, s: Slot, part: &mut [u8]) -> Slot
     if s.kind == 0 {
         return s;
     }
-    if s.left == 0 {
+    if (s.left == 0) | (k.0 == 0) {
         return powered(s);
     }
     powered(cycle::ended(shortened(k, s), part))

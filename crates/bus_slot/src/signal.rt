@@ -21,7 +21,7 @@ fn stop_in(p: Phase, s: Slot) -> Slot
         | Phase::HalfSelected => s,
         Phase::MemoryData => cycle::data_stop(s),
         Phase::CommandAddress | Phase::CommandData => leaving::cancelled(s),
-        Phase::CommandStop => cycle::begun(s),
+        Phase::CommandStop => cycle::command_stop(s),
         Phase::SensorPointer
         | Phase::SensorHigh
         | Phase::SensorLow

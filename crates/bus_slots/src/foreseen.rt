@@ -32,9 +32,8 @@ pub fn carried(a: Act) -> Carried
         Act::Stop => Carried::Nothing,
         Act::Timeout => Carried::Nothing,
         Act::Tick => Carried::Nothing,
-        Act::Voltage(_, _) => Carried::Nothing,
         Act::Power(_) => Carried::Nothing,
-        Act::Temperature(_, _) => Carried::Nothing,
+        Act::Apply(_, _) => Carried::Nothing,
     }
 }
 
@@ -88,7 +87,7 @@ fn at_signal(next: Phase, s: Slot) -> Change
     Change::To(next)
 }
 
-// A slot that does not acknowledge its control byte goes deaf.
+// A slot that does not acknowledge its control byte goes deaf; h is what that asks for by document 01.
 fn at_control(b: u8, h: Heard, n: SlotNo, s: Slot) -> Change
     requires { ⌜ h ≡ heardOf b ⌝ }
     ensures { λ r. ⌜ Foreseen r (n .0) (Act.Byte b) s ⌝ }
@@ -96,7 +95,7 @@ fn at_control(b: u8, h: Heard, n: SlotNo, s: Slot) -> Change
     let p = bus_slot::phase::standing(s);
     match p {
         Phase::Control => {
-            if bus_slot::obey::acks_control(h, n, s) {
+            if bus_slot::obey::acks_control(bus_control::heard_by(h, n, b, s), n, s) {
                 return Change::More;
             }
             Change::To(Phase::Deaf)
@@ -115,7 +114,7 @@ fn at_tick(n: SlotNo, s: Slot) -> Change
     Change::More
 }
 
-// A voltage or a temperature touches the slot that it names.
+// What is applied to one slot touches the slot that it names.
 fn at_one(k: SlotNo, n: SlotNo) -> Change
     ensures { λ r. ⌜ r ≡ cond (eqb (k .0) (n .0)) Change.More Change.Nothing ⌝ }
 {
@@ -141,8 +140,7 @@ pub fn glance(a: Act, carries: bool, h: Heard, n: SlotNo, s: Slot) -> Change
         Act::Stop => at_signal(Phase::Idle, s),
         Act::Timeout => at_signal(Phase::Idle, s),
         Act::Tick => at_tick(n, s),
-        Act::Voltage(k, _) => at_one(k, n),
         Act::Power(_) => Change::More,
-        Act::Temperature(k, _) => at_one(k, n),
+        Act::Apply(k, _) => at_one(k, n),
     }
 }

@@ -11,6 +11,7 @@ ghost use Rattle.bus_slots.specs.Foreseen.{heardIn};
 ghost use Rattle.bus_slots.specs.Stepped.{stepped};
 use bus_slot::signal::Signal;
 use rules::Act;
+use rules::Applied;
 use rules::Heard;
 use rules::Slot;
 use rules::SlotNo;
@@ -35,12 +36,12 @@ fn quiet(slot: Slot) -> Step
     }
 }
 
-// A step at a byte.
+// A step at a byte; h is what it asks for by document 01.
 fn heeding(b: u8, h: Heard, n: SlotNo, s: Slot) -> Step
     requires { ⌜ (slotInRange s ≡ true) × (h ≡ heardOf b) ⌝ }
     ensures { λ r. ⌜ r ≡ record { slot = slotNext (n .0) (Act.Byte b) s; ack = acks (n .0) b s; drives = false; byte = 255 } ⌝ }
 {
-    let x = bus_slot::listen::byte(s, n, b, h);
+    let x = bus_slot::listen::byte(s, n, b, bus_control::heard_by(h, n, b, s));
     let slot = x.slot;
     Step {
         slot,
@@ -65,22 +66,12 @@ fn driving(more: bool, s: Slot, part: &[u8]) -> Step
     }
 }
 
-// The step at a voltage for slot k.
-fn voltage(k: SlotNo, on: bool, n: SlotNo, s: Slot) -> Step
-    ensures { λ r. ⌜ r ≡ record { slot = slotNext (n .0) (Act.Voltage k on) s; ack = false; drives = false; byte = 255 } ⌝ }
+// The step at what is applied to slot k.
+fn applied(k: SlotNo, x: Applied, n: SlotNo, s: Slot) -> Step
+    ensures { λ r. ⌜ r ≡ record { slot = slotNext (n .0) (Act.Apply k x) s; ack = false; drives = false; byte = 255 } ⌝ }
 {
     if k.0 == n.0 {
-        return quiet(bus_slot::pins::switched(on, s));
-    }
-    quiet(s)
-}
-
-// The step at a temperature of slot k.
-fn temperature(k: SlotNo, t: i16, n: SlotNo, s: Slot) -> Step
-    ensures { λ r. ⌜ r ≡ record { slot = slotNext (n .0) (Act.Temperature k t) s; ack = false; drives = false; byte = 255 } ⌝ }
-{
-    if k.0 == n.0 {
-        return quiet(bus_slot::pins::heated(t, s));
+        return quiet(bus_slot::pins::applied(x, s));
     }
     quiet(s)
 }
@@ -97,8 +88,7 @@ pub fn next(a: Act, n: SlotNo, h: Heard, s: Slot, part: &mut [u8]) -> Step
         Act::Stop => quiet(bus_slot::signal::signalled(Signal::Stop, s)),
         Act::Timeout => quiet(bus_slot::signal::signalled(Signal::Timeout, s)),
         Act::Tick => quiet(bus_slot::cycle::tick(s, part)),
-        Act::Voltage(k, on) => voltage(k, on, n, s),
         Act::Power(k) => quiet(bus_slot::power::cut(k, s, part)),
-        Act::Temperature(k, t) => temperature(k, t, n, s),
+        Act::Apply(k, x) => applied(k, x, n, s),
     }
 }

@@ -3,23 +3,24 @@
 use Prim.Native.Nat.{ℕ, _+_, _<_, _≤_}
 use native.Mathlib.Numerals.{add-one}
 use mathlib.Core.Path.{_≡_, refl, sym, _∙_, ap}
-use mathlib.Core.Bool.{Bool, true, false, _&&_}
+use mathlib.Core.Bool.{Bool, true, false, _&&_, _||_}
 use mathlib.Core.List.{List}
-use lib.Dec.{ltb}
+use lib.Dec.{eqb, ltb}
 use lib.ListN.{length, getD, set}
-use borrow.Author.Tests.{eq-eqb, ne-eqb}
+use borrow.Author.Tests.{eq-eqb, ne-eqb, eqb-true}
 use Rattle.proof_lists.specs.Each.{mapTo, mapTo-none, mapTo-step, mapTo-same, mapTo-full}
+use Rattle.proof_lists.specs.Tests.{or-cases, or-left-false, or-right-false}
 use Rattle.rules.specs.declared.Cut.{Cut}
 use Rattle.rules.specs.declared.Act.the-variants.{Power}
 use Rattle.rules.specs.declared.Slot.{Slot}
-use Rattle.rules.specs.Modelled.{absent, sensing}
-use Rattle.rules.specs.Fields.{expecting, latched}
+use Rattle.rules.specs.Modelled.{absent, sensing, older}
 use Rattle.rules.specs.Fresh.{powered}
-use Rattle.rules.specs.Memory.{ended, stored}
+use Rattle.rules.specs.Memory.{emptied, permanentThen, brought, ended, stored}
 use Rattle.rules.specs.Open.{open-fields, open-refusals}
-use Rattle.rules.specs.Power.{running, latchedBelow, firstOf, broughtBy, cut, powerCut, cutPart}
+use Rattle.rules.specs.Power.{running, latchedBelow, firstOf, cut, finished, powerCut, cutPart}
 use Rattle.rules.specs.Refusals.{slotInRange}
-use Rattle.rules.specs.Slot.{presentNext, slotNext}
+use Rattle.rules.specs.Slot.{presentNext, slotNext, partNext}
+use Rattle.rules.proofs.Document.Cut.{no-cycle, with-none}
 
 -- the first so many are chosen one place a turn, with the number of those below it at hand
 abbrev pub chosen : Cut → List Bool → ℕ → Bool → Bool
@@ -45,18 +46,14 @@ pub chosen-all : (k : Cut) (marks : List Bool) (i : ℕ) (first : List Bool) (be
 unfolding firstOf
 chosen-all k marks i first below l c = c .0 ∙ mapTo-full (chosen k marks) 0 i marks l
 
--- a cycle cut short, with nothing brought and with all of it
-pub cut-none : (k : Cut) (s r : Slot) (first : List Bool) → first ≡ firstOf k (s .marks) → k .0 ≡ 0 → r ≡ expecting (s .protection) (latched (s .latch) first s) → r ≡ cut k s
-unfolding cut broughtBy
-cut-none k s r first e z f = f ∙ rw (e, eq-eqb (k .0) 0 z)
-
-pub cut-some : (k : Cut) (s r : Slot) (first : List Bool) → first ≡ firstOf k (s .marks) → (k .0 ≡ 0 → ⊥) → r ≡ latched (s .latch) first s → r ≡ cut k s
-unfolding cut broughtBy open-fields
-cut-some k s r first e z f = f ∙ rw (e, ne-eqb (k .0) 0 z)
+-- a cycle cut short ends as the whole would: no byte is left in the latch
+cut-ends : (k : Cut) (s : Slot) → ended (cut k s) ≡ ended s
+unfolding ended emptied brought permanentThen older cut open-fields
+cut-ends k s = refl
 
 -- it is no further out of range
 pub cut-in-range : (k : Cut) (s : Slot) → slotInRange s ≡ true → slotInRange (cut k s) ≡ true
-unfolding cut open-fields open-refusals sensing
+unfolding cut open-fields open-refusals sensing older
 cut-in-range k s e = e
 
 -- a power cycle: the slot after it, and its bytes
@@ -69,15 +66,21 @@ module _ (k : Cut) (s r : Slot) (m q : List ℕ) where
   unfolding slotNext cutPart absent
   power-absent a e f = (rw (eq-eqb _ _ a) e, rw (eq-eqb _ _ a) f)
 
-  -- no cycle runs
-  pub power-rests : (s .kind ≡ 0 → ⊥) → s .left ≡ 0 → r ≡ powered s → q ≡ m → AfterCut k s m r q
-  unfolding slotNext presentNext powerCut cutPart running absent
-  power-rests a l e f = (rw (ne-eqb _ _ a, eq-eqb _ _ l) e, rw (ne-eqb _ _ a, eq-eqb _ _ l) f)
+  abbrev unstored : Bool
+  unstored = eqb (s .left) 0 || eqb (k .0) 0
+
+  -- no cycle runs, or it is dropped
+  pub power-rests : (s .kind ≡ 0 → ⊥) → unstored ≡ true → r ≡ powered s → q ≡ m → AfterCut k s m r q
+  unfolding partNext running absent
+  power-rests a l e f =
+      let u = or-cases (eqb (s .left) 0) (eqb (k .0) 0) l (λ z. no-cycle 0 k s m (ne-eqb _ _ a) (rw z)) (λ z. with-none 0 k s m (ne-eqb _ _ a) (eqb-true (k .0) 0 z)) in
+      (e ∙ sym (u .0), f ∙ sym (u .1))
 
   -- one is cut short
-  pub power-cuts : (s .kind ≡ 0 → ⊥) → (s .left ≡ 0 → ⊥) → (x y : Slot) → x ≡ cut k s → y ≡ ended x → q ≡ stored x m → r ≡ powered y → AfterCut k s m r q
-  unfolding slotNext presentNext powerCut cutPart running absent
-  power-cuts a l x y e f g h = (
-    rw (ne-eqb _ _ a, ne-eqb _ _ l) (h ∙ ap powered (f ∙ ap ended e)),
-    rw (ne-eqb _ _ a, ne-eqb _ _ l) (g ∙ ap (λ (z : Slot). stored z m) e),
-  )
+  pub power-cuts : (s .kind ≡ 0 → ⊥) → unstored ≡ false → (x y : Slot) → x ≡ cut k s → y ≡ ended x → q ≡ stored x m → r ≡ powered y → AfterCut k s m r q
+  unfolding slotNext presentNext powerCut finished cutPart running absent
+  power-cuts a l x y e f g h =
+      let runs = or-left-false (eqb (s .left) 0) (eqb (k .0) 0) l in (
+        rw (ne-eqb _ _ a, runs, or-right-false (eqb (s .left) 0) (eqb (k .0) 0) l) (h ∙ ap powered (f ∙ ap ended e ∙ cut-ends k s)),
+        rw (ne-eqb _ _ a, runs) (g ∙ ap (λ (z : Slot). stored z m) e),
+      )

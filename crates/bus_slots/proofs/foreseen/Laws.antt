@@ -6,10 +6,10 @@ use mathlib.Core.Logic.{inl, inr, ⊎-elim}
 use Prim.Native.Nat.{ℕ}
 use borrow.Author.Tests.{ne-eqb}
 use lib.Dec.{eqb}
-use lib.IntN.{ℤ}
 use Rattle.proof_lists.specs.Tests.{cond-cases, cond-same, or-left-false, or-right-false}
 use Rattle.rules.specs.declared.Act.{Act}
 use Rattle.rules.specs.declared.Act.the-variants.{Start, Byte, Read, Stop, Timeout, Tick, Power, Apply}
+use Rattle.rules.specs.declared.Applied.{Applied}
 use Rattle.rules.specs.declared.Phase.{Phase}
 use Rattle.rules.specs.declared.Phase.the-variants.{Idle, Control, Deaf, MemoryCounter, MemoryData, MemoryRead, HalfSelected, CommandAddress, CommandData, CommandStop, SensorPointer, SensorHigh, SensorLow, SensorReadHigh, SensorReadLow}
 use Rattle.rules.specs.declared.Slot.{Slot}
@@ -17,7 +17,7 @@ use Rattle.rules.specs.declared.SlotNo.{SlotNo}
 use Rattle.rules.specs.declared.Traits.{Traits}
 use Rattle.rules.specs.Modelled.{absent}
 use Rattle.rules.specs.declared.Heard.{Heard}
-use Rattle.rules.specs.Control.{heardOf, acksHeard, acksControl, obeyed, controlled}
+use Rattle.rules.specs.Control.{heardOf, heardBy, acksHeard, acksControl, obeyed, controlled}
 use Rattle.rules.specs.Fields.{inPhase}
 use Rattle.rules.specs.Slot.{traits, standing, letGo, stopIn, byteIn, acksIn, readIn, drivesIn, presentNext, slotNext, acks, drives, partNext}
 use Rattle.rules.proofs.Document.Cycle.{idle-tick, idle-tick-part}
@@ -107,12 +107,12 @@ module _ (n : ℕ) (s : Slot) where
   unfolding Foreseen byteIn acksIn
   byte-deaf b q e f = byte-to b Deaf s (sym e ∙ f) refl refl
 
-  pub byte-control : (b : ℕ) (q : Phase) (d : Heard) (k : Bool) → q ≡ standing s → q ≡ Control → d ≡ heardOf b → k ≡ (eqb (s .left) 0 && acksHeard d n s) → k ≡ false
+  pub byte-control : (b : ℕ) (q : Phase) (d : Heard) (k : Bool) → q ≡ standing s → q ≡ Control → d ≡ heardBy n b s → k ≡ (eqb (s .left) 0 && acksHeard d n s) → k ≡ false
       → Foreseen (change.To Deaf) n (Byte b) s
   unfolding Foreseen byteIn acksIn controlled acksControl
   byte-control b q d k e f w g h =
       let z : acksControl n b s ≡ false = ap (λ (x : Heard). eqb (s .left) 0 && acksHeard x n s) (sym w) ∙ sym g ∙ h in
-      byte-to b Control (inPhase Deaf s) (sym e ∙ f) (ap (λ (x : Bool). cond x (obeyed (heardOf b) s) (inPhase Deaf s)) z) z
+      byte-to b Control (inPhase Deaf s) (sym e ∙ f) (ap (λ (x : Bool). cond x (obeyed (heardBy n b s) s) (inPhase Deaf s)) z) z
 
   -- a read that is not driven
   read-same : (more : Bool) (p : Phase) → standing s ≡ p → readIn p more s ≡ s → drivesIn p ≡ false → Foreseen change.Nothing n (Read more) s
@@ -146,17 +146,11 @@ module _ (n : ℕ) (s : Slot) where
   unfolding Foreseen
   tick-rests e = (idle-tick n s e, record { mute = refl; still = refl; kept = λ m. idle-tick-part s m e })
 
-  -- another slot's voltage or temperature
-  pub voltage-other : (c : Change) (k : SlotNo) (on : Bool) → c ≡ cond (eqb (k .0) n) change.More change.Nothing → Foreseen c n (Voltage k on) s
+  -- what is applied to another slot
+  pub applied-other : (c : Change) (k : SlotNo) (x : Applied) → c ≡ cond (eqb (k .0) n) change.More change.Nothing → Foreseen c n (Apply k x) s
   unfolding Foreseen partNext slotNext presentNext
-  voltage-other c k on e =
-      rw e (cond-cases (λ (x : Change). Foreseen x n (Voltage k on) s) (eqb (k .0) n) (λ t. tt)
-      (λ f. (rw f (cond-same (absent s) s), record { mute = refl; still = refl; kept = λ m. refl })))
-
-  pub temperature-other : (c : Change) (k : SlotNo) (t : ℤ) → c ≡ cond (eqb (k .0) n) change.More change.Nothing → Foreseen c n (Temperature k t) s
-  unfolding Foreseen partNext slotNext presentNext
-  temperature-other c k t e =
-      rw e (cond-cases (λ (x : Change). Foreseen x n (Temperature k t) s) (eqb (k .0) n) (λ h. tt)
+  applied-other c k x e =
+      rw e (cond-cases (λ (y : Change). Foreseen y n (Apply k x) s) (eqb (k .0) n) (λ t. tt)
       (λ f. (rw f (cond-same (absent s) s), record { mute = refl; still = refl; kept = λ m. refl })))
 
 -- the traits of the phase that a slot stands in, by the tests

@@ -5,13 +5,12 @@
 use Prim.Native.Nat.{ℕ, _≤_}
 use native.Mathlib.Omega.{arith}
 use mathlib.Core.Path.{_≡_, refl, sym, _∙_, ap}
-use mathlib.Core.Bool.{Bool, true, false, false≢true, not, cond, _&&_, _||_, and-true, or-false, or-true}
-use mathlib.Core.List.{List, map}
+use mathlib.Core.Bool.{Bool, true, false, not, cond, _&&_, _||_, and-true, or-false, or-true}
+use mathlib.Core.List.{List}
 use lib.Dec.{eqb, leb, ltb}
 use lib.IntN.{pos, negsuc}
-use lib.ListN.{getD}
-use borrow.Author.Tests.{eqb-true, eqb-false, ne-eqb, le-leb, lt-leb, le-ltb, leb-true, leb-false, eq-eqb}
-use Rattle.proof_lists.specs.Tests.{by-test, cond-cases}
+use borrow.Author.Tests.{eqb-false, ne-eqb, le-leb, lt-leb, le-ltb, leb-true, leb-false, eq-eqb}
+use Rattle.proof_lists.specs.Tests.{by-test}
 use Rattle.rules.specs.declared.Applied.the-variants.{Voltage, WriteProtect}
 use Rattle.rules.specs.declared.BlockNo.{BlockNo}
 use Rattle.rules.specs.declared.Bus.{Bus}
@@ -20,12 +19,13 @@ use Rattle.rules.specs.declared.Event.{Event}
 use Rattle.rules.specs.declared.Phase.the-variants.{Deaf, CommandStop}
 use Rattle.rules.specs.declared.Slot.{Slot}
 use Rattle.rules.specs.declared.SlotNo.{SlotNo}
-use Rattle.rules.specs.Control.{heardOf, heardBy, protects, acksHeard, acksControl, obeyed, controlled}
+use Rattle.rules.specs.Control.{heardOf, protects, acksHeard, acksControl, obeyed, controlled}
 use Rattle.rules.specs.Fields.{inPhase, withLeft, protecting, expecting, withVoltage, lasts, withOld}
 use Rattle.rules.specs.Fresh.{powered}
 use Rattle.rules.specs.Memory.{pinOn, guarded, begun, commandStop, emptied, permanentThen, brought, ended}
 use Rattle.rules.specs.Modelled.{older, addressOf, blockOf}
-use Rattle.rules.specs.Power.{finished, powerCut}
+use Rattle.rules.specs.Open.{open-fields, open-memory}
+use Rattle.rules.specs.Power.{running, finished, powerCut}
 use Rattle.rules.specs.Reader.{noBlock}
 use Rattle.rules.specs.Refusals.{wrongLength, unknownKind, kindsOf, kindAt, wrongSlot, outside, wrongValue, kindInRange, lengthInRange, sensorInRange, pendingInRange, olderInRange, slotInRange, inRange}
 use Rattle.rules.specs.Slot.{standing, commanding, lost, stopIn, endures, switched, shielded, applied}
@@ -64,6 +64,14 @@ module _ (n : ℕ) (s : Slot) (newer : older s ≡ false) where
   pub no-pin : (on : Bool) → applied (WriteProtect on) s ≡ s
   unfolding applied shielded
   no-pin on = rw newer
+
+  -- a power cycle: what it leaves of a running cycle was said of what was to come, and is now said of the cycle. All but what no newer slot looks at:
+  pub former-power : (k : Cut) → powerCut k s
+      ≡ withOld ((powerCut k s) .old) (powered (cond (running s) (ended (expecting (cond (eqb (k .0) 0) (s .protection) (s .coming)) s)) s))
+  unfolding powerCut finished powered ended brought older open-fields open-memory
+  former-power k = by-test (running s)
+      (λ e. by-test (eqb (k .0) 0) (λ f. rw (e, f, newer)) (λ f. rw (e, f, newer)))
+      (λ e. rw e)
 
   -- row 6: with a kind of 0..2
   pub former-range : slotInRange s

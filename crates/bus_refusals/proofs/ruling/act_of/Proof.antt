@@ -23,4 +23,5 @@ act-of-spec =
     (λ c. rw (c .match .keys6))
     (λ c. rw (back (c .before .before .before .args .e .value) (omega arith), c .match .keys7))
     (λ c. rw (back (c .before .before .before .args .e .value) (omega arith), c .match .keys8))
-    (λ c. let r = c .match .rest in rw (back (c .before .before .before .args .e .value) (omega arith), ne-eqb _ _ (r .0 .0 .0 .0 .0 .0 .0 .1), ne-eqb _ _ (r .0 .0 .0 .0 .0 .0 .1), ne-eqb _ _ (r .0 .0 .0 .0 .0 .1), ne-eqb _ _ (r .0 .0 .0 .0 .1), ne-eqb _ _ (r .0 .0 .0 .1), ne-eqb _ _ (r .0 .0 .1), ne-eqb _ _ (r .0 .1), ne-eqb _ _ (r .1))))
+    (λ c. rw (back (c .before .before .before .args .e .value) (omega arith), c .match .keys9))
+    (λ c. let r = c .match .rest in rw (back (c .before .before .before .args .e .value) (omega arith), ne-eqb _ _ (r .0 .0 .0 .0 .0 .0 .0 .0 .1), ne-eqb _ _ (r .0 .0 .0 .0 .0 .0 .0 .1), ne-eqb _ _ (r .0 .0 .0 .0 .0 .0 .1), ne-eqb _ _ (r .0 .0 .0 .0 .0 .1), ne-eqb _ _ (r .0 .0 .0 .0 .1), ne-eqb _ _ (r .0 .0 .0 .1), ne-eqb _ _ (r .0 .0 .1), ne-eqb _ _ (r .0 .1), ne-eqb _ _ (r .1))))

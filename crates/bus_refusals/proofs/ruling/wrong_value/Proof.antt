@@ -21,9 +21,9 @@ wrong-value-spec =
     (λ c. rw (c .outside .ensures, back (c .before .before .before .args .e .value) (omega arith), c .before .match .keys1))
     (λ c.
     rw (c .outside2 .ensures, back (c .before .before .before .args .e .value) (omega arith))
-    (⊎-elim (λ k. rw k) (λ k. rw k) (c .before .match .keys2)))
+    (⊎-elim (λ k. rw k) (⊎-elim (λ k. rw k) (λ k. rw k)) (c .before .match .keys2)))
     (λ c. rw (c .outside3 .ensures, back (c .before .before .before .args .e .value) (omega arith), c .before .match .keys3))
     (λ c. rw (c .outside4 .ensures, back (c .before .before .before .args .e .value) (omega arith), c .before .match .keys4))
     (λ c.
     let r = c .match .rest in
-    rw (ne-eqb _ _ (r .0 .0 .0 .1), ne-eqb _ _ (λ e. r .0 .0 .1 (inl e)), ne-eqb _ _ (λ e. r .0 .0 .1 (inr e)), ne-eqb _ _ (r .0 .1), ne-eqb _ _ (r .1))))
+    rw (ne-eqb _ _ (r .0 .0 .0 .1), ne-eqb _ _ (λ e. r .0 .0 .1 (inl e)), ne-eqb _ _ (λ e. r .0 .0 .1 (inr (inl e))), ne-eqb _ _ (λ e. r .0 .0 .1 (inr (inr e))), ne-eqb _ _ (r .0 .1), ne-eqb _ _ (r .1))))

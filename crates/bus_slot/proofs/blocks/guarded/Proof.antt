@@ -1,7 +1,7 @@
--- A slot in range has its address below 512, so the block is one of four.
+-- A slot in range has its address below 512, so the block is one of four; or the pin is on.
 -- Assumes nothing.
-use mathlib.Core.Path.{_∙_, ap}
-use mathlib.Core.Bool.{false}
+use mathlib.Core.Path.{_∙_, ap, ap₂}
+use mathlib.Core.Bool.{false, _||_}
 use Prim.Native.Nat.{ℕ, _/_}
 use native.Mathlib.Omega.{arith}
 use borrow.Author.Needs.{needs}
@@ -22,4 +22,9 @@ guarded-spec =
     (λ c κs. search needs)
     (λ c. let v = facts (c .before .before .args .s) (c .before .before .pre) in let e = ap (λ (a : Address). a .0) (c .before .address-of .ensures) in omega (arith, v .halves, v .counters, e))
     (λ c κs. search needs)
-    (λ c. c .protects .ensures ∙ ap (λ (k : ℕ). getD (c .before .before .before .args .s .protection) k false) (ap (λ (a : Address). a .0 / 128) (c .before .before .address-of .ensures))))
+    (λ c κs. search needs)
+    (λ c.
+    let p = c .before in
+    ap₂ _||_
+    (p .protects .ensures ∙ ap (λ (k : ℕ). getD (p .before .before .before .args .s .protection) k false) (ap (λ (a : Address). a .0 / 128) (p .before .before .address-of .ensures)))
+    (c .pin-on .ensures)))

@@ -28,7 +28,7 @@ stop-in-spec =
     (λ c.
     let a = c .before .before .args in
     c .cancelled .ensures ∙ arm (CommandAddress ∷ CommandData ∷ []) (λ q. cancelled (a .s)) (λ q. stopIn q (a .s)) (a .p) (c .before .match .keys3) refl)
-    (λ c. rw (c .before .enum-told2 .given .1, c .begun .ensures))
+    (λ c. rw (c .before .enum-told2 .given .1, c .command-stop .ensures))
     (λ c.
     let a = c .before .before .args in
     c .let-go .ensures ∙ arm (SensorPointer ∷ SensorHigh ∷ SensorLow ∷ SensorReadHigh ∷ SensorReadLow ∷ []) (λ q. letGo q (a .s)) (λ q. stopIn q (a .s)) (a .p) (c .before .match .keys5) refl))

@@ -9,6 +9,9 @@ standing-requires c κs = search needs
 enum-told : tie.Need-enum-told
 enum-told c = search needs
 
+heard-by-requires : tie.Need-heard-by-requires
+heard-by-requires c κs = search needs
+
 acks-control-requires : tie.Need-acks-control-requires
 acks-control-requires c κs = search needs
 
@@ -22,4 +25,4 @@ returns-3 : tie.Need-returns-3
 returns-3 c = more _ _ _
 
 pub at-control-spec : {M : Type 1} → statement M
-at-control-spec = tie.close (tie.spec standing-requires enum-told acks-control-requires returns returns-2 returns-3)
+at-control-spec = tie.close (tie.spec standing-requires enum-told heard-by-requires acks-control-requires returns returns-2 returns-3)

@@ -1,6 +1,6 @@
 -- What each kind of act is known to do beforehand; a byte or read passes by a slot that is idle or deaf.
 -- Assumes nothing.
-use Rattle.bus_slots.proofs.foreseen.Laws.{by-act, both-rest, at-start, at-stop, at-timeout, voltage-other, temperature-other, heard-byte, more}
+use Rattle.bus_slots.proofs.foreseen.Laws.{by-act, both-rest, at-start, at-stop, at-timeout, applied-other, heard-byte, more}
 use borrow.Author.Needs.{needs}
 use Rattle.bus_slots.proofs.foreseen.glance.Statement.{statement}
 use Rattle.bus_slots.proofs.foreseen.glance.Tie as tie
@@ -44,20 +44,14 @@ enum-told-5 c = search needs
 at-tick-requires : tie.Need-at-tick-requires
 at-tick-requires c κs = search needs
 
+enum-told-6 : tie.Need-enum-told-6
+enum-told-6 c = search needs
+
 enum-known-a-2 : tie.Need-enum-known-a-2
 enum-known-a-2 c = search needs
 
 at-one-requires : tie.Need-at-one-requires
 at-one-requires c κs = search needs
-
-enum-told-6 : tie.Need-enum-told-6
-enum-told-6 c = search needs
-
-enum-known-a-3 : tie.Need-enum-known-a-3
-enum-known-a-3 c = search needs
-
-at-one-requires-2 : tie.Need-at-one-requires-2
-at-one-requires-2 c κs = search needs
 
 returns-2 : tie.Need-returns-2
 returns-2 c = let g = c .before .before .before .before .before .args in by-act (g .n .0) (g .s) _ _ _ (c .before .enum-told .given .1) (at-start (g .n .0) (g .s) _ (c .at-signal .ensures))
@@ -78,13 +72,10 @@ returns-7 : tie.Need-returns-7
 returns-7 c = let g = c .before .before .before .before .before .args in by-act (g .n .0) (g .s) _ _ _ (c .before .enum-told5 .given .1) (c .at-tick .ensures)
 
 returns-8 : tie.Need-returns-8
-returns-8 c = let g = c .before .before .before .before .before .before .args in by-act (g .n .0) (g .s) _ _ _ (c .before .before .a2 .given .1) (voltage-other (g .n .0) (g .s) _ _ _ (c .at-one .ensures))
+returns-8 c = more _ _ _
 
 returns-9 : tie.Need-returns-9
-returns-9 c = more _ _ _
-
-returns-10 : tie.Need-returns-10
-returns-10 c = let g = c .before .before .before .before .before .before .args in by-act (g .n .0) (g .s) _ _ _ (c .before .before .a3 .given .1) (temperature-other (g .n .0) (g .s) _ _ _ (c .at-one2 .ensures))
+returns-9 c = let g = c .before .before .before .before .before .before .args in by-act (g .n .0) (g .s) _ _ _ (c .before .before .a2 .given .1) (applied-other (g .n .0) (g .s) _ _ _ (c .at-one .ensures))
 
 pub glance-spec : {M : Type 1} → statement M
 glance-spec =
@@ -103,11 +94,9 @@ glance-spec =
     at-signal-requires-3
     enum-told-5
     at-tick-requires
+    enum-told-6
     enum-known-a-2
     at-one-requires
-    enum-told-6
-    enum-known-a-3
-    at-one-requires-2
     returns-2
     returns-3
     returns-4
@@ -115,5 +104,4 @@ glance-spec =
     returns-6
     returns-7
     returns-8
-    returns-9
-    returns-10)
+    returns-9)

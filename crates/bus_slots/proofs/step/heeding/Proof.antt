@@ -3,6 +3,9 @@ use borrow.Author.Needs.{needs}
 use Rattle.bus_slots.proofs.step.heeding.Statement.{statement}
 use Rattle.bus_slots.proofs.step.heeding.Tie as tie
 
+heard-by-requires : tie.Need-heard-by-requires
+heard-by-requires c κs = search needs
+
 byte-requires : tie.Need-byte-requires
 byte-requires c κs = search needs
 
@@ -11,4 +14,4 @@ unfolding heeded
 returns c = rw (c .before .byte .ensures)
 
 pub heeding-spec : {M : Type 1} → statement M
-heeding-spec = tie.close (tie.spec byte-requires returns)
+heeding-spec = tie.close (tie.spec heard-by-requires byte-requires returns)

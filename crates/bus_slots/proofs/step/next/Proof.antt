@@ -1,5 +1,3 @@
-use native.Mathlib.Omega.{arith}
-use Rattle.bus_sensor.proofs.temperature.Signed.{back}
 use Rattle.bus_slots.specs.Stepped.{stepped}
 use Rattle.rules.specs.Slot.{presentNext, slotNext, partNext}
 use Rattle.bus_slot.specs.Signals.{actFor, signalled}
@@ -62,23 +60,17 @@ quiet-requires-4 c κs = search needs
 enum-known-a-3 : tie.Need-enum-known-a-3
 enum-known-a-3 c = search needs
 
-voltage-requires : tie.Need-voltage-requires
-voltage-requires c κs = search needs
-
-enum-known-a-4 : tie.Need-enum-known-a-4
-enum-known-a-4 c = search needs
-
 cut-requires : tie.Need-cut-requires
 cut-requires c κs = search needs
 
 quiet-requires-5 : tie.Need-quiet-requires-5
 quiet-requires-5 c κs = search needs
 
-enum-known-a-5 : tie.Need-enum-known-a-5
-enum-known-a-5 c = search needs
+enum-known-a-4 : tie.Need-enum-known-a-4
+enum-known-a-4 c = search needs
 
-temperature-requires : tie.Need-temperature-requires
-temperature-requires c κs = search needs
+applied-requires : tie.Need-applied-requires
+applied-requires c κs = search needs
 
 returns : tie.Need-returns
 unfolding stepped partNext signalled actFor slotNext presentNext
@@ -110,20 +102,16 @@ returns-6 : tie.Need-returns-6
 unfolding stepped partNext signalled actFor slotNext presentNext
 returns-6 c = stepped-by _ _ _ _ _ _ _ (c .before .before .before .before .before .enum-told4 .given .1) (rw (c .quiet4 .ensures, c .before .before .before .tick .ensures .0)) (c .before .before .before .tick .ensures .1)
 
-returns-7 : tie.Need-returns-7
-unfolding stepped partNext signalled actFor slotNext presentNext
-returns-7 c = stepped-by _ _ _ _ _ _ _ (c .before .before .a3 .given .1) (rw (c .voltage .ensures)) refl
-
 same-length-3 : tie.Need-same-length-3
 same-length-3 c = search needs
 
+returns-7 : tie.Need-returns-7
+unfolding stepped partNext signalled actFor slotNext presentNext
+returns-7 c = stepped-by _ _ _ _ _ _ _ (c .before .before .before .before .before .before .a3 .given .1) (rw (c .quiet5 .ensures, c .before .before .before .cut .ensures .0)) (c .before .before .before .cut .ensures .1)
+
 returns-8 : tie.Need-returns-8
 unfolding stepped partNext signalled actFor slotNext presentNext
-returns-8 c = stepped-by _ _ _ _ _ _ _ (c .before .before .before .before .before .before .a4 .given .1) (rw (c .quiet5 .ensures, c .before .before .before .cut .ensures .0)) (c .before .before .before .cut .ensures .1)
-
-returns-9 : tie.Need-returns-9
-unfolding stepped partNext signalled actFor slotNext presentNext
-returns-9 c = stepped-by _ _ _ _ _ _ _ (c .before .before .a5 .given .1) (rw (c .temperature .ensures, back (c .before .before .a5 .given .0 .1 .0) (omega arith))) refl
+returns-8 c = stepped-by _ _ _ _ _ _ _ (c .before .before .a4 .given .1) (rw (c .applied .ensures)) refl
 
 pub next-spec : {M : Type 1} → statement M
 next-spec =
@@ -146,12 +134,10 @@ next-spec =
     tick-requires
     quiet-requires-4
     enum-known-a-3
-    voltage-requires
-    enum-known-a-4
     cut-requires
     quiet-requires-5
-    enum-known-a-5
-    temperature-requires
+    enum-known-a-4
+    applied-requires
     returns
     returns-2
     same-length
@@ -160,7 +146,6 @@ next-spec =
     returns-5
     same-length-2
     returns-6
-    returns-7
     same-length-3
-    returns-8
-    returns-9)
+    returns-7
+    returns-8)
