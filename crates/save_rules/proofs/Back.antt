@@ -137,11 +137,13 @@ module _ (b : Bus) (m : List ℕ) (typed : Typed b) (ranged : inRange b ≡ true
         let rs = busIn (formOf b m) .slots in
         let p : place memoryRow k rs ≡ place memoryRow k ss = place-by-kinds rs ss kind-back memoryRow k (omega arith) (λ u l. need-back u) in
         let a : absent (getD rs k absentSlot) ≡ absent (slot k) = unfold absent in ap (λ (j : ℕ). eqb j 0) (kind-back k h) in
+        let w : absent (slot k) ≡ false → take (own k) (drop (place memoryRow k ss) (formOf b m)) ≡ take (own k) (part slotBytes k m)
+        = unfold formOf in bytes-of-form ss m sized k h in
         part-read (formOf b m) n k wide (omega (arith, length-back)) h
         ∙ (λ i. cond (a i) (part slotBytes k n) (take (bytesOf (kind-back k h i)) (drop (p i) (formOf b m)) ++ drop (bytesOf (kind-back k h i)) (part slotBytes k n)))
         ∙ by-test (absent (slot k))
         (λ e. rw e)
-        (λ e. rw e (ap (λ (l : List ℕ). l ++ drop (own k) (part slotBytes k n)) (unfold formOf in bytes-of-form ss m sized k h e)))
+        (λ e. rw e (ap (λ (l : List ℕ). l ++ drop (own k) (part slotBytes k n)) (w e)))
 
     -- so, the one and the other
     length-saved : (k : ℕ) → k < slotCount → length (take (own k) (part slotBytes k m)) ≡ own k

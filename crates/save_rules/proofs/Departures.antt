@@ -31,7 +31,7 @@ use Rattle.rules.proofs.Range.Kept.{InRange, facts}
 use Rattle.rules.proofs.Range.Olders.{Alone}
 use Rattle.save_rules.specs.Form.{wordOf, wordAt, bitsOf, setupField, stateBytes, stateField, registersTo, sensorBytes, sensorField, pendingField, olderByte, olderField, fields, fieldCount, fixedCount, fieldAt, shareOf, wholeField, isThere, fieldBytes, formTo, formOf}
 use Rattle.save_rules.specs.Reading.{sizeIn, offset, span, begins, place, tagged, busIn, memoryIn, restored, accepted, restoreOf}
-use Rattle.save_rules.proofs.Bits.{bit-small, bits-small, not-kept}
+use Rattle.save_rules.proofs.Bits.{bit-small, bits-small, only-first, first-bit, not-kept}
 use Rattle.save_rules.proofs.Places.{tags, Asks, who-asks, none-asks, span-there, span-none, fixed-there, begins-up, field-there, length-form, high-at, low-at, tagged-there, share-at, share-within, offset-most, same-tagged, same-place, begins-by-kinds}
 use Rattle.save_rules.proofs.Stages.{resolution-small, timeout-small, length-zero, word-back}
 use Rattle.save_rules.proofs.Once.{typed-read, accepted-in-range, written-again, length-restored, accepted-length}
@@ -174,17 +174,6 @@ sensors-offset = counts 4 sensing (λ s. unfold sizeIn fieldAt fields pendingFie
 
 olders-offset : (ss : List Slot) → offset 5 slotCount ss ≡ countTo older slotCount ss
 olders-offset = counts 5 older (λ s. unfold sizeIn fieldAt fields olderField older in refl) slotCount
-
--- "Protection is bit 0 alone": its byte is then that bit
-first-bit : (bs : List Bool) → length bs ≡ 4 → getD bs 1 false ≡ false → getD bs 2 false ≡ false → getD bs 3 false ≡ false
-    → bitsOf bs ≡ cond (getD bs 0 false) 1 0
-unfolding bitsOf
-first-bit [] l x y z = absurd (omega arith)
-first-bit (a ∷ []) l x y z = absurd (omega arith)
-first-bit (a ∷ b ∷ []) l x y z = absurd (omega arith)
-first-bit (a ∷ b ∷ c ∷ []) l x y z = absurd (omega arith)
-first-bit (a ∷ b ∷ c ∷ d ∷ []) l x y z = rw (x, y, z) (omega arith)
-first-bit (a ∷ b ∷ c ∷ d ∷ e ∷ r) l x y z = absurd (omega arith)
 
 -- an older slot is present
 older-present : (s : Slot) → older s ≡ true → absent s ≡ false
@@ -333,7 +322,8 @@ module _ (f n : List ℕ) (accepts : accepted f n ≡ true) (sized : length n �
   one-bit k h o =
       let v = alone k h o in
       rw add-zero at (state-in k h (older-present (slotIn f k) o) 0 (omega arith))
-      ∙ first-bit ((slotIn f k) .protection) (four-blocks k h) (v .no-one) (v .no-two) (v .no-three)
+      ∙ ap bitsOf (only-first ((slotIn f k) .protection) (four-blocks k h) (v .no-one) (v .no-two) (v .no-three))
+      ∙ first-bit (getD ((slotIn f k) .protection) 0 false)
 
   four-bits : (k : ℕ) → k < slotCount → bitsOf ((slotIn f k) .protection) ≤ 15
   four-bits k h =
@@ -387,7 +377,7 @@ module _ (f n : List ℕ) (accepts : accepted f n ≡ true) (sized : length n �
     six-low = λ e. in-form (begins 5 slots + 2) ∙ low-at slots bytes long 5 (omega arith) (there-in 5 (omega arith) e) ∙ few-six .1 ∙ olders-offset slots;
     older-bits = λ e. older-in (there-in 5 (omega arith) e);
     set-if-permanent = λ e k h o i.
-        let p : (slotIn f k) .old .permanent ≡ true = low-bit _ _ (ap (λ (v : ℕ). v % 2) (sym (older-in (there-in 5 (omega arith) e) k h o)) ∙ i) in
+        let p : (slotIn f k) .old .permanent ≡ true = low-bit ((slotIn f k) .old .permanent) ((slotIn f k) .old .pin) (ap (λ (v : ℕ). v % 2) (sym (older-in (there-in 5 (omega arith) e) k h o)) ∙ i) in
         one-bit k h o ∙ rw (alone k h o .set-if p);
     ranged = accepted-in-range f n accepts;
   }
