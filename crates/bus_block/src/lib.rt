@@ -9,7 +9,7 @@ use rules::Bus;
 use rules::Slot;
 use rules::SlotNo;
 
-// There is no such block, or memory or bus would be refused.
+// There is no such block, of which an older module has two, or memory or bus would be refused.
 fn no_block(mem: &[u8], bus: Bus, n: SlotNo, k: BlockNo) -> bool
     ensures { λ r. ⌜ r ≡ noBlock bus (now (mem .entry)) n k ⌝ }
 {
@@ -20,6 +20,7 @@ fn no_block(mem: &[u8], bus: Bus, n: SlotNo, k: BlockNo) -> bool
         | (7 < n.0)
         | (kind == 0)
         | (3 < k.0)
+        | (kind == 3) & (1 < k.0)
 }
 
 // The 128 bytes of a block, as a part of the caller's memory, at its place there; an empty part at the memory's beginning where there is none.

@@ -15,7 +15,7 @@ use rules::Slot;
 fn good_pair(p: Pair) -> bool
     ensures { λ r. ⌜ r ≡ goodPair p ⌝ }
 {
-    (p.kind <= 2) & ((p.kind == 0) | (1 <= p.length) & (p.length <= 5))
+    (p.kind <= 3) & ((p.kind == 0) | (1 <= p.length) & (p.length <= 5))
 }
 
 // Every pair passes row 5.

@@ -252,7 +252,7 @@ fn run(b: Bench, mem: &mut [u8; 8192], shelf: &mut [u8; 8192], t: [u32; 38]) -> 
             ..b
         },
         names::SLOT => slot(b, t),
-        names::LIST | names::RESTORE | names::EVENT..=names::TEMPERATURE => move_on(
+        names::LIST | names::RESTORE | names::EVENT..=names::WRITE_PROTECT => move_on(
             b,
             mem,
             shelf,

@@ -59,7 +59,7 @@ fn which(k: usize) -> usize {
 
 // A number of a slot: its name, of several which one, and what it is; a phase has a word.
 fn entry(k: usize, v: u16)
-    requires { ⌜ k < 59 ⌝ }
+    requires { ⌜ k < 62 ⌝ }
 {
     word(names::NAMES + k);
     let i = which(k);
@@ -68,7 +68,7 @@ fn entry(k: usize, v: u16)
         io::print_decimal(STDOUT_FILENO, i as u64);
     }
     if k == 8 {
-        word(names::NAMES + 59 + (v % 16) as usize);
+        word(names::NAMES + 62 + (v % 16) as usize);
         return;
     }
     sign(b' ');
@@ -80,7 +80,7 @@ pub fn slot(bus: Bus, n: u32) {
     let slots = bus.slots;
     let s = slots[(n % 8) as usize];
     sign(b':');
-    for k in 1..59usize {
+    for k in 1..62usize {
         let v = state::peek(s, k);
         if v != 0 {
             entry(k, v);
@@ -130,9 +130,13 @@ fn stands(p: Pin) {
     word(if p.level { names::HIGH } else { names::LOW });
 }
 
-// Whether two slots have the same numbers, and of both or of neither a change is pending.
+// Whether two slots have the same numbers, those too that the line of their kind leaves out.
 fn alike(a: Slot, b: Slot) -> bool {
-    watch_text::numbers::same_numbers(a, b) & (state::peek(a, 58) == state::peek(b, 58))
+    watch_text::numbers::same_numbers(a, b)
+        & (state::peek(a, 58) == state::peek(b, 58))
+        & (state::peek(a, 59) == state::peek(b, 59))
+        & (state::peek(a, 60) == state::peek(b, 60))
+        & (state::peek(a, 61) == state::peek(b, 61))
 }
 
 // Which slots are not the same: each is told by its number. Whether there is none.

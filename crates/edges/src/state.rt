@@ -1,10 +1,12 @@
 // What the tries of `edges` hand in: a memory, and numbers of a slot. These are counted 1 to 57, in the order of `watch_text::numbers`: kind,
 // length, ticks left, half, counter, place, voltage and phase, protection from 9, what is to come from 13, the latch from 17 and its marks from 33,
-// and the sensor from 49; 58 is whether a change is pending, which a try hands in, and tells, of a slot without sensor too.
+// and the sensor from 49; 58 is whether a change is pending, and 59 to 61 are an older module's, whether protection is permanent, whether what is to
+// come will be, and the write-protect pin. These four a try hands in, and tells, of slots of every kind.
 ghost use Prim.Native.Nat.{_≤_};
 use super::names::MISSING;
 use super::names::UNKNOWN;
 use super::names::WORD;
+use rules::Older;
 use rules::Phase;
 use rules::Sensor;
 use rules::Slot;
@@ -42,11 +44,23 @@ pub fn peek(s: Slot, k: usize) -> u16 {
     if k == 0 {
         return 0;
     }
-    if k == 58 {
-        let x = s.sensor;
-        return if x.pending { 1 } else { 0 };
+    if k <= watch_text::numbers::COMMON {
+        return watch_text::numbers::number(s, k - 1);
     }
-    watch_text::numbers::number(s, k - 1)
+    if holds(s, k) { 1 } else { 0 }
+}
+
+// Those that its kind may leave out of its line.
+fn holds(s: Slot, k: usize) -> bool {
+    let x = s.sensor;
+    let y = s.old;
+    match k {
+        58 => x.pending,
+        59 => y.permanent,
+        60 => y.lasting,
+        61 => y.pin,
+        _ => false,
+    }
 }
 
 fn poke_number(old: Slot, k: usize, v: u16) -> Slot {
@@ -103,11 +117,30 @@ fn poke_sensor(old: Sensor, k: usize, v: u16) -> Sensor {
     x
 }
 
+fn poke_older(old: Older, k: usize, v: bool) -> Older {
+    let mut x = old;
+    match k {
+        59 => x.permanent = v,
+        60 => x.lasting = v,
+        61 => x.pin = v,
+        _ => {}
+    }
+    x
+}
+
 fn sensing(old: Slot, k: usize, v: u16) -> Slot {
     let mut s = old;
     let x = s.sensor;
     let y = poke_sensor(x, k, v);
     s.sensor = y;
+    s
+}
+
+fn aging(old: Slot, k: usize, v: u16) -> Slot {
+    let mut s = old;
+    let x = s.old;
+    let y = poke_older(x, k, v != 0);
+    s.old = y;
     s
 }
 
@@ -118,7 +151,8 @@ fn poke(s: Slot, k: usize, v: u16) -> Slot {
         8 => bus_slot::phase::in_phase(phase(v), s),
         9..=16 => poke_blocks(s, k, v != 0),
         17..=48 => poke_page(s, k, v),
-        _ => sensing(s, k, v),
+        49..=58 => sensing(s, k, v),
+        _ => aging(s, k, v),
     }
 }
 
@@ -137,7 +171,7 @@ pub fn hand_in(old: Slot, t: [u32; 38]) -> Handed {
         let v = t[i];
         if v < WORD {
             slot = poke(slot, at, v as u16);
-            ok = ok & (0 < at) & (at < 59) & (peek(slot, at) == v as u16);
+            ok = ok & (0 < at) & (at < 62) & (peek(slot, at) == v as u16);
             at = at % 64 + 1;
         } else {
             ok = ok & (v != UNKNOWN);

@@ -11,10 +11,10 @@ fn index_of(words: &[u8], from: usize, text: &[u8]) -> u32
     requires { ⌜ from ≤ length (now words) ⌝ }
 {
     let mut at = from;
-    for n in 0..74u32 {
+    for n in 0..77u32 {
         let end = names::until(words, at, true);
         if check::same(&words[at..end], text) {
-            return if n < 59 { names::WORD + n } else { n - 59 };
+            return if n < 62 { names::WORD + n } else { n - 62 };
         }
         at = names::until(words, end, false);
     }
@@ -133,7 +133,7 @@ pub fn bytes_of(t: [u32; 38]) -> [u8; 37] {
 }
 
 // How many numbers each command takes, in the order of `names::ALL`; 99 for what is none, and for those that take more or fewer.
-const COUNTS: [usize; 26] = [
+const COUNTS: [usize; 27] = [
     0,
     16,
     1,
@@ -160,6 +160,7 @@ const COUNTS: [usize; 26] = [
     2,
     1,
     2,
+    2,
 ];
 
 // How many it has to have: of a check all its bytes, of a list the number of places, and whole records.
@@ -171,7 +172,7 @@ fn count(verb: u32, bytes: usize) -> usize {
         return if bytes % 4 == 1 { bytes } else { 99 };
     }
     let n = (verb % names::WORD) as usize;
-    if n < 26 { COUNTS[n] } else { 99 }
+    if n < 27 { COUNTS[n] } else { 99 }
 }
 
 // How large its last number may be.

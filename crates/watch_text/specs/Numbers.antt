@@ -3,11 +3,12 @@
 use Prim.Native.Nat.{ℕ}
 use mathlib.Core.Bool.{Bool, cond}
 use mathlib.Core.List.{List, [], _∷_, _++_, map}
+use Rattle.rules.specs.declared.Older.{Older}
 use Rattle.rules.specs.declared.Phase.{Phase}
 use Rattle.rules.specs.declared.Phase.the-variants.{Idle, Control, Deaf, MemoryCounter, MemoryData, MemoryRead, HalfSelected, CommandAddress, CommandData, CommandStop, SensorPointer, SensorHigh, SensorLow, SensorReadHigh, SensorReadLow}
 use Rattle.rules.specs.declared.Sensor.{Sensor}
 use Rattle.rules.specs.declared.Slot.{Slot}
-use Rattle.rules.specs.Modelled.{sensing}
+use Rattle.rules.specs.Modelled.{sensing, older}
 use Rattle.rules.specs.Pin.{asserted, levelOf}
 
 -- what is on or off is 1 or 0
@@ -45,9 +46,17 @@ sensorNumbers x =
 unfoldable pub pinNumbers : Sensor → List ℕ
 pinNumbers x = bit (asserted x) ∷ bit (levelOf x) ∷ bit (x .pending) ∷ []
 
--- all: protection and what is coming block by block, the page latch byte by byte, and which of its bytes were written; the pin's "at the end of a
--- sensor's line", and in no other
+-- an older module's: whether its protection is permanent, whether what is to come will be, and its write-protect pin
+unfoldable pub olderNumbers : Older → List ℕ
+olderNumbers x = bit (x .permanent) ∷ bit (x .lasting) ∷ bit (x .pin) ∷ []
+
+-- those that a slot has by its kind: the EVENT pin's "at the end of a sensor's line", an older module's at the end of its own, and in no other
+unfoldable pub kindNumbers : Slot → List ℕ
+kindNumbers s = cond (sensing s) (pinNumbers (s .sensor)) (cond (older s) (olderNumbers (s .old)) [])
+
+-- all: protection and what is coming block by block, the page latch byte by byte, and which of its bytes were written; those of its kind behind the
+-- others
 unfoldable pub numbersOf : Slot → List ℕ
 numbersOf s =
     plainNumbers s ++ (map bit (s .protection) ++ (map bit (s .coming) ++ (s .latch ++ (map bit (s .marks) ++ (sensorNumbers (s .sensor)
-    ++ cond (sensing s) (pinNumbers (s .sensor)) [])))))
+    ++ kindNumbers s)))))

@@ -2,15 +2,16 @@
 ghost use mathlib.Core.Path.{_≡_};
 ghost use lib.ListN.{getD};
 ghost use Rattle.proof_lists.specs.Same.{same};
-ghost use Rattle.watch_text.specs.Numbers.{bit, phaseNumber, plainNumbers, sensorNumbers, pinNumbers, numbersOf};
+ghost use Rattle.watch_text.specs.Numbers.{bit, phaseNumber, plainNumbers, sensorNumbers, pinNumbers, olderNumbers, kindNumbers, numbersOf};
+use rules::Older;
 use rules::Phase;
 use rules::Sensor;
 use rules::Slot;
 
-// How many they are at most, and how many without the pin's, which only a slot with a sensor has.
+// How many they are at most, and how many without those that a slot has by its kind.
 pub const COUNT: usize = 60;
 
-const PIN: usize = 57;
+pub const COMMON: usize = 57;
 
 // One or none.
 fn one(on: bool) -> u16
@@ -89,6 +90,32 @@ fn pin_numbers(x: Sensor) -> [u16; 3]
     [one(p.asserted), one(p.level), one(x.pending)]
 }
 
+fn older_numbers(x: Older) -> [u16; 3]
+    ensures { λ r. ⌜ r ≡ olderNumbers x ⌝ }
+{
+    [one(x.permanent), one(x.lasting), one(x.pin)]
+}
+
+// The number at a place among those that a slot has by its kind, a sensor's or an older module's; behind the last there is none, and it is 0.
+fn kind_number(s: Slot, k: usize) -> u16
+    ensures { λ r. ⌜ r ≡ getD (kindNumbers s) k 0 ⌝ }
+{
+    if 3 <= k {
+        return 0;
+    }
+    if s.kind == 2 {
+        let x = s.sensor;
+        let all = pin_numbers(x);
+        return all[k];
+    }
+    if s.kind == 3 {
+        let x = s.old;
+        let all = older_numbers(x);
+        return all[k];
+    }
+    0
+}
+
 // The number at a place; behind the last there is none, and it is 0.
 pub fn number(s: Slot, k: usize) -> u16
     ensures { λ r. ⌜ r ≡ getD (numbersOf s) k 0 ⌝ }
@@ -109,20 +136,12 @@ pub fn number(s: Slot, k: usize) -> u16
     if k < 48 {
         return one(s.marks[k - 32]);
     }
-    if k < PIN {
+    if k < COMMON {
         let x = s.sensor;
         let all = sensor_numbers(x);
         return all[k - 48];
     }
-    if s.kind != 2 {
-        return 0;
-    }
-    if k < COUNT {
-        let x = s.sensor;
-        let all = pin_numbers(x);
-        return all[k - PIN];
-    }
-    0
+    kind_number(s, k - COMMON)
 }
 
 // Whether two slots have the same numbers.

@@ -12,7 +12,7 @@ in-range-requires c κs = search needs
 
 returns : tie.Need-returns
 unfolding noBlock wrongLength inRange kindsOf
-returns c = rw (c .before .before .in-range .ensures, c .before .before .before .kind-at .ensures)
+returns c = rw (c .before .before .before .in-range .ensures, c .before .before .before .before .kind-at .ensures)
 
 pub no-block-spec : {M : Type 1} → statement M
 no-block-spec = tie.close (tie.spec kind-at-requires in-range-requires returns)

@@ -3,21 +3,21 @@
 use mathlib.Core.Path.{_≡_, refl, sym, _∙_, ap, ap₂}
 use mathlib.Core.Bool.{Bool, true, false, false≢true, cond, not, _||_}
 use mathlib.Core.List.{List, [], _∷_, _++_, append-assoc, append-nil}
-use Prim.Native.Nat.{ℕ, zero, suc, _+_, _≤_, _<_}
+use Prim.Native.Nat.{ℕ, zero, suc, _+_, _-_, _≤_, _<_}
 use Prim.Native.String.{String}
 use native.Mathlib.Nat.{add-zero, zero-add}
 use native.Mathlib.Numerals.{add-one}
 use native.Mathlib.Omega.{arith}
-use borrow.Author.Tests.{eq-eqb, ne-eqb}
+use borrow.Author.Tests.{eqb-true, eq-eqb, ne-eqb}
 use lib.Dec.{eqb}
-use lib.ListN.{length, getD, take, drop, List·getD-append}
-use lib.Seq.{sets, drop-cons, drop-drop, getD-drop}
+use lib.ListN.{length, getD, drop, length-append, List·getD-append}
+use lib.Seq.{sets, drop-cons, drop-drop, getD-drop, getD-append-add}
 use Rattle.proof_lists.specs.Each.{allOf, getD-any}
 use Rattle.proof_lists.specs.Same.{same}
-use Rattle.proof_lists.specs.Tests.{and-left, and-right}
+use Rattle.proof_lists.specs.Tests.{by-test, and-left, and-right}
 use Rattle.rules.specs.declared.Bus.{Bus}
 use Rattle.rules.specs.declared.Slot.{Slot}
-use Rattle.rules.specs.Modelled.{absent}
+use Rattle.rules.specs.Modelled.{absent, sensing, older}
 use Rattle.rules.specs.Fresh.{absentSlot}
 use Rattle.rules.specs.Refusals.{emptyBus}
 use Rattle.script_text.specs.Decimal.{decimal}
@@ -26,7 +26,11 @@ use Rattle.script_text.proofs.letters.Decimal.{decimal-one, digits-most}
 use Rattle.script_text.proofs.letters.Laws.{Put, put-on}
 use Rattle.watch_text.specs.Numbers.{numbersOf}
 use Rattle.watch_text.proofs.numbers.Laws.{countOf}
-use Rattle.watch_text.specs.Lines.{names, numberText, numberTexts, slotLine, changeLine, changeLinesTo, changeLines, benchLines}
+use Rattle.watch_text.specs.Lines.{commonNames, pinNames, olderNames, kindNames, names, signed, numberText, numberTexts, slotLine, changeLine, changeLinesTo, changeLines, benchLines}
+
+-- how many characters the names have that a slot has by its kind
+abbrev pub kindLetters : ℕ → ℕ
+kindLetters kind = cond (eqb kind 2) 26 (cond (eqb kind 3) 35 0)
 
 -- a text with the next of some numbers behind each sign
 abbrev pub sign : ℕ → Bool
@@ -35,11 +39,6 @@ sign c = eqb c 0x3D
 unfoldable pub told : List ℕ → List ℕ → List ℕ
 told [] ns = []
 told (c ∷ cs) ns = (c ∷ cond (sign c) (decimal (getD ns 0 0)) []) ++ told cs (drop (cond (sign c) 1 0) ns)
-
--- the names, each behind a space, with a sign behind it
-unfoldable pub signed : List String → List ℕ
-signed [] = []
-signed (name ∷ more) = 0x20 ∷ quoted name ++ 0x3D ∷ signed more
 
 -- characters that are no sign stay as they are
 plain : (xs ys ns : List ℕ) → allOf (λ c. not (sign c)) xs ≡ true → told (xs ++ ys) ns ≡ xs ++ told ys ns
@@ -69,38 +68,73 @@ told-names (name ∷ ss) (n ∷ ns) h l =
     ∙ sym (append-assoc (quoted name) (0x3D ∷ decimal n) (numberTexts ss ns)) in
     ap (λ (l : List ℕ). 0x20 ∷ l) p
 
--- THE NAMES, of a slot with a sensor, or without: 509 characters, or 483 of them
-abbrev pub namesFor : Bool → List String
-namesFor b = cond b names (take 57 names)
+-- THE NAMES OF A SLOT: those of its kind stand behind the others, which have 483 characters
+kind-names : (P : ℕ → List String → Type 0) (s : Slot) → P 26 pinNames → P 35 olderNames → P 0 [] → P (kindLetters (s .kind)) (kindNames s)
+unfolding kindNames sensing older
+kind-names P s f g h =
+    by-test (eqb (s .kind) 2) (λ e. rw e f) λ e. by-test (eqb (s .kind) 3) (λ o. rw (e, o) g) λ o. rw (e, o) h
 
-pub names-length : (b : Bool) → length (signed (namesFor b)) ≡ cond b 509 483
-unfolding signed names quoted
-names-length true = refl
-names-length false = refl
+letters-of : (s : Slot) → length (signed (kindNames s)) ≡ kindLetters (s .kind)
+unfolding signed quoted pinNames olderNames
+letters-of s = kind-names (λ n ss. length (signed ss) ≡ n) s refl refl refl
 
-pub names-at : (b : Bool) (i : ℕ) → i < cond b 509 483 → getD (signed names) i 0 ≡ getD (signed (namesFor b)) i 0
-unfolding signed names quoted
-names-at true i h = refl
-names-at false i h = List·getD-append (signed (take 57 names)) (signed (drop 57 names)) 0 i h
+signed-append : (xs ys : List String) → signed (xs ++ ys) ≡ signed xs ++ signed ys
+unfolding signed
+signed-append [] ys = refl
+signed-append (x ∷ xs) ys = ap (λ (l : List ℕ). 0x20 ∷ l) (ap (λ (l : List ℕ). quoted x ++ 0x3D ∷ l) (signed-append xs ys) ∙ sym (append-assoc (quoted x) (0x3D ∷ signed xs) (signed ys)))
 
-pub names-most : (b : Bool) → cond b 509 483 ≤ 509
-names-most true = omega arith
-names-most false = omega arith
+module _ (s : Slot) where
+  parted : signed (names s) ≡ signed commonNames ++ signed (kindNames s)
+  unfolding names
+  parted = signed-append commonNames (kindNames s)
 
--- names for which there is no number are not told
-texts-take : (k : ℕ) (ss : List String) (ns : List ℕ) → length ns ≤ k → numberTexts (take k ss) ns ≡ numberTexts ss ns
-unfolding numberTexts
-texts-take zero [] ns h = refl
-texts-take zero (name ∷ ss) [] h = refl
-texts-take zero (name ∷ ss) (n ∷ ns) h = absurd (omega arith)
-texts-take (suc k) [] ns h = refl
-texts-take (suc k) (name ∷ ss) [] h = refl
-texts-take (suc k) (name ∷ ss) (n ∷ ns) h = ap (numberText name n ++_) (texts-take k ss ns (omega arith))
+  common-length : length (signed commonNames) ≡ 483
+  unfolding signed commonNames quoted
+  common-length = refl
 
-pub slot-told : (b : Bool) (ns : List ℕ) → length ns ≡ countOf b → told (signed (namesFor b)) ns ≡ numberTexts names ns
-unfolding names quoted allOf
-slot-told true ns l = told-names names ns refl l
-slot-told false ns l = told-names (take 57 names) ns refl l ∙ texts-take 57 names ns (omega arith)
+  pub names-length : length (signed (names s)) ≡ 483 + kindLetters (s .kind)
+  names-length = ap length parted ∙ length-append (signed commonNames) (signed (kindNames s)) ∙ ap₂ _+_ common-length (letters-of s)
+
+  pub common-at : (i : ℕ) → i < 483 → getD (signed commonNames) i 0 ≡ getD (signed (names s)) i 0
+  common-at i h = sym (ap (λ (l : List ℕ). getD l i 0) parted ∙ List·getD-append (signed commonNames) (signed (kindNames s)) 0 i (rw common-length h))
+
+  pub kind-names-at : (i : ℕ) → 483 ≤ i → getD (signed (kindNames s)) (i - 483) 0 ≡ getD (signed (names s)) i 0
+  kind-names-at i h =
+      let e : length (signed commonNames) + (i - 483) ≡ i = omega (arith, common-length) in
+      sym (ap (λ (l : List ℕ). getD l i 0) parted ∙ sym (ap (λ j. getD (signed commonNames ++ signed (kindNames s)) j 0) e)
+      ∙ getD-append-add (signed commonNames) (signed (kindNames s)) (i - 483) 0)
+
+  -- a character of them
+  module _ (i : ℕ) (h : i < length (signed (names s))) (l : 483 ≤ i) where
+    pub pin-letter : s .kind ≡ 2 → (i - 483 < 26) × (getD (signed pinNames) (i - 483) 0 ≡ getD (signed (names s)) i 0)
+    unfolding kindNames sensing
+    pin-letter e =
+        let n : kindLetters (s .kind) ≡ 26 = rw e in
+        let k : pinNames ≡ kindNames s = rw e in
+        (omega (arith, names-length, n), ap (λ ss. getD (signed ss) (i - 483) 0) k ∙ kind-names-at i l)
+
+    pub older-letter : (s .kind ≡ 2 → ⊥) → (i - 483 < 35) × (getD (signed olderNames) (i - 483) 0 ≡ getD (signed (names s)) i 0)
+    unfolding kindNames sensing older
+    older-letter e =
+        let f : eqb (s .kind) 2 ≡ false = ne-eqb (s .kind) 2 e in
+        by-test (eqb (s .kind) 3)
+        (λ o.
+        let n : kindLetters (s .kind) ≡ 35 = rw (f, o) in
+        let k : olderNames ≡ kindNames s = rw (f, o) in
+        (omega (arith, names-length, n), ap (λ ss. getD (signed ss) (i - 483) 0) k ∙ kind-names-at i l))
+        (λ o. let n : kindLetters (s .kind) ≡ 0 = rw (f, o) in absurd (omega (arith, names-length, n)))
+
+  -- with a number for each of them
+  unsigned : allOf (λ name. allOf (λ c. not (sign c)) (quoted name)) (names s) ≡ true
+  unfolding names commonNames pinNames olderNames quoted allOf
+  unsigned = kind-names (λ n ss. allOf (λ name. allOf (λ c. not (sign c)) (quoted name)) ss ≡ true) s refl refl refl
+
+  as-many : length (names s) ≡ countOf (s .kind)
+  unfolding names commonNames pinNames olderNames kindNames sensing older
+  as-many = by-test (eqb (s .kind) 2) (λ e. rw e) λ e. by-test (eqb (s .kind) 3) (λ o. rw (e, o)) λ o. rw (e, o)
+
+  pub slot-told : (ns : List ℕ) → length ns ≡ countOf (s .kind) → told (signed (names s)) ns ≡ numberTexts (names s) ns
+  slot-told ns l = told-names (names s) ns unsigned (l ∙ sym as-many)
 
 -- the first i characters of a text are put, with the first k numbers behind their signs
 pub record Telling (t ns from₀ : List ℕ) (from i k at : ℕ) (out : List ℕ) : Type 0 where
@@ -168,12 +202,12 @@ pub slot-room : (n : ℕ) → n < 10 → length (decimal n) ≡ 1
 slot-room n h = ap length (decimal-one n h)
 
 -- a slot's line, put piece by piece
-pub line-by : (n : ℕ) (s : Slot) (out o p q : List ℕ) (at first last end : ℕ) → Put out at (decimal n) first o → Put o first (numberTexts names (numbersOf s)) last p
+pub line-by : (n : ℕ) (s : Slot) (out o p q : List ℕ) (at first last end : ℕ) → Put out at (decimal n) first o → Put o first (numberTexts (names s) (numbersOf s)) last p
     → Put p last (0x0A ∷ []) end q → Put out at (slotLine n s) end q
 unfolding slotLine
 line-by n s out o p q at first last end f g h =
-    put-on out o q at first end (decimal n) (numberTexts names (numbersOf s) ++ 0x0A ∷ []) f
-    (put-on o p q first last end (numberTexts names (numbersOf s)) (0x0A ∷ []) g h)
+    put-on out o q at first end (decimal n) (numberTexts (names s) (numbersOf s) ++ 0x0A ∷ []) f
+    (put-on o p q first last end (numberTexts (names s) (numbersOf s)) (0x0A ∷ []) g h)
 
 -- a slot that is not told, and one that is
 pub change-none : (n : ℕ) (was is : Slot) → (absent is || same (numbersOf was) (numbersOf is)) ≡ true → changeLine n was is ≡ []
@@ -185,12 +219,12 @@ unfolding changeLine
 change-some n was is e = rw e
 
 pub untold : (n at : ℕ) (was is : Slot) (out : List ℕ) (alike : Bool) → alike ≡ same (numbersOf was) (numbersOf is) → (eqb (is .kind) 0 || alike) ≡ true
-    → Within 3056 out at (changeLine n was is) at out
+    → Within 3110 out at (changeLine n was is) at out
 unfolding absent
 untold n at was is out alike e t = rw (change-none n was is (rw e at t)) (omega arith, refl, omega arith)
 
 pub told-so : (n at end : ℕ) (was is : Slot) (out o : List ℕ) (alike : Bool) → alike ≡ same (numbersOf was) (numbersOf is) → (eqb (is .kind) 0 || alike) ≡ false
-    → Within 3056 out at (slotLine n is) end o → Within 3056 out at (changeLine n was is) end o
+    → Within 3110 out at (slotLine n is) end o → Within 3110 out at (changeLine n was is) end o
 unfolding absent
 told-so n at end was is out o alike e t p = rw (change-some n was is (rw e at t)) p
 
@@ -209,8 +243,8 @@ unfolding changeLinesTo
 changes-none was is = refl
 
 -- all slots of a bench
-pub bench-by : (b none : Bus) (out o : List ℕ) (end : ℕ) → none ≡ emptyBus → Within 24448 out 0 (changeLines (none .slots) (b .slots)) end o
-    → (end ≡ length (benchLines b)) × (o ≡ sets out 0 (benchLines b)) × (end ≤ 24448)
+pub bench-by : (b none : Bus) (out o : List ℕ) (end : ℕ) → none ≡ emptyBus → Within 24880 out 0 (changeLines (none .slots) (b .slots)) end o
+    → (end ≡ length (benchLines b)) × (o ≡ sets out 0 (benchLines b)) × (end ≤ 24880)
 unfolding benchLines
 bench-by b none out o end e p =
     let t : changeLines (none .slots) (b .slots) ≡ changeLines (emptyBus .slots) (b .slots) = ap (λ (n : Bus). changeLines (n .slots) (b .slots)) e in

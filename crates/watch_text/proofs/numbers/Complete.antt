@@ -5,6 +5,7 @@ use mathlib.Core.Bool.{Bool, true, false, false≢true, not, _&&_, _||_}
 use mathlib.Core.List.{List, [], _∷_}
 use Prim.Native.Nat.{ℕ, _+_, _-_, _<_}
 use native.Mathlib.Omega.{arith}
+use borrow.Author.Tests.{eqb-true}
 use lib.Dec.{eqb}
 use lib.ListN.{length, getD}
 use lib.Seq.{ext-getD}
@@ -12,10 +13,12 @@ use Rattle.proof_lists.specs.Tests.{by-test}
 use Rattle.rules.specs.declared.Phase.{Phase}
 use Rattle.rules.specs.declared.Phase.the-variants.{Idle, Control, Deaf, MemoryCounter, MemoryData, MemoryRead, HalfSelected, CommandAddress, CommandData, CommandStop, SensorPointer, SensorHigh, SensorLow, SensorReadHigh, SensorReadLow}
 use Rattle.rules.specs.declared.Slot.{Slot}
-use Rattle.rules.specs.Modelled.{sensing}
+use Rattle.rules.specs.declared.Older.{Older}
+use Rattle.rules.specs.Modelled.{sensing, older}
+use Rattle.rules.specs.Fresh.{freshOlder}
 use Rattle.rules.specs.Refusals.{pendingInRange}
-use Rattle.watch_text.specs.Numbers.{bit, phaseNumber, plainNumbers, sensorNumbers, pinNumbers, numbersOf}
-use Rattle.watch_text.proofs.numbers.Laws.{Sized, plain-at, protection-at, coming-at, latch-at, mark-at, sensor-at, pin-at}
+use Rattle.watch_text.specs.Numbers.{bit, phaseNumber, plainNumbers, sensorNumbers, pinNumbers, olderNumbers, kindNumbers, numbersOf}
+use Rattle.watch_text.proofs.numbers.Laws.{Sized, plain-at, protection-at, coming-at, latch-at, mark-at, sensor-at, kind-at, kindCount, kind-length, sensing-has, older-has}
 
 -- a bit and a phase, back from their numbers
 bit-back : (a b : Bool) → bit a ≡ bit b → a ≡ b
@@ -61,6 +64,10 @@ in-range-quiet s h e = off (s .sensor .pending) (sensing s) _ h e
     off true false c h e = absurd (false≢true h)
     off false b c h e = refl
 
+-- nor does a slot that is no older module say what only those have: no run from a setup brings it about (runs, FromSetup/Plain.newer)
+abbrev pub Newer : Slot → Type 0
+Newer s = older s ≡ false → s .old ≡ freshOlder
+
 module _ (s t : Slot) (y : Sized s) (z : Sized t) (e : numbersOf s ≡ numbersOf t) where
   at : (k : ℕ) → getD (numbersOf s) k 0 ≡ getD (numbersOf t) k 0
   at k = ap (λ (l : List ℕ). getD l k 0) e
@@ -78,13 +85,38 @@ module _ (s t : Slot) (y : Sized s) (z : Sized t) (e : numbersOf s ≡ numbersOf
   unfolding plainNumbers
   kinds = plain 0 (omega arith)
 
+  -- what it has by its kind
+  by-kind : kindNumbers s ≡ kindNumbers t
+  by-kind =
+      ext-getD 0 (kindNumbers s) (kindNumbers t) (kind-length s ∙ ap kindCount kinds ∙ sym (kind-length t)) (λ k h.
+      let c : 57 + k - 57 ≡ k = omega arith in
+      sym (ap (λ j. getD (kindNumbers s) j 0) c) ∙ kind-at s (57 + k) y (omega arith) ∙ at (57 + k)
+      ∙ sym (kind-at t (57 + k) z (omega arith)) ∙ ap (λ j. getD (kindNumbers t) j 0) c)
+
   pends : Quiet s → Quiet t → s .sensor .pending ≡ t .sensor .pending
   unfolding sensing pinNumbers
   pends q r =
-      let k : sensing t ≡ sensing s = ap (λ n. eqb n 2) (sym kinds) in
       by-test (sensing s)
-      (λ e. bit-back _ _ (pin-at s 59 y (omega arith) e ∙ at 59 ∙ sym (pin-at t 59 z (omega arith) (k ∙ e))))
-      (λ e. q e ∙ sym (r (k ∙ e)))
+      (λ e.
+      let k : s .kind ≡ 2 = eqb-true (s .kind) 2 e in
+      bit-back _ _ (ap (λ (l : List ℕ). getD l 2 0) (sym (sensing-has s k) ∙ by-kind ∙ sensing-has t (sym kinds ∙ k))))
+      (λ e. q e ∙ sym (r (ap (λ n. eqb n 2) (sym kinds) ∙ e)))
+
+  olds : Newer s → Newer t → s .old ≡ t .old
+  unfolding older olderNumbers
+  olds q r =
+      by-test (older s)
+      (λ e.
+      let k : s .kind ≡ 3 = eqb-true (s .kind) 3 e in
+      same-older (s .old) (t .old) (sym (older-has s k) ∙ by-kind ∙ older-has t (sym kinds ∙ k)))
+      (λ e. q e ∙ sym (r (ap (λ n. eqb n 3) (sym kinds) ∙ e)))
+    where
+      same-older : (x w : Older) → olderNumbers x ≡ olderNumbers w → x ≡ w
+      same-older x w e = λ i. record {
+        permanent = bit-back _ _ (ap (λ (l : List ℕ). getD l 0 0) e) i;
+        lasting = bit-back _ _ (ap (λ (l : List ℕ). getD l 1 0) e) i;
+        pin = bit-back _ _ (ap (λ (l : List ℕ). getD l 2 0) e) i;
+      }
 
   -- an array of bits from place `from` on
   bits : (from n : ℕ) (p q : List Bool) → length p ≡ n → length q ≡ n
@@ -119,10 +151,11 @@ module _ (s t : Slot) (y : Sized s) (z : Sized t) (e : numbersOf s ≡ numbersOf
     pending = pends q r i;
   }
 
-  -- EVERY NUMBER IS TOLD: two slots that are told alike, with nothing pending where there is no sensor, are the same slot
-  pub numbers-decide : Quiet s → Quiet t → s ≡ t
+  -- EVERY NUMBER IS TOLD: two slots that are told alike, with nothing pending where there is no sensor and nothing of an older
+  -- module's in another, are the same slot
+  pub numbers-decide : Quiet s → Quiet t → Newer s → Newer t → s ≡ t
   unfolding plainNumbers
-  numbers-decide q r =
+  numbers-decide q r u w =
       let p : s .protection ≡ t .protection = bits 8 4 (s .protection) (t .protection) (y .0) (z .0) (λ k h. protection-at s (8 + k) y (omega arith) (omega arith)) (λ k h. protection-at t (8 + k) z (omega arith) (omega arith)) in
       let c : s .coming ≡ t .coming = bits 12 4 (s .coming) (t .coming) (y .1) (z .1) (λ k h. coming-at s (12 + k) y (omega arith) (omega arith)) (λ k h. coming-at t (12 + k) z (omega arith) (omega arith)) in
       let m : s .marks ≡ t .marks = bits 32 16 (s .marks) (t .marks) (y .3) (z .3) (λ k h. mark-at s (32 + k) y (omega arith) (omega arith)) (λ k h. mark-at t (32 + k) z (omega arith) (omega arith)) in
@@ -142,4 +175,5 @@ module _ (s t : Slot) (y : Sized s) (z : Sized t) (e : numbersOf s ≡ numbersOf
         marks = m i;
         place = plain 5 (omega arith) i;
         sensor = sensors q r i;
+        old = olds u w i;
       }

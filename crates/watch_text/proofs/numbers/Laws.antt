@@ -6,18 +6,29 @@ use mathlib.Core.List.{List, [], _∷_, _++_, map}
 use Prim.Native.Nat.{ℕ, zero, suc, _+_, _-_, _≤_, _<_}
 use native.Mathlib.Nat.{zero-add}
 use native.Mathlib.Omega.{arith}
-use borrow.Author.Tests.{eqb-true}
+use borrow.Author.Tests.{eqb-true, eq-eqb, ne-eqb}
 use lib.Dec.{eqb}
 use lib.ListN.{length, getD, take, drop, replicate, length-append, length-map, length-replicate, List·getD-append, List·getD-map}
 use lib.Seq.{getD-append-add}
 use Rattle.proof_lists.specs.Same.{same, same-refl, same-append, stands-step, stands-start, stands-end, stands-whole}
 use Rattle.proof_lists.specs.Tests.{by-test}
+use Rattle.rules.specs.declared.Older.{Older}
 use Rattle.rules.specs.declared.Pin.{Pin}
 use Rattle.rules.specs.declared.Sensor.{Sensor}
 use Rattle.rules.specs.declared.Slot.{Slot}
-use Rattle.rules.specs.Modelled.{sensing}
+use Rattle.rules.specs.Modelled.{sensing, older}
 use Rattle.rules.specs.Pin.{pinOf}
-use Rattle.watch_text.specs.Numbers.{bit, plainNumbers, sensorNumbers, pinNumbers, numbersOf}
+use Rattle.watch_text.specs.Numbers.{bit, plainNumbers, sensorNumbers, pinNumbers, olderNumbers, kindNumbers, numbersOf}
+
+-- how many a slot has by its kind, and how many in all
+abbrev pub kindCount : ℕ → ℕ
+kindCount kind = cond (eqb kind 2) 3 (cond (eqb kind 3) 3 0)
+
+abbrev pub countOf : ℕ → ℕ
+countOf kind = 57 + kindCount kind
+
+pub at-most : (kind : ℕ) → kindCount kind ≤ 3
+at-most kind = by-test (eqb kind 2) (λ e. rw e (omega arith)) λ e. by-test (eqb kind 3) (λ f. rw (e, f) (omega arith)) λ f. rw (e, f) (omega arith)
 
 -- behind the first n of a list stands what follows them
 behind : (xs ys : List ℕ) (n k : ℕ) → length xs ≡ n → n ≤ k → getD (xs ++ ys) k 0 ≡ getD ys (k - n) 0
@@ -44,17 +55,56 @@ pub pin-length : (x : Sensor) → length (pinNumbers x) ≡ 3
 unfolding pinNumbers
 pin-length x = refl
 
+pub older-length : (x : Older) → length (olderNumbers x) ≡ 3
+unfolding olderNumbers
+older-length x = refl
+
 pub pin-by : (x : Sensor) (p : Pin) (a l q : ℕ) → p ≡ pinOf x → a ≡ bit (p .asserted) → l ≡ bit (p .level) → q ≡ bit (x .pending)
     → a ∷ l ∷ q ∷ [] ≡ pinNumbers x
 unfolding pinNumbers pinOf
 pin-by x p a l q e f g h = λ i. (f ∙ ap (λ (z : Pin). bit (z .asserted)) e) i ∷ (g ∙ ap (λ (z : Pin). bit (z .level)) e) i ∷ h i ∷ []
 
--- the parts of a slot's numbers
-abbrev pinsOf : Slot → List ℕ
-pinsOf s = cond (sensing s) (pinNumbers (s .sensor)) []
+-- those that a slot has by its kind: with a sensor, of an older module, and of any other kind; at most three
+module _ (s : Slot) where
+  pub sensing-has : s .kind ≡ 2 → kindNumbers s ≡ pinNumbers (s .sensor)
+  unfolding kindNumbers sensing
+  sensing-has e = rw (eq-eqb (s .kind) 2 e)
 
+  pub older-has : s .kind ≡ 3 → kindNumbers s ≡ olderNumbers (s .old)
+  unfolding kindNumbers sensing older
+  older-has e = rw (e)
+
+  other-has : (s .kind ≡ 2 → ⊥) → (s .kind ≡ 3 → ⊥) → kindNumbers s ≡ []
+  unfolding kindNumbers sensing older
+  other-has e f = rw (ne-eqb (s .kind) 2 e, ne-eqb (s .kind) 3 f)
+
+  -- the number at a place of them, as the code has it
+  pub sensing-at : (k : ℕ) (all : List ℕ) → s .kind ≡ 2 → all ≡ pinNumbers (s .sensor) → getD all k 0 ≡ getD (kindNumbers s) k 0
+  sensing-at k all e f = ap (λ (l : List ℕ). getD l k 0) (f ∙ sym (sensing-has e))
+
+  pub older-at : (k : ℕ) (all : List ℕ) → s .kind ≡ 3 → all ≡ olderNumbers (s .old) → getD all k 0 ≡ getD (kindNumbers s) k 0
+  older-at k all e f = ap (λ (l : List ℕ). getD l k 0) (f ∙ sym (older-has e))
+
+  pub other-at : (k : ℕ) → (s .kind ≡ 2 → ⊥) → (s .kind ≡ 3 → ⊥) → 0 ≡ getD (kindNumbers s) k 0
+  other-at k e f = ap (λ (l : List ℕ). getD l k 0) (sym (other-has e f))
+
+  pub kind-length : length (kindNumbers s) ≡ kindCount (s .kind)
+  unfolding kindNumbers sensing older
+  kind-length =
+      by-test (eqb (s .kind) 2) (λ e. rw e (pin-length (s .sensor))) λ e.
+      by-test (eqb (s .kind) 3) (λ f. rw (e, f) (older-length (s .old))) λ f. rw (e, f)
+
+  pub none-behind : (k : ℕ) → 3 ≤ k → 0 ≡ getD (kindNumbers s) k 0
+  none-behind k h = past (kindNumbers s) k (omega (arith, kind-length, at-most (s .kind)))
+    where
+      past : (xs : List ℕ) (n : ℕ) → length xs ≤ n → 0 ≡ getD xs n 0
+      past [] n h = refl
+      past (x ∷ xs) zero h = absurd (omega arith)
+      past (x ∷ xs) (suc n) h = past xs n (omega arith)
+
+-- the parts of a slot's numbers
 abbrev behindMarks : Slot → List ℕ
-behindMarks s = sensorNumbers (s .sensor) ++ pinsOf s
+behindMarks s = sensorNumbers (s .sensor) ++ kindNumbers s
 
 abbrev behindLatch : Slot → List ℕ
 behindLatch s = map bit (s .marks) ++ behindMarks s
@@ -116,39 +166,18 @@ module _ (s : Slot) (k : ℕ) where
 
     pub sensor-at : 48 ≤ k → k < 57 → getD (sensorNumbers (s .sensor)) (k - 48) 0 ≡ getD (numbersOf s) k 0
     sensor-at h l =
-        sym (from-48 h ∙ List·getD-append (sensorNumbers (s .sensor)) (pinsOf s) 0 (k - 48) (rw (sensor-length (s .sensor)) (omega arith)))
+        sym (from-48 h ∙ List·getD-append (sensorNumbers (s .sensor)) (kindNumbers s) 0 (k - 48) (rw (sensor-length (s .sensor)) (omega arith)))
 
-    from-57 : 57 ≤ k → getD (numbersOf s) k 0 ≡ getD (pinsOf s) (k - 57) 0
-    from-57 h =
+    pub kind-at : 57 ≤ k → getD (kindNumbers s) (k - 57) 0 ≡ getD (numbersOf s) k 0
+    kind-at h =
         let e : k - 48 - 9 ≡ k - 57 = omega arith in
-        from-48 (omega arith) ∙ behind (sensorNumbers (s .sensor)) (pinsOf s) 9 (k - 48) (sensor-length (s .sensor)) (omega arith)
-        ∙ ap (λ i. getD (pinsOf s) i 0) e
+        sym (from-48 (omega arith) ∙ behind (sensorNumbers (s .sensor)) (kindNumbers s) 9 (k - 48) (sensor-length (s .sensor)) (omega arith)
+        ∙ ap (λ i. getD (kindNumbers s) i 0) e)
 
-    pub pin-at : 57 ≤ k → sensing s ≡ true → getD (pinNumbers (s .sensor)) (k - 57) 0 ≡ getD (numbersOf s) k 0
-    pin-at h e = sym (from-57 h ∙ ap (λ (b : Bool). getD (cond b (pinNumbers (s .sensor)) []) (k - 57) 0) e)
-
-    pub none-at : 57 ≤ k → (sensing s ≡ true → 60 ≤ k) → 0 ≡ getD (numbersOf s) k 0
-    none-at h f =
-        by-test (sensing s) (λ e. past (pinNumbers (s .sensor)) (k - 57) (rw (pin-length (s .sensor)) (let g = f e in omega arith)) ∙ pin-at h e)
-        (λ e. sym (from-57 h ∙ ap (λ (b : Bool). getD (cond b (pinNumbers (s .sensor)) []) (k - 57) 0) e))
-      where
-        past : (xs : List ℕ) (n : ℕ) → length xs ≤ n → 0 ≡ getD xs n 0
-        past [] n h = refl
-        past (x ∷ xs) zero h = absurd (omega arith)
-        past (x ∷ xs) (suc n) h = past xs n (omega arith)
-
--- how many they are: with a sensor, and without
-abbrev pub countOf : Bool → ℕ
-countOf b = cond b 60 57
-
-pub numbers-length : (s : Slot) → Sized s → length (numbersOf s) ≡ countOf (sensing s)
+pub numbers-length : (s : Slot) → Sized s → length (numbersOf s) ≡ countOf (s .kind)
 unfolding numbersOf
 numbers-length s z =
-    simp (length-append, length-map) (rw (plain-length s, sensor-length (s .sensor), z .0, z .1, z .2, z .3) (by-kind (sensing s)))
-  where
-    by-kind : (b : Bool) → 8 + (4 + (4 + (16 + (16 + (9 + length (cond b (pinNumbers (s .sensor)) [])))))) ≡ countOf b
-    by-kind true = ap (λ n. 8 + (4 + (4 + (16 + (16 + (9 + n)))))) (pin-length (s .sensor))
-    by-kind false = refl
+    simp (length-append, length-map) (rw (plain-length s, sensor-length (s .sensor), kind-length s, z .0, z .1, z .2, z .3) (omega arith))
 
 -- the numbers of a slot with noughts behind them, which are 60 whatever its kind: what the code looks at, one by one
 pub sixty : List ℕ → List ℕ
@@ -189,7 +218,7 @@ sixty-same s t y z =
     by-test (eqb (s .kind) (t .kind))
     (λ e.
     let k : s .kind ≡ t .kind = eqb-true (s .kind) (t .kind) e in
-    sixty-alike (numbersOf s) (numbersOf t) (numbers-length s y ∙ ap (λ n. countOf (eqb n 2)) k ∙ sym (numbers-length t z)))
+    sixty-alike (numbersOf s) (numbersOf t) (numbers-length s y ∙ ap countOf k ∙ sym (numbers-length t z)))
     (sixty-other s t)
 
 -- whether the first k of two lists of 60 are the same
@@ -208,7 +237,7 @@ alike-none s t y z = record {
 }
   where
     most : (s : Slot) → Sized s → length (numbersOf s) ≤ 60
-    most s y = rw (numbers-length s y) (by-test (sensing s) (λ e. rw e (omega arith)) (λ e. rw e (omega arith)))
+    most s y = rw (numbers-length s y) (let h = at-most (s .kind) in omega arith)
 
 pub alike-more : (xs ys : List ℕ) (k : ℕ) (all : Bool) (x y : ℕ) → Alike (sixty xs) (sixty ys) k all → k < 60 → x ≡ getD xs k 0 → y ≡ getD ys k 0
     → Alike (sixty xs) (sixty ys) (k + 1) (all && eqb x y)

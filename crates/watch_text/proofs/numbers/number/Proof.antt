@@ -3,14 +3,11 @@
 use mathlib.Core.Path.{sym, _∙_}
 use native.Mathlib.Omega.{arith}
 use borrow.Author.Needs.{needs}
-use borrow.Author.Tests.{eqb-true, eq-eqb}
-use Rattle.rules.specs.Modelled.{sensing}
-use Rattle.watch_text.proofs.numbers.Laws.{plain-at, protection-at, coming-at, latch-at, mark-at, sensor-at, pin-at, none-at}
+use Rattle.watch_text.proofs.numbers.Laws.{plain-at, protection-at, coming-at, latch-at, mark-at, sensor-at, kind-at}
 use Rattle.watch_text.proofs.numbers.number.Statement.{statement}
 use Rattle.watch_text.proofs.numbers.number.Tie as tie
 
 pub number-spec : {M : Type 1} → statement M
-unfolding sensing
 number-spec =
     tie.close
     (tie.spec
@@ -34,9 +31,5 @@ number-spec =
     (λ c. search needs)
     (λ c. search needs)
     (λ c. rw (c .sensor-numbers .ensures) (sensor-at _ _ (search needs, search needs, search needs, search needs) (omega arith) (omega arith)))
-    (λ c. none-at _ _ (search needs, search needs, search needs, search needs) (omega arith) (λ e. absurd (c .if7 .taken (eqb-true _ _ e))))
     (λ c κs. search needs)
-    (λ c. search needs)
-    (λ c. search needs)
-    (λ c. rw (c .pin-numbers .ensures) (pin-at _ _ (search needs, search needs, search needs, search needs) (omega arith) (eq-eqb _ _ (c .before .before .before .if7 .left))))
-    (λ c. none-at _ _ (search needs, search needs, search needs, search needs) (omega arith) (λ e. omega arith)))
+    (λ c. c .kind-number .ensures ∙ kind-at _ _ (search needs, search needs, search needs, search needs) (omega arith)))
