@@ -53,13 +53,25 @@ static void show_answers(size_t places)
 
 static size_t lent = sizeof memory;  /* bytes of the memory that are lent */
 
+/* Of an older module (request P9): "another half or bit" than half and bit 0
+ * is not, and the bit is "set if permanent". */
+static int older_in_range(const struct slot *s)
+{
+    for (int b = 1; b < BLOCKS; b++)
+        if (s->is_protected[b])
+            return 0;
+    if (s->half != 0)
+        return 0;
+    return !s->permanent || s->is_protected[0];
+}
+
 /* Whether the numbers that a try hands in are in their ranges. */
 static int in_range(void)
 {
     for (int n = 0; n < SLOTS; n++) {
         const struct slot *s = &bus[n];
 
-        if (s->kind < ABSENT || s->kind > MEMORY_WITH_SENSOR)
+        if (s->kind < ABSENT || s->kind > OLDER)
             return 0;
         if (s->kind == ABSENT ? s->length != 0 : s->length < 1 || s->length > 5)
             return 0;
@@ -67,6 +79,8 @@ static int in_range(void)
             return 0;
         if (s->pending && !(s->kind == MEMORY_WITH_SENSOR && can_pend(s->reg[1])))
             return 0;             /* where no change can be */
+        if (s->kind == OLDER && !older_in_range(s))
+            return 0;
     }
     return 1;
 }
@@ -193,11 +207,13 @@ static int numbers_of(const char *text, int *to)
 /* Numbers of a slot by their names, a value behind each. */
 static void hand_in(struct slot *s, const char *text)
 {
-    static const char *const names[] = { "kind ", "length ", "left ", "half ", "pointer ", "configuration ", "pending " };
-    int *const numbers[] = { &s->kind, &s->length, &s->ticks_left, &s->half, &s->pointer, &s->reg[1], &s->pending };
+    static const char *const names[] = { "kind ", "length ", "left ", "half ", "pointer ", "configuration ", "pending ",
+        "protection0 ", "protection1 ", "protection2 ", "protection3 ", "permanent ", "write-protect " };
+    int *const numbers[] = { &s->kind, &s->length, &s->ticks_left, &s->half, &s->pointer, &s->reg[1], &s->pending,
+        &s->is_protected[0], &s->is_protected[1], &s->is_protected[2], &s->is_protected[3], &s->permanent, &s->write_protect };
 
     for (; *text != 0; text = next_word(text))
-        for (int i = 0; i < 7; i++)
+        for (int i = 0; i < 13; i++)
             if (memcmp(text, names[i], strlen(names[i])) == 0)
                 *numbers[i] = number_at(next_word(text));
 }

@@ -1,6 +1,6 @@
 /*
  * A plain planner: what the program `plan` does, in C, written from the
- * sentences of request P1 on the second opinion's model.  It stands in for the
+ * sentences of requests P1 and P9 on the second opinion's model.  It stands in for the
  * proved program where the tests of the planner are tried themselves:
  * tests/plan/planted plants the faults of planted.txt in it, line by line (keep
  * the two in step), and sees that tests/plan/random finds each.
@@ -58,7 +58,7 @@ int main(void)
 
     if (none != NULL)
         return alone(none, 2);
-    if (no_such_slot(q.slot))
+    if (no_plan_for(q.slot))
         return alone("R3", 1);
     old = memory + SLOT_BYTES * q.slot;
     s = &bus[q.slot];

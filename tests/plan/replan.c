@@ -110,6 +110,20 @@ static void open_order(int n)
         add(BYTE, 0, below(256));
 }
 
+/* The lasting form of an older module, as it is also heard from half commands
+ * with bytes behind them; and perhaps its pin. */
+static void open_lasting(int n)
+{
+    if (one_in(4))
+        add(WRITE_PROTECT, n, below(2));
+    if (below(3))
+        add(VOLTAGE, n, 0);
+    add(START, 0, 0);
+    add(BYTE, 0, 0x60 + 2 * n);
+    for (int many = one_in(3) ? below(4) : 2; many > 0; many--)
+        add(BYTE, 0, below(256));
+}
+
 static void open_read(int n)
 {
     add(START, 0, 0);
@@ -126,10 +140,22 @@ static void open_half(void)
         add(BYTE, 0, below(256));
 }
 
+/* An older module, if there is one. */
+static int a_module(void)
+{
+    int n = below(SLOTS);
+
+    for (int tries = 0; tries < SLOTS && bus[n].kind != OLDER; tries++)
+        n = (n + 1) % SLOTS;
+    return n;
+}
+
 /* A cycle that power cuts, mostly while it runs. */
 static void cut_cycle_of(int n)
 {
-    if (one_in(3))
+    if (bus[n].kind == OLDER && one_in(2))
+        open_lasting(n);
+    else if (one_in(3))
         open_order(n);
     else
         open_write(n);
@@ -148,7 +174,7 @@ static void last_move(int n)
 
     if (one_in(2))
         add_ticks(5);             /* so that all slots listen */
-    switch (below(11)) {
+    switch (below(13)) {
     case 0: case 1: open_write(mine); break;
     case 2: case 3: case 4: open_order(mine % SLOTS); break;
     case 5: open_half(); break;
@@ -156,6 +182,8 @@ static void last_move(int n)
     case 7: add(START, 0, 0); break;
     case 8: one_in(3) ? add(POWER, 0, a_number()) : add(TIMEOUT, 0, 0); break;
     case 9: case 10: cut_cycle_of(mine % SLOTS); break;
+    case 11: open_lasting(a_module()); break;
+    case 12: cut_cycle_of(a_module()); break;
     }
     if (below(3)) {
         add(STOP, 0, 0);
@@ -183,7 +211,7 @@ static int choose_slot(void)
         return above[below(7)];
     for (int tries = 0; tries < 20; tries++) {
         n = below(SLOTS);
-        if (no_such_slot(n) ? one_in(200) : busy(n) || one_in(8))
+        if (no_such_slot(n) ? one_in(200) : no_plan_for(n) ? one_in(20) : busy(n) || one_in(8))
             break;
     }
     return n;
@@ -240,7 +268,7 @@ static void choose_image(int n, unsigned char *image)
 static void spoil(void)
 {
     if (one_in(2))
-        ask[2 * below(SLOTS)] = (unsigned char)(3 + below(253));
+        ask[2 * below(SLOTS)] = (unsigned char)(4 + below(252));
     if (one_in(2))
         asked = (size_t)below(one_in(2) ? SETUP + 1 : (int)asked);
 }
@@ -440,6 +468,8 @@ static void judge_run(const struct request *q, int pages)
 
         if (memcmp(a->is_protected, b->is_protected, sizeof a->is_protected) != 0)
             WRONG("the protection of slot %d has changed", n);
+        if (a->permanent != b->permanent || a->write_protect != b->write_protect)
+            WRONG("what slot %d has protected for ever, or its pin, has changed", n);
         if (a->high_voltage != b->high_voltage || a->pointer != b->pointer || memcmp(a->reg, b->reg, sizeof a->reg) != 0)
             WRONG("the voltage or the sensor of slot %d has changed", n);
         if (n != q->slot && a->counter != b->counter)
@@ -510,7 +540,7 @@ static void judge_one(void)
 
     if (none != NULL) {
         must_say(none, 2, said, said_length, ended);
-    } else if (no_such_slot(q.slot)) {
+    } else if (no_plan_for(q.slot)) {
         must_say("R3", 1, said, said_length, ended);
     } else {
         int forbidden = 0;

@@ -41,3 +41,6 @@ static const char *take(const unsigned char *in, size_t length, struct request *
 
 /* "a slot absent or above 7" */
 static int no_such_slot(int n) { return n >= SLOTS || bus[n].kind == ABSENT; }
+
+/* Refusal 3: of an older module too (request P9). */
+static int no_plan_for(int n) { return no_such_slot(n) || bus[n].kind == OLDER; }

@@ -33,7 +33,8 @@ static size_t field_at(int which)
     return at;
 }
 
-/* Four, or five where a change is pending. */
+/* Four; one more where a change is pending, and one where a module is protected
+ * for ever or a write-protect pin is on. */
 static int fields(void)
 {
     int many = 0;
@@ -44,6 +45,21 @@ static int fields(void)
 }
 
 static size_t field_length(int which) { return field_at(which + 1) - field_at(which) - HEAD; }
+
+/* Which field of the good form has this tag, or would stand there. */
+static int place_of(int tag)
+{
+    int which = 0;
+
+    while (which < fields() && good[field_at(which)] < tag)
+        which++;
+    return which;
+}
+
+static int has_tag(int tag) { return place_of(tag) < fields() && good[field_at(place_of(tag))] == tag; }
+
+/* Bytes of the field of this tag with its head, 0 where there is none. */
+static size_t whole_length(int tag) { return has_tag(tag) ? HEAD + field_length(place_of(tag)) : 0; }
 
 /* A byte that is not in the memory. */
 static size_t place_outside_memory(void)
@@ -79,11 +95,31 @@ static void splice(size_t at, size_t less, const unsigned char *bytes, size_t mo
     bad_length += more - less;
 }
 
+/* What the good form has of this tag, if anything, is left out. */
+static void leave_out(int tag)
+{
+    splice(field_at(place_of(tag)), whole_length(tag), NULL, 0);
+    ADD_WHAT(", field %d left out", tag);
+}
+
+/* The form with this field of a tag, whatever it had of it. */
+static void put_field(int tag, const unsigned char *bytes, int many)
+{
+    const unsigned char head[HEAD] = { (unsigned char)tag, 0, (unsigned char)many };
+    size_t at = field_at(place_of(tag));
+
+    splice(at, whole_length(tag), head, HEAD);
+    splice(at + HEAD, 0, bytes, (size_t)many);
+    ADD_WHAT(", field %d of %d bytes", tag, many);
+    for (int i = 0; i < many; i++)
+        ADD_WHAT(" %d", bytes[i]);
+}
+
 /* ---- Numbers of a form, just in their ranges and just out of them -------------- */
 
 static void change_pair(void)
 {
-    static const int kinds[] = { 0, 1, 2, 3, 3, 4, 255 };
+    static const int kinds[] = { 0, 1, 2, 3, 3, 4, 4, 255 };
     static const int lengths[] = { 0, 0, 1, 5, 6, 6, 255 };
     size_t at = HEAD + 2 * (size_t)below(SLOTS);
 
@@ -95,7 +131,7 @@ static void change_pair(void)
 
 static void change_slot(void)
 {
-    static const int ends[OF_SLOT][4] = { { 15, 16, 31, 240 }, { 0, 1, 2, 3 }, { 0, 128, 254, 255 }, { 0, 1, 2, 3 } };
+    static const int ends[OF_SLOT][5] = { { 1, 15, 16, 31, 240 }, { 0, 1, 1, 2, 3 }, { 0, 128, 254, 255, 255 }, { 0, 1, 1, 2, 3 } };
     int slots = (int)field_length(2) / OF_SLOT;
     int which = below(OF_SLOT);
 
@@ -133,19 +169,6 @@ static void change_mode(int sensor, int bit)
 
 /* ---- Tag 5, which is there only where a change is pending ----------------------- */
 
-/* The form with this field 5, whatever it had. */
-static void put_ones(const unsigned char *ones, int many)
-{
-    const unsigned char head[HEAD] = { 5, 0, (unsigned char)many };
-
-    bad_length = field_at(4);
-    splice(bad_length, 0, head, HEAD);
-    splice(bad_length, 0, ones, (size_t)many);
-    ADD_WHAT(", field 5 of %d bytes", many);
-    for (int i = 0; i < many; i++)
-        ADD_WHAT(" %d", ones[i]);
-}
-
 /* Any ones and zeros, mostly one for each sensor, and seldom another number. */
 static void change_ones(void)
 {
@@ -159,7 +182,7 @@ static void change_ones(void)
         ones[i] = (unsigned char)below(2);
     if (many > 0 && one_in(4))
         ones[below(many)] = (unsigned char)other;
-    put_ones(ones, many);
+    put_field(5, ones, many);
 }
 
 /* Something behind the last field: a byte, or a field without contents. */
@@ -175,15 +198,188 @@ static void damage_pending(void)
 {
     static const unsigned char none[SLOTS];
     static const int bits[] = { 0, 2, 3 };
-    int sensors = sensors_in_form(), bit = ONE_OF(bits), tag = between(4, 6);
+    int sensors = sensors_in_form(), bit = ONE_OF(bits), tag = between(4, 7);
 
     begin("what is pending");
     switch (below(6)) {
-    case 0: put_ones(none, sensors); break;
-    case 1: bad_length = field_at(4); ADD_WHAT(", left out"); break;
+    case 0: put_field(5, none, sensors); break;
+    case 1: leave_out(5); break;
     case 2: if (sensors > 0) change_mode(below(sensors), bit); break;
     case 3: put_behind(tag, one_in(2) ? 1 : HEAD); break;
     default: change_ones(); break;
+    }
+}
+
+/* ---- Older modules, and tag 6 --------------------------------------------------- */
+
+static int kind_in_form(int n) { return good[HEAD + 2 * n]; }
+
+static int in_form(int kind)
+{
+    int many = 0;
+
+    for (int n = 0; n < SLOTS; n++)
+        many += kind_in_form(n) == kind;
+    return many;
+}
+
+/* The slot of a kind with so many of that kind before it; one must be there. */
+static int slot_in_form(int kind, int which)
+{
+    int n = 0;
+
+    while (kind_in_form(n) != kind || which-- > 0)
+        n++;
+    return n;
+}
+
+/* Where the four bytes of a present slot are, and where its memory begins. */
+static size_t four_at(int n)
+{
+    size_t at = field_at(2) + HEAD;
+
+    while (n-- > 0)
+        at += kind_in_form(n) == ABSENT ? 0 : OF_SLOT;
+    return at;
+}
+
+static size_t stored_at(int n)
+{
+    size_t at = field_at(1) + HEAD;
+
+    while (n-- > 0)
+        at += (size_t)bytes_of(kind_in_form(n));
+    return at;
+}
+
+/* A byte for each older module, mostly one that its protection admits, and seldom
+ * another number. */
+static void change_bits(void)
+{
+    static const int numbers[] = { 4, 4, 5, 6, 7, 8, 128, 129, 255 };
+    unsigned char bits[SLOTS + 2] = { 0 };
+    int modules = in_form(OLDER);
+    int many = modules + (one_in(6) ? 1 : modules > 0 && one_in(6) ? -1 : 0);
+    int other = ONE_OF(numbers);
+
+    for (int i = 0; i < many; i++) {
+        int protects = i < modules && good[four_at(slot_in_form(OLDER, i))] & 1;
+
+        bits[i] = (unsigned char)below(4);
+        if (!protects && below(4))
+            bits[i] &= 2;
+    }
+    if (many > 0 && one_in(4))
+        bits[below(many)] = (unsigned char)other;
+    put_field(6, bits, many);
+}
+
+/* Protection or half of an older module: what it may have and what only the
+ * others may; and bit 0 away from under what is for ever. */
+static void change_module(void)
+{
+    static const int blocks[] = { 0, 0, 1, 1, 2, 3, 4, 5, 8, 9, 15 };
+    size_t at;
+
+    if (in_form(OLDER) == 0)
+        return;
+    at = four_at(slot_in_form(OLDER, below(in_form(OLDER))));
+    if (one_in(3))
+        change_at(at + 1, between(0, 2));
+    else
+        change_at(at, ONE_OF(blocks));
+}
+
+/* The field twice, or before a field that belongs in front of it. */
+static void move_six(int where)
+{
+    const unsigned char *six = good + field_at(place_of(6));
+    size_t many = whole_length(6);
+
+    if (where == 6) {
+        splice(field_at(place_of(6)), 0, six, many);
+        ADD_WHAT(", field 6 twice");
+        return;
+    }
+    splice(field_at(place_of(6)), many, NULL, 0);
+    splice(field_at(place_of(where)), 0, six, many);
+    ADD_WHAT(", field 6 before field %d", where);
+}
+
+/* The sensors' field, of which one is left out or put in at slot n. */
+static void change_sensors(int n, int more)
+{
+    static const unsigned char zeros[OF_SENSOR];
+    size_t at = field_at(3) + HEAD;
+
+    for (int i = 0; i < n; i++)
+        at += kind_in_form(i) == MEMORY_WITH_SENSOR ? OF_SENSOR : 0;
+    splice(at, more ? 0 : OF_SENSOR, zeros, more ? OF_SENSOR : 0);
+    bad[field_at(3) + 2] = (unsigned char)(OF_SENSOR * (sensors_in_form() + (more ? 1 : -1)));
+}
+
+/* The memory's field, of which the upper half of slot n is left out or put in.  Of
+ * several slots the last comes first, so that the places hold. */
+static void change_stored(int n, int more)
+{
+    static const unsigned char upper[SLOT_BYTES / 2] = { 0x5A };
+    size_t half = sizeof upper, head = field_at(1) + 1;
+    size_t now = (size_t)word_at(bad + head) + (more ? half : -half);
+
+    splice(stored_at(n) + half, more ? 0 : half, upper, more ? half : 0);
+    bad[head] = (unsigned char)(now >> 8);
+    bad[head + 1] = (unsigned char)now;
+}
+
+/* Every older module with all its 512 bytes. */
+static void store_all(void)
+{
+    for (int n = SLOTS - 1; n >= 0; n--)
+        if (kind_in_form(n) == OLDER)
+            change_stored(n, 1);
+    ADD_WHAT(", 512 bytes of each");
+}
+
+/* An older module becomes another slot, or another one an older.  The fields stay
+ * as they are; or they follow, without tags 5 and 6, from which a form may come
+ * that is accepted. */
+static void change_kind(int n, int follow)
+{
+    int from = kind_in_form(n);
+    int to = from == OLDER ? between(MEMORY, MEMORY_WITH_SENSOR) : OLDER;
+
+    if (from == ABSENT)
+        return;
+    change_at(HEAD + 2 * (size_t)n, to);
+    if (!follow)
+        return;
+    ADD_WHAT(", and its fields");
+    leave_out(6);                 /* the last first, so that the places hold */
+    leave_out(5);
+    if (from == MEMORY_WITH_SENSOR || to == MEMORY_WITH_SENSOR)
+        change_sensors(n, to == MEMORY_WITH_SENSOR);
+    if (one_in(2)) {
+        bad[four_at(n)] &= 1;
+        bad[four_at(n) + 1] = 0;
+    }
+    change_stored(n, from == OLDER);
+}
+
+static void damage_older(void)
+{
+    static const unsigned char none[SLOTS];
+    int modules = in_form(OLDER), where = between(1, 6), n = below(SLOTS);
+
+    begin("older modules");
+    switch (below(13)) {
+    case 0: put_field(6, none, modules); break;
+    case 1: leave_out(6); break;
+    case 2: case 3: change_module(); break;
+    case 4: case 5: change_kind(n, 1); break;
+    case 6: change_kind(n, 0); break;
+    case 7: move_six(one_in(2) ? 5 : where); break;
+    case 8: store_all(); break;
+    default: change_bits(); break;
     }
 }
 
@@ -204,7 +400,7 @@ static void exchange_fields(void)
  * or one of them once more. */
 static void add_field(void)
 {
-    static const int tags[] = { 0, 5, 6, 6, 17, 255 };
+    static const int tags[] = { 0, 5, 6, 6, 7, 17, 255 };
     unsigned char other[HEAD + 1] = { (unsigned char)ONE_OF(tags), 0, 0, 0 };
     size_t at = field_at(below(fields() + 1));
     int which = below(fields());

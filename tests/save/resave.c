@@ -1,9 +1,9 @@
 /*
  * Makes benches, has the program `save` save them and the program `resume` go
  * on with them, and judges what both say; tests/save/random calls it.  Written
- * from the sentences of requests P5 and P8, on the second opinion's model and
- * with a writer and a reader of its own (forms.h); no line of it comes from the
- * crates.
+ * from the sentences of requests P5, P8 and P9, on the second opinion's model
+ * and with a writer and a reader of its own (forms.h); no line of it comes from
+ * the crates.
  *
  *   resave COUNT TRIES SEED DIR SAVE RESUME [UNSEEN-SAVE UNSEEN-RESUME]
  *       Cuts each of the scripts DIR/1.script to DIR/COUNT.script somewhere:
@@ -227,6 +227,20 @@ static void look_at_voltage(int chosen)
     add(STOP, 0, 0);
 }
 
+/* Whether an older module is protected for ever, when no slot has high voltage:
+ * it then acknowledges neither its own select nor, with voltage, a clear.  Neither
+ * has a byte behind it, so nothing comes of them.  The pin is seen by what it says
+ * to a data byte (look_at_half). */
+static void look_at_older(int n)
+{
+    add_bytes(0x60 + 2 * n, -1, -1);
+    add(STOP, 0, 0);
+    add(VOLTAGE, n, 1);
+    add_bytes(0x66, -1, -1);
+    add(STOP, 0, 0);
+    add(VOLTAGE, n, 0);
+}
+
 /* A look at all that a form holds, of the slots that are now present. */
 static void look(int whole)
 {
@@ -244,9 +258,13 @@ static void look(int whole)
             if (bus[n].kind != ABSENT)
                 look_at_half(n, whole);
     }
-    while (slots_from(MEMORY) > 0 && bus[chosen].kind == ABSENT)
+    while (present_slots() > 0 && bus[chosen].kind == ABSENT)
         chosen = below(SLOTS);
     look_at_voltage(chosen);
+    add(VOLTAGE, chosen, 0);
+    for (int n = 0; n < SLOTS; n++)
+        if (bus[n].kind == OLDER)
+            look_at_older(n);
 }
 
 /* ---- Inputs made of a form and records ----------------------------------------- */
@@ -332,17 +350,25 @@ static void play_to(size_t at)
 
 static size_t any_moment(void) { return SETUP + 4 * (size_t)below((int)(script_length - SETUP) / 4 + 1); }
 
+/* What a moment is to have: nothing more, a change that is pending, or an older
+ * module with something for tag 6. */
+enum wish { ANYTHING, PENDING, OLDER_BITS, WISHES };
+
+static int is_granted(enum wish wish)
+{
+    return wish == PENDING ? any_pending() : wish == OLDER_BITS ? any_older_bits() : 1;
+}
+
 /* A moment at which the bench may be saved: the first from a chosen one on, or
- * else the last before it.  In every other run the first at which a change is
- * pending, too. */
+ * else the last before it.  In two of three runs the first that has more, too. */
 static size_t quiet_moment(void)
 {
     size_t chosen = any_moment(), last = SETUP;
-    int pending = one_in(2);
+    enum wish wish = (enum wish)below(WISHES);
 
     setup(script);
     for (size_t at = SETUP; ; at += 4) {
-        if (quiet() && (at < chosen || !pending || any_pending()))
+        if (quiet() && (at < chosen || is_granted(wish)))
             last = at;
         if (last >= chosen || at == script_length)
             return last;
@@ -421,6 +447,8 @@ static void one_run(void)
     try_bad();
     damage_pending();
     try_bad();
+    damage_older();
+    try_bad();
     if (number % 2)
         try_length();
     else
@@ -430,7 +458,7 @@ static void one_run(void)
 
 /* ---- How much of what follows is tried ---------------------------------------------- */
 
-enum { ABOUT_ALL = 68000 };       /* changes of one byte, and cuts */
+enum { ABOUT_ALL = 110000 };      /* changes of one byte, and cuts */
 static long every;                /* one in so many is tried */
 
 /* ---- A bench in every phase --------------------------------------------------------- */
@@ -443,15 +471,33 @@ static const char *const endings[] = {
     "", "s", "sFF", "sn", "sp", "so", "sc", "sw", "sw00", "sw005A", "sw00p", "sw005Ao", "sw005Ap", "sw005Apt", "sw005Aptt",
     "sw005Apc", "sw005As", "sm", "smr", "smn", "smnp", "sm00", "s6C", "s6E", "s6E00", "s6Ep", "s6D", "s63", "s66",
     "vs62", "vs6200", "vs620000", "vs62000000", "vs62u", "vs6200p", "vs620000p", "vs620000pt", "vs620000pst", "vs620000ptt",
-    "vs660000ptt", "sg", "sg0A", "sg01", "sg0107", "sg010700", "sg010700p", "sg01070000", "sk", "skr", "skrr", "skrrp", "sw005Apstt" };
+    "vs600000ptt", "vs680000ptt", "vs6A0000ptt", "vs660000ptt", "sg", "sg0A", "sg01", "sg0107", "sg010700", "sg010700p",
+    "sg01070000", "sk", "skr", "skrr", "skrrp", "sw005Apstt" };
 
-/* Of those with which a pin has to do; q is the control byte of a sensor write
- * of the next slot, i is h of that slot. */
+/* Of those with which an EVENT pin has to do; q is the control byte of a sensor
+ * write of the next slot, i is h of that slot. */
 static const char *const pin_endings[] = {
     "sg010009ph", "sg01000Bph", "sg010008ph", "sg010001ph", "sg01000Dph", "sg010109ph", "hsg010009p", "sg010009phsg010020",
     "sg010009phsg010029p", "sg010009phsg010008psg010009p", "sg010009phsg0100p", "sg0100C9phsg010000p", "sg0100C9phsg010020p",
     "sg010009phc", "sg010009psw005Aphtt", "sg010009psq010009ph", "sg010009psq010009pi", "sg010009psq010009phi",
     "sg010009psq010008phi", "sg010008psq010009phi" };
+
+/* Of an older module: l and j are its select in the lasting form and in its read
+ * form, e and d its write-protect pin on and off, x a power cycle with the number
+ * 1; f and b are l and e of the next slot. */
+static const char *const older_endings[] = {
+    "", "e", "ed", "ec", "el", "esl", "sl", "sj", "sl00", "sl0000", "sl000000", "sl00p", "sl0000o", "sl0000p", "sl0000pt",
+    "sl0000ptt", "sl0000pttc", "sl0000pc", "sl0000px", "sl0000ep", "sl0000eptt", "sl0000edptt", "esl0000dptt", "sl0000pett",
+    "sl0000ptte", "sl0000vptt", "sl0000vuptt", "vsl0000ptt", "vs62", "vs620000", "vs620000u", "vs620000p", "vs620000pt",
+    "vs620000ptt", "vs620000ptte", "vs620000eptt", "vs620000pttusl0000ptt", "vs620000pttusl0000ptte", "vs620000pttvs660000p",
+    "vs620000pttvs660000ptt", "usl0000pttvs660000ptt", "sl0000ptts6E0000p", "s6E", "s6Ep", "s6E0000p", "sw005A", "esw005A",
+    "esw005Ap", "sw005Ae", "sw005Aep", "sw005Aeptt", "sw005Ae5Aptt", "sw805Aptt", "sw0F5A5Aptte", "sw805Ap", "smnp", "smrrnp",
+    "b", "eb", "bsl0000ptt", "sf0000ptt", "sl0000pttsf0000ptt", "sl0000pttsf0000ptteb", "esf0000ptt", "sf0000ptte",
+    "vs620000pttsf0000ptt" };
+
+/* Of an older module beside a sensor, which is the next slot. */
+static const char *const mixed_endings[] = {
+    "e", "sl0000ptt", "sl0000ptte", "sq010009pi", "sq010009pie", "sq010009pisl0000ptt", "esq010009pic", "sw005Apttesq010009pi" };
 
 static void add_letter(char letter, int n)
 {
@@ -472,6 +518,13 @@ static void add_letter(char letter, int n)
     case 'k': add(BYTE, 0, 0x31 + 2 * n); break;
     case 'q': add(BYTE, 0, 0x30 + 2 * ((n + 1) % SLOTS)); break;
     case 'i': add(TEMPERATURE, (n + 1) % SLOTS, 100); break;
+    case 'l': add(BYTE, 0, 0x60 + 2 * n); break;
+    case 'j': add(BYTE, 0, 0x61 + 2 * n); break;
+    case 'e': add(WRITE_PROTECT, n, 1); break;
+    case 'd': add(WRITE_PROTECT, n, 0); break;
+    case 'x': add(POWER, 0, 1); break;
+    case 'f': add(BYTE, 0, 0x60 + 2 * ((n + 1) % SLOTS)); break;
+    case 'b': add(WRITE_PROTECT, (n + 1) % SLOTS, 1); break;
     }
 }
 
@@ -490,26 +543,34 @@ static void add_ending(const char *ending, int n)
     }
 }
 
-enum others { NO_SLOT, NO_OTHER, SEVEN_SENSORS, A_SENSOR_AND_MEMORIES };
+enum others { NO_SLOT, NO_OTHER, SEVEN_SENSORS, A_SENSOR_AND_MEMORIES, AN_OLDER, OLDER_ONES, AN_OLDER_AND_A_SENSOR };
 
-/* What slot i is beside the sensor n. */
+/* What slot n is that something happens to. */
+static int kind_of(enum others others) { return others == NO_SLOT ? ABSENT : others < AN_OLDER ? MEMORY_WITH_SENSOR : OLDER; }
+
+/* What slot i is beside it. */
 static int kind_beside(enum others others, int n, int i)
 {
-    if (i == n || others <= NO_OTHER)
-        return i == n && others != NO_SLOT ? MEMORY_WITH_SENSOR : ABSENT;
-    if (others == SEVEN_SENSORS || i == (n + 1) % SLOTS)
-        return MEMORY_WITH_SENSOR;
-    return between(ABSENT, MEMORY);
+    int follows = i == (n + 1) % SLOTS;
+
+    switch (others) {
+    case SEVEN_SENSORS: return MEMORY_WITH_SENSOR;
+    case A_SENSOR_AND_MEMORIES: return follows ? MEMORY_WITH_SENSOR : between(ABSENT, MEMORY);
+    case OLDER_ONES: return follows ? OLDER : below(4) ? ABSENT : between(MEMORY, OLDER);
+    case AN_OLDER_AND_A_SENSOR: return follows ? MEMORY_WITH_SENSOR : between(ABSENT, OLDER);
+    default: return ABSENT;
+    }
 }
 
-/* A sensor with a cycle of two ticks, and others. */
+/* A sensor or an older module with a cycle of two ticks, and others. */
 static void try_ending(const char *ending, enum others others)
 {
-    static const char *const told[] = { "no slot", "one slot", "eight slots", "two sensors and memories" };
+    static const char *const told[] = { "no slot", "one slot", "eight slots", "two sensors and memories", "an older module",
+                                        "older modules", "an older module and a sensor" };
     int n = below(SLOTS);
 
     for (int i = 0; i < SLOTS; i++) {
-        input[2 * i] = (unsigned char)kind_beside(others, n, i);
+        input[2 * i] = (unsigned char)(i == n ? kind_of(others) : kind_beside(others, n, i));
         input[2 * i + 1] = input[2 * i] == ABSENT ? 0 : 2;
     }
     add_ending(ending, n);
@@ -530,6 +591,10 @@ static void sweep_phases(void)
     }
     for (int i = 0; i < (int)(sizeof pin_endings / sizeof pin_endings[0]); i++)
         try_ending(pin_endings[i], i % 2 ? SEVEN_SENSORS : A_SENSOR_AND_MEMORIES);
+    for (int i = 0; i < (int)(sizeof older_endings / sizeof older_endings[0]); i++)
+        try_ending(older_endings[i], i % 2 && strpbrk(older_endings[i], "bf") == NULL ? AN_OLDER : OLDER_ONES);
+    for (int i = 0; i < (int)(sizeof mixed_endings / sizeof mixed_endings[0]); i++)
+        try_ending(mixed_endings[i], AN_OLDER_AND_A_SENSOR);
 }
 
 /* ---- Every byte of small forms --------------------------------------------------- */
@@ -543,6 +608,16 @@ static void stir_sensor(struct slot *s)
     if (one_in(2))
         s->reg[1] = (s->reg[1] & ~CRITICAL_ALONE) | ENABLED | INTERRUPT;
     s->pending = can_pend(s->reg[1]) && below(4);
+}
+
+/* Half 0, no block but the first, and that for ever only where it is protected. */
+static void stir_older(struct slot *s)
+{
+    s->half = 0;
+    for (int b = 1; b < BLOCKS; b++)
+        s->is_protected[b] = 0;
+    s->permanent = s->is_protected[0] && below(2);
+    s->write_protect = below(2);
 }
 
 /* A bench in any state that may be saved. */
@@ -563,6 +638,8 @@ static void stir(const unsigned char pairs[SETUP])
             memory[SLOT_BYTES * n + i] = (unsigned char)below(256);
         if (s->kind == MEMORY_WITH_SENSOR)
             stir_sensor(s);
+        if (s->kind == OLDER)
+            stir_older(s);
     }
 }
 
@@ -629,10 +706,11 @@ static void sweep_ends(int n)
 {
     static const int ends[][3] = { { 2, 0, 15 }, { 2, 0, 16 }, { 2, 1, 1 }, { 2, 1, 2 }, { 2, 2, 255 }, { 2, 3, 1 }, { 2, 3, 2 },
                                    { 3, 0, 9 }, { 3, 0, 10 } };
-    const int pairs[][2] = { { 2 * n, 3 }, { 2 * n + 1, 0 }, { 2 * n + 1, 5 }, { 2 * n + 1, 6 }, { 2 * n + 2, 1 }, { 2 * n + 3, 1 } };
+    const int pairs[][2] = { { 2 * n, 3 }, { 2 * n, 4 }, { 2 * n + 1, 0 }, { 2 * n + 1, 5 }, { 2 * n + 1, 6 }, { 2 * n + 2, 1 },
+                             { 2 * n + 3, 1 } };
 
-    for (int i = 0; i < 9 + 6 + HEAD * fields(); i++) {
-        int head = i - 9 - 6;
+    for (int i = 0; i < 9 + 7 + HEAD * fields(); i++) {
+        int head = i - 9 - 7;
         size_t at = field_at(head / HEAD) + (size_t)head % HEAD;
 
         begin("a small form");
@@ -646,6 +724,20 @@ static void sweep_ends(int n)
     }
 }
 
+/* A field, if it is there, under another tag. */
+static void sweep_tag(int tag)
+{
+    static const int others[] = { 0, 4, 5, 6, 7 };
+
+    for (int i = 0; i < 5 && has_tag(tag); i++) {
+        if (others[i] == tag)
+            continue;
+        begin("a small form");
+        change_at(field_at(place_of(tag)), others[i]);
+        try_small(1);
+    }
+}
+
 /* Tag 5, of as many sensors as there are: of every sort of numbers, one too long
  * or too short, left out, twice, with something behind it, before tag 4; and
  * with each of bits 5:0 of a configuration turned over. */
@@ -653,37 +745,85 @@ static void sweep_pending(void)
 {
     static const unsigned char ones[][3] = { { 0, 0 }, { 1, 0 }, { 0, 1 }, { 1, 1 }, { 2, 0 }, { 0, 2 }, { 2, 1 }, { 1, 2 }, { 255, 1 } };
     int sensors = sensors_in_form(), sorts = (int)(sizeof ones / sizeof ones[0]);
-    size_t five = field_at(4);
+    size_t at = field_at(place_of(5)), many = whole_length(5);
 
     for (int i = 0; i < 3 * sorts; i++) {
         begin("a small form");
         if (sensors + i % 3 > 0)
-            put_ones(ones[i / 3], sensors + i % 3 - 1);
+            put_field(5, ones[i / 3], sensors + i % 3 - 1);
         try_small(1);
     }
     for (int i = 0; i < 12 * sensors; i++) {
         begin("a small form");
         if (i % 2)
-            put_ones(ones[3], sensors);
+            put_field(5, ones[3], sensors);
         change_mode(i / 12, i / 2 % 6);
         try_small(1);
     }
-    for (int tag = 0; tag <= 7; tag++) {
+    for (int tag = 0; tag <= 8; tag++) {
         begin("a small form");
         put_behind(tag, tag % 2 ? HEAD : 1);
         try_small(1);
     }
-    begin("a small form without its field 5");
-    bad_length = five;
+    begin("a small form");
+    leave_out(5);
     try_small(1);
+    sweep_tag(5);
     begin("a small form, its field 5 twice");
-    splice(bad_length, 0, good + five, good_length - five);
+    splice(at, 0, good + at, many);
     try_small(1);
     begin("a small form, its field 5 before field 4");
-    bad_length = field_at(3);
-    splice(bad_length, 0, good + five, good_length - five);
-    splice(bad_length, 0, good + field_at(3), five - field_at(3));
+    splice(at, many, NULL, 0);
+    splice(field_at(3), 0, good + at, many);
     try_small(1);
+}
+
+/* The same of tag 6, whose numbers are tried under every protection of the first
+ * older module: with a bit that it does not have, and without the one that it must
+ * have; and its half. */
+static void sweep_older(void)
+{
+    static const unsigned char bits[][3] = { { 0, 0 }, { 1, 0 }, { 2, 0 }, { 3, 0 }, { 0, 1 }, { 0, 2 }, { 0, 3 }, { 1, 1 }, { 2, 2 },
+                                             { 3, 1 }, { 1, 3 }, { 4, 0 }, { 0, 4 }, { 5, 1 }, { 2, 6 }, { 130, 0 }, { 0, 130 }, { 255, 2 } };
+    static const int blocks[] = { 0, 1, 2, 3, 4, 8, 9, 16 };
+    int modules = in_form(OLDER), sorts = (int)(sizeof bits / sizeof bits[0]);
+
+    for (int i = 0; i < 3 * sorts; i++) {
+        begin("a small form");
+        if (modules + i % 3 > 0)
+            put_field(6, bits[i / 3], modules + i % 3 - 1);
+        try_small(i / 3 < 3 || (modules > 0 && i % 3 == 1));
+    }
+    for (int i = 0; modules > 0 && i < 4 * 8; i++) {
+        begin("a small form");
+        put_field(6, bits[i % 4 + (modules > 1 ? 6 : 0)], modules);
+        change_at(four_at(slot_in_form(OLDER, 0)), blocks[i / 4]);
+        try_small(1);
+    }
+    for (int half = 0; modules > 0 && half <= 2; half++) {
+        begin("a small form");
+        change_at(four_at(slot_in_form(OLDER, modules - 1)) + 1, half);
+        try_small(1);
+    }
+    for (int i = 0; i < 4 * SLOTS; i++) {
+        if (kind_in_form(i / 4) == ABSENT)
+            continue;
+        begin("a small form");
+        change_kind(i / 4, i % 4);
+        try_small(1);
+    }
+    for (int where = 1; whole_length(6) > 0 && where <= 6; where++) {
+        begin("a small form");
+        move_six(where);
+        try_small(1);
+    }
+    begin("a small form");
+    leave_out(6);
+    try_small(1);
+    begin("a small form");
+    store_all();
+    try_small(1);
+    sweep_tag(6);
 }
 
 /* The first bytes of an input. */
@@ -721,15 +861,33 @@ static int count_pins(int *others)
     return many;
 }
 
+/* Of two sensors a change is pending in one, and not in the other, where it could
+ * be.  Of a bench with older modules the first and the last are not alike, and
+ * there is a tag 6; beside a sensor, a tag 5. */
+static int is_wanted(void)
+{
+    int others, pending = count_pins(&others), first = 0, last = SLOTS - 1;
+
+    if (slots_of(MEMORY_WITH_SENSOR) == 2)
+        return pending == 1 && others == 1;
+    if (slots_of(OLDER) == 0)
+        return 1;
+    while (bus[first].kind != OLDER)
+        first++;
+    while (bus[last].kind != OLDER)
+        last--;
+    if (first < last && older_bits(&bus[first]) == older_bits(&bus[last]))
+        return 0;
+    return any_older_bits() && any_pending() == (slots_of(MEMORY_WITH_SENSOR) > 0);
+}
+
 /* A bench of this setup, whose form is the good one, and a look at it.  What was
  * tried has gone over the bench. */
 static void set_up_small(const unsigned char pairs[SETUP], int whole)
 {
-    int others;
-
     do
         stir(pairs);
-    while (slots_from(MEMORY_WITH_SENSOR) == 2 && (count_pins(&others) != 1 || others != 1));
+    while (!is_wanted());
     keep_form();
     tail_length = 0;
     look(whole);
@@ -744,26 +902,36 @@ static void sweep_small(const unsigned char pairs[SETUP], int first)
     if (number == 1)
         sweep_ends(first);
     sweep_pending();
+    sweep_older();
     sweep_values();
     sweep_lengths();
 }
 
+enum { SMALL = 6, PLACES = 3 };   /* benches, and slots of them */
+
 /* No slot; a sensor; a memory and a sensor; two sensors, one of which has a
- * change pending. */
+ * change pending; an older module before a memory; a sensor with a change pending
+ * between two older modules. */
 static void sweep(long wanted)
 {
-    unsigned char pairs[4][SETUP] = { { 0 } };
-    int first = below(7), second = between(first + 1, 7);
+    static const unsigned char kinds[SMALL][PLACES] = {
+        { ABSENT }, { MEMORY_WITH_SENSOR }, { MEMORY, MEMORY_WITH_SENSOR }, { MEMORY_WITH_SENSOR, MEMORY_WITH_SENSOR },
+        { OLDER, MEMORY }, { OLDER, MEMORY_WITH_SENSOR, OLDER } };
+    unsigned char pairs[SMALL][SETUP] = { { 0 } };
+    int first = below(6), second = between(first + 1, 6), third = between(second + 1, 7);
+    const int slots[PLACES] = { first, second, third };
     unsigned char ticks = (unsigned char)between(1, 5);
 
-    pairs[1][2 * first] = pairs[2][2 * second] = pairs[3][2 * first] = pairs[3][2 * second] = MEMORY_WITH_SENSOR;
-    pairs[2][2 * first] = MEMORY;
-    pairs[1][2 * first + 1] = pairs[2][2 * first + 1] = pairs[2][2 * second + 1] = ticks;
-    pairs[3][2 * first + 1] = pairs[3][2 * second + 1] = ticks;
+    for (int i = 0; i < SMALL * PLACES; i++) {
+        unsigned char *pair = pairs[i / PLACES] + 2 * slots[i % PLACES];
+
+        pair[0] = kinds[i / PLACES][i % PLACES];
+        pair[1] = pair[0] == ABSENT ? 0 : ticks;
+    }
     every = wanted == 0 || wanted > ABOUT_ALL ? 1 : ABOUT_ALL / wanted;
     number = 0;                   /* no run any more */
     sweep_phases();
-    for (number = 0; number < 4; number++)
+    for (number = 0; number < SMALL; number++)
         sweep_small(pairs[number], first);
     sweep_first();
     sweep_announced();

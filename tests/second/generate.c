@@ -5,9 +5,10 @@
  * The scripts are random but meant: whole exchanges of every sort, a good
  * share of them then disturbed (cut, interrupted, mixed up), with ticks,
  * voltage and temperature events around them, power lost in write cycles, and
- * all that the EVENT pin minds or should not.  The generator knows nothing of
- * the device's answers; it only remembers what it wrote where, so that it comes
- * back to the same places.  The same arguments always give the same script.
+ * all that the EVENT pin, or an older module and its write-protect pin, minds or
+ * should not.  The generator knows nothing of the device's answers; it only
+ * remembers what it wrote where, so that it comes back to the same places.  The
+ * same arguments always give the same script.
  *
  * With `odd` the setup is bad or cut short, or the last record is cut.
  */
@@ -16,17 +17,19 @@
 #include <string.h>
 #include "chance.h"
 
-enum { START = 1, BYTE, READ, STOP, TIMEOUT, TICK, VOLTAGE, POWER, TEMPERATURE };
+enum { START = 1, BYTE, READ, STOP, TIMEOUT, TICK, VOLTAGE, POWER, TEMPERATURE, WRITE_PROTECT };
 
 /* ---- What the generator remembers --------------------------------------- */
 
 static int kind_of[8], length_of[8];     /* the setup */
 static int favourite[2], with_sensor;    /* slots most exchanges go to */
+static int older;                        /* a slot of kind 3, if there is one */
 static int places[4];                    /* addresses this script comes back to */
 static int limit[8][3];                  /* last written: high, low, critical */
 static int resolution[8];                /* last written: 0 to 3 */
 static int lately;                       /* 0, 1 or 2: the limit written last */
 static int configured[8];                /* register 01h, by what was written since power came */
+static int voltage[8], pin[8];           /* on or off, as they were set last */
 static int in_hand;                      /* the slot of the exchange being made */
 static long left;                        /* records still to write */
 
@@ -56,6 +59,10 @@ static void record(int kind, int slot, int value)
     left--;
     if (kind == POWER && value >= 0 && value <= 16)
         forget();
+    if (kind == VOLTAGE && slot < 8)
+        voltage[slot] = value;
+    if (kind == WRITE_PROTECT && slot < 8)
+        pin[slot] = value;
     putchar(kind);
     putchar(slot);
     putchar(value >> 8 & 255);
@@ -71,8 +78,8 @@ static int any_value(void)
 
 static int any_slot(void)
 {
-    static const int high[] = { 8, 8, 8, 9, 16, 128, 255 };
-    return one_in(3) ? ONE_OF(high) : below(8);
+    static const int high[] = { 8, 8, 8, 8, 8, 9, 16, 128, 255 };
+    return one_in(2) ? ONE_OF(high) : below(8);
 }
 
 /* An exchange is gathered here first, so that it can be disturbed. */
@@ -173,22 +180,23 @@ static int a_temperature(int n)
 /* Kinds, slots and values out of their ranges, or at the ends of them. */
 static void rubbish_at(int at)
 {
-    static const int kinds[] = { 0, 10, 255, 128, BYTE, BYTE, READ, READ, VOLTAGE,
-                                 VOLTAGE, TEMPERATURE, TEMPERATURE, TEMPERATURE, POWER };
-    static const int ends[10][4] = {
+    static const int kinds[] = { 0, 11, 255, 128, BYTE, BYTE, READ, READ, VOLTAGE, VOLTAGE, POWER,
+                                 TEMPERATURE, TEMPERATURE, TEMPERATURE, WRITE_PROTECT, WRITE_PROTECT };
+    static const int ends[11][4] = {
         [BYTE] = { -1, 0, 255, 256 }, [READ] = { -1, 0, 1, 2 }, [POWER] = { -1, 0, 16, 17 },
-        [VOLTAGE] = { -1, 0, 1, 2 }, [TEMPERATURE] = { -641, -640, 2000, 2001 } };
+        [VOLTAGE] = { -1, 0, 1, 2 }, [TEMPERATURE] = { -641, -640, 2000, 2001 },
+        [WRITE_PROTECT] = { -1, 1, 2, 256 } };
     int kind = ONE_OF(kinds);
-    int slot = one_in(3) ? with_sensor : any_slot();
+    int slot = !one_in(3) ? any_slot() : kind == WRITE_PROTECT ? older : with_sensor;
 
-    insert(at, kind, slot, kind < 10 && one_in(2) ? ends[kind][below(4)] : any_value());
+    insert(at, kind, slot, kind <= WRITE_PROTECT && one_in(2) ? ends[kind][below(4)] : any_value());
 }
 
 static void intrude(int at)
 {
     int n = one_in(2) ? in_hand : below(8);
 
-    switch (below(14)) {
+    switch (below(15)) {
     case 0: insert(at, START, 0, 0); break;
     case 1: insert(at, STOP, 0, 0); break;
     case 2: insert(at, TIMEOUT, 0, 0); break;
@@ -201,6 +209,7 @@ static void intrude(int at)
     case 10: insert(at, TEMPERATURE, n, a_temperature(n)); break;
     case 11: insert(at, TEMPERATURE, with_sensor, a_temperature(with_sensor)); break;
     case 12: rubbish_at(at); break;
+    case 13: insert(at, WRITE_PROTECT, one_in(2) ? older : n, below(2)); break;
     default: insert(at, POWER, 0, one_in(4) ? a_number() : a_wrong_number()); break;
     }
 }
@@ -339,7 +348,7 @@ static int a_register_value(int n, int which)
         if (one_in(6)) value |= 0x0040;
         if (one_in(locks(n) || value & 0x00C0 ? 2 : 6)) value |= 0x0100;
     } else if (which >= 2 && which <= 4) {
-        if (one_in(4))
+        if (one_in(which == 4 ? 3 : 4))
             value = ONE_OF(ends);
         else if (one_in(4))
             value = between(-160, 500) * 4;
@@ -656,9 +665,10 @@ static void over_critical(int n)
 /* Power or a temperature that is refused, or a timeout. */
 static void leave_alone(int n)
 {
-    switch (below(3)) {
-    case 0: record(POWER, 0, a_wrong_number()); break;
-    case 1: record(TIMEOUT, 0, 0); break;
+    switch (below(5)) {
+    case 0: case 1: record(POWER, 0, a_wrong_number()); break;
+    case 2: record(TIMEOUT, 0, 0); break;
+    case 3: record(TEMPERATURE, one_in(2) ? 8 : n + 8, a_move(n)); break;
     default: record(TEMPERATURE, n, one_in(2) ? -641 : 2001); break;
     }
 }
@@ -965,6 +975,275 @@ static void cut_order(void)
     }
 }
 
+/* ---- Older 2-Kbit modules ----------------------------------------------- */
+
+/* Mostly the same one for a while. */
+static int a_module(void)
+{
+    for (int n = below(8), k = one_in(6) ? 8 : 0; k > 0; k--, n = (n + 1) % 8)
+        if (kind_of[n] == 3 && n != older) {
+            older = n;
+            break;
+        }
+    return in_hand = below(30) ? older : any_of_eight();
+}
+
+static void set_voltage(int n, int on)
+{
+    if (voltage[n] != on || one_in(8))
+        record(VOLTAGE, n, on);
+}
+
+static void set_pin(int n, int on)
+{
+    if (pin[n] != on || one_in(8))
+        record(WRITE_PROTECT, n, on);
+}
+
+/* Its own select, with a write bit. */
+static int own(int n) { return 0x60 | n << 1; }
+
+/* A control byte that the module minds as the voltage stands, or any other. */
+static int a_0110(int n, int on)
+{
+    static const int minded[] = { 0x62, 0x63, 0x66, 0x67 };
+
+    switch (below(6)) {
+    case 0: case 1: return 0x60 | below(16);
+    case 2: on = !on;                    /* fall through */
+    default: return on ? ONE_OF(minded) : own(n) | below(2);
+    }
+}
+
+/* The first byte of the upper half of its 256, or of its pages, or near. */
+static int a_place(void)
+{
+    static const int ends[] = { 0x7F, 0x7F, 0x80, 0x80, 0x7E, 0x81, 0x00, 0xFF, 0xFE };
+
+    return one_in(2) ? ONE_OF(ends) : an_address();
+}
+
+/* What the module says to its own memory's control byte: nothing in a cycle. */
+static void is_busy(int n)
+{
+    add(START, 0);
+    add(BYTE, 0xA0 | n << 1 | below(2));
+    add(STOP, 0);
+    play_as_is();
+}
+
+/* Some 0110 bytes of which nothing comes; a read form may have more behind it. */
+static void ask_module(int n)
+{
+    for (int many = between(1, 3); many > 0; many--) {
+        int code;
+
+        if (one_in(3))
+            record(VOLTAGE, n, below(2));
+        code = a_0110(n, voltage[n]);
+        add(START, 0);
+        add(BYTE, code);
+        for (int k = !one_in(3) ? 0 : code % 2 ? between(1, 3) : 1; k > 0; k--)
+            stray(3);
+        if (one_in(3))
+            add(STOP, 0);
+        play_as_is();
+        if (code % 2 && one_in(4))
+            is_busy(n);
+    }
+}
+
+/* A data byte in the lower half of the 256 or the upper, which a timeout
+ * abandons; and where the counter then stands. */
+static void try_byte(int n)
+{
+    add(START, 0);
+    add(BYTE, 0xA0 | n << 1);
+    add(BYTE, one_in(2) ? a_place() % 128 : a_place());
+    for (int k = between(1, 2); k > 0; k--)
+        add(BYTE, below(256));
+    add(TIMEOUT, 0);
+    play_as_is();
+    if (one_in(2))
+        current_read(n);
+}
+
+/* The pin goes on or off at any place of what is gathered, and perhaps back. */
+static void move_pin(int n)
+{
+    int at = below(count + 1), on = below(4) != 0;
+
+    insert(at, WRITE_PROTECT, n, on);
+    if (below(3)) {
+        at = one_in(2) ? count : between(at + 1, count);
+        insert(at, WRITE_PROTECT, n, !on);
+    }
+}
+
+/* A page, while the pin goes on and off: before a byte, between the last one
+ * and the stop, or in the cycle. */
+static void write_module(int n)
+{
+    int place = a_place();
+
+    set_pin(n, one_in(8));
+    add(START, 0);
+    add(BYTE, 0xA0 | n << 1);
+    add(BYTE, place);
+    for (int k = one_in(4) ? below(19) : between(1, 4); k > 0; k--)
+        add(BYTE, below(256));
+    switch (below(4)) {
+    case 0: insert(count, WRITE_PROTECT, n, 1); break;
+    case 1: case 2: move_pin(n); break;
+    }
+    add(STOP, 0);
+    one_in(8) ? play() : play_as_is();
+    if (one_in(3))
+        record(WRITE_PROTECT, n, below(2));
+    if (one_in(4))
+        record(POWER, 0, a_number());
+    if (one_in(3))
+        is_busy(n);
+    ticks(n);
+    if (one_in(2))
+        current_read(n);
+    if (below(3))
+        random_read(n, one_in(2) ? place : place & 0xF0, one_in(6) ? 17 : between(1, 4));
+}
+
+/* What keeps an order, of which the stop is still to come, from its effect: a
+ * byte too many or too few, something else before the stop, or the pin. */
+static void hinder(int n)
+{
+    switch (below(12)) {
+    case 0: case 1: add(BYTE, below(256)); break;
+    case 2: count--; break;
+    case 3: add(READ, below(2)); break;
+    case 4: add(START, 0); break;
+    case 5: add(TIMEOUT, 0); break;
+    case 6: case 7: add(POWER, one_in(2) ? between(1, 16) : a_number()); break;
+    case 8: insert(below(count), WRITE_PROTECT, n, 1); break;
+    default: insert(count, WRITE_PROTECT, n, 1); break;
+    }
+}
+
+/* Voltage that goes and comes back, or comes and goes, behind the control byte. */
+static void move_voltage(int n)
+{
+    int at = between(2, count), on = !voltage[n];
+
+    insert(at, VOLTAGE, n, on);
+    if (one_in(2)) {
+        at = between(at + 1, count);
+        insert(at, VOLTAGE, n, !on);
+    }
+}
+
+/* While a cycle of an order runs: the pin, voltage, power, which leaves most
+ * lasting forms undone. */
+static void meddle(int n, int lasting)
+{
+    if (one_in(3))
+        record(WRITE_PROTECT, n, below(4) != 0);
+    if (one_in(3))
+        record(VOLTAGE, n, !voltage[n]);
+    if (one_in(2)) {
+        for (int k = below(3); k > 0; k--)
+            add(TICK, 0);
+        is_busy(n);
+    }
+    if (lasting ? below(6) : one_in(4))
+        record(POWER, 0, below(4) ? 0 : one_in(2) ? 1 : a_number());
+}
+
+/* 62h, 66h or the module's own select, with two bytes and a stop.  Protection
+ * that lasts ends much, so that this is mostly hindered. */
+static void order_module(int n)
+{
+    int lasting = one_in(2);
+    int hindered = lasting ? below(5) < 3 : one_in(5);
+
+    if (one_in(4))
+        settle();
+    set_voltage(n, one_in(12) ? lasting : !lasting);
+    set_pin(n, 0);
+    send_order(one_in(12) ? 0x60 | below(16) : lasting ? own(n) : one_in(2) ? 0x62 : 0x66);
+    if (hindered)
+        hinder(n);
+    else if (one_in(3))
+        move_pin(n);
+    if (one_in(lasting ? 2 : 6))
+        move_voltage(n);
+    if (below(10))
+        add(STOP, 0);
+    play_as_is();
+    meddle(n, lasting);
+    ticks(n);
+    if (one_in(2))
+        is_busy(n);
+    if (one_in(6))
+        record(POWER, 0, 0);
+    if (below(3))
+        set_pin(n, 0);
+    ask_module(n);
+}
+
+/* A control byte that no module answers to, or a half; and what is then read. */
+static void mislead(int n)
+{
+    static const int codes[] = { 0x6C, 0x6D, 0x6E, 0x6E };
+
+    add(START, 0);
+    add(BYTE, one_in(2) ? ONE_OF(codes) : 0x30 | n << 1 | below(2));
+    for (int k = one_in(3); k > 0; k--)
+        stray(3);
+    add(STOP, 0);
+    play_as_is();
+    random_read(n, a_place(), between(1, 3));
+}
+
+/* An event that is refused, and what it should not have changed. */
+static void refuse(int n)
+{
+    static const int outside[] = { -1, -1, 2, 256, 257, -32768, 32767 };
+
+    switch (below(6)) {
+    case 0: record(POWER, 0, a_wrong_number()); break;
+    case 1: record(TEMPERATURE, n, between(0, 30)); break;
+    case 2: record(one_in(4) ? VOLTAGE : WRITE_PROTECT, n + 8, below(2)); break;
+    default: record(one_in(4) ? VOLTAGE : WRITE_PROTECT, n, ONE_OF(outside)); break;
+    }
+    one_in(3) ? ask_module(n) : try_byte(n);
+}
+
+/* One thing that an older module minds, or should not. */
+static void touch_module(int n)
+{
+    switch (below(18)) {
+    case 0: case 1: case 2: case 3: write_module(n); break;
+    case 4: case 5: case 6: case 7: case 8: case 9: case 10: case 11: order_module(n); break;
+    case 12: ask_module(n); break;
+    case 13: case 14: try_byte(n); break;
+    case 15: mislead(n); break;
+    case 16: refuse(n); break;
+    default:
+        if (one_in(2))
+            record(one_in(2) ? POWER : TIMEOUT, 0, 0);
+        else
+            record(WRITE_PROTECT, n, below(2));
+        break;
+    }
+}
+
+static void try_module(int n)
+{
+    for (int k = between(1, 4); k > 0; k--) {
+        touch_module(n);
+        if (one_in(3))
+            one_in(2) ? try_byte(n) : ask_module(n);
+    }
+}
+
 /* ---- Other bytes, and what stands between ------------------------------- */
 
 static void unknown(void)
@@ -972,15 +1251,27 @@ static void unknown(void)
     static const int codes[] = { 0x64, 0x65, 0x67, 0x6F };
 
     add(START, 0);
-    add(BYTE, one_in(2) ? ONE_OF(codes) : below(256));
+    add(BYTE, one_in(3) ? ONE_OF(codes) : one_in(2) ? below(256) : below(16) << 4 | a_slot() << 1);
     for (int k = below(4); k > 0; k--)
         stray(3);
     add(STOP, 0);
     play();
 }
 
+/* A start, power, and a control byte that comes too late. */
+static void power_behind_start(void)
+{
+    add(START, 0);
+    add(POWER, a_number());
+    add(BYTE, 0xA1 | a_slot() << 1);
+    add(READ, 0);
+    play_as_is();
+}
+
 static void between_exchanges(void)
 {
+    if (one_in(6))
+        power_behind_start();
     for (int k = between(1, 3); k > 0; k--)
         intrude(count);
     play_as_is();
@@ -988,30 +1279,51 @@ static void between_exchanges(void)
 
 static void rubbish(void)
 {
-    for (int k = between(1, 4); k > 0; k--)
+    for (int k = between(2, 6); k > 0; k--)
         rubbish_at(count);
     play_as_is();
 }
 
 /* ---- The script --------------------------------------------------------- */
 
-/* Each script has a leaning, so that state of one sort builds up in it. */
-enum { MIXED, MEMORY, SENSOR, PROTECTION };
+/* Each script has a leaning, so that state of one sort builds up in it; a long
+ * one has several, one after the other. */
+enum { MIXED, MEMORY, SENSOR, PROTECTION, OLD };
+
+static int a_leaning(void)
+{
+    static const int leanings[] = { MIXED, MEMORY, SENSOR, SENSOR, SENSOR, PROTECTION, OLD, OLD };
+
+    return ONE_OF(leanings);
+}
+
+/* Another one, or the same; none that the setup has no slots for. */
+static int next_leaning(void)
+{
+    int leaning = a_leaning();
+
+    if (leaning == SENSOR && kind_of[with_sensor] != 2)
+        return MIXED;
+    if (leaning == OLD && kind_of[older] != 3)
+        return MIXED;
+    return leaning;
+}
 
 static void exchange(int leaning)
 {
-    static const int shares[4][14] = {
-        /* write read current sensor-w sensor-r measure half protect ask unknown between cut-pages cut-order pin */
-        [MIXED] = { 21, 8, 6, 14, 4, 10, 6, 9, 3, 2, 4, 4, 2, 4 },
-        [MEMORY] = { 41, 14, 10, 2, 1, 2, 9, 3, 2, 2, 3, 7, 1, 0 },
-        [SENSOR] = { 1, 1, 1, 46, 4, 20, 1, 2, 1, 1, 4, 1, 0, 14 },
-        [PROTECTION] = { 24, 5, 4, 2, 1, 2, 8, 29, 9, 2, 4, 2, 5, 0 },
+    static const int shares[5][15] = {
+        /* write read current sensor-w sensor-r measure half protect ask unknown between cut-pages cut-order pin module */
+        [MIXED] = { 18, 7, 5, 14, 4, 9, 6, 9, 3, 3, 4, 4, 2, 4, 4 },
+        [MEMORY] = { 38, 14, 9, 2, 1, 2, 9, 3, 2, 3, 3, 7, 1, 0, 2 },
+        [SENSOR] = { 1, 1, 1, 42, 4, 18, 1, 2, 1, 1, 4, 1, 0, 20, 0 },
+        [PROTECTION] = { 21, 5, 4, 2, 1, 1, 8, 28, 9, 3, 4, 2, 5, 0, 4 },
+        [OLD] = { 5, 3, 2, 1, 1, 1, 3, 4, 2, 3, 3, 2, 2, 0, 66 },
     };
     int chosen = below(100);             /* beyond the shares: rubbish */
     int which = 0;
     int n, place;
 
-    while (which < 14 && chosen >= shares[leaning][which])
+    while (which < 15 && chosen >= shares[leaning][which])
         chosen -= shares[leaning][which++];
     switch (which) {
     case 0: page_write(); break;
@@ -1036,6 +1348,7 @@ static void exchange(int leaning)
         break;
     case 12: cut_order(); break;
     case 13: try_pin(a_sensor()); break;
+    case 14: kind_of[older] == 3 ? try_module(a_module()) : page_write(); break;
     default: rubbish(); break;
     }
     if (one_in(120)) {
@@ -1045,26 +1358,39 @@ static void exchange(int leaning)
     }
 }
 
+/* Older modules stand among the others, or alone. */
+static int a_kind(int leaning)
+{
+    if (one_in(leaning == OLD ? 2 : leaning == SENSOR ? 16 : 8))
+        return 3;
+    return between(1, 2);
+}
+
 /* Mostly full buses; one script in three has one or two slots only, since
  * on a full bus the answers to the 0110 commands drown each other. */
 static void choose_setup(unsigned char setup[16], int leaning)
 {
-    int few = one_in(3);
-    int found = 0;
+    int few = one_in(leaning == OLD ? 2 : 3);
+    int alike = leaning == OLD && one_in(3);
+    int found = 0, modules = 0;
 
     favourite[0] = below(8);
-    with_sensor = favourite[0];
+    older = with_sensor = favourite[0];
     favourite[1] = below(3) ? below(8) : favourite[0];
     for (int n = 0; n < 8; n++) {
         int mine = n == favourite[0] || n == favourite[1];
-        kind_of[n] = !mine && (few || one_in(8)) ? 0 : between(1, 2);
-        if (n == favourite[0] && (leaning == SENSOR || one_in(2)))
+        kind_of[n] = !mine && (few || one_in(8)) ? 0 : alike ? 3 : a_kind(leaning);
+        if (n == favourite[0] && leaning != OLD && (leaning == SENSOR || one_in(2)))
             kind_of[n] = 2;
+        if (n == favourite[0] && leaning == OLD)
+            kind_of[n] = 3;
         length_of[n] = kind_of[n] ? between(1, 5) : one_in(2) ? 0 : below(256);
         setup[2 * n] = (unsigned char)kind_of[n];
         setup[2 * n + 1] = (unsigned char)length_of[n];
         if (kind_of[n] == 2 && one_in(++found))
             with_sensor = n;
+        if (kind_of[n] == 3 && one_in(++modules))
+            older = n;
     }
     for (int i = 0; i < 4; i++) {
         static const int starts[] = { 0x00, 0x10, 0x60, 0x70, 0x80, 0xE0, 0xF0 };
@@ -1076,21 +1402,20 @@ static void choose_setup(unsigned char setup[16], int leaning)
 /* A kind or a length that is just or far out of its range. */
 static void spoil(unsigned char setup[16])
 {
-    static const int kinds[] = { 3, 3, 4, 128, 255 };
-    static const int lengths[] = { 0, 0, 6, 6, 255 };
+    static const int kinds[] = { 4, 4, 5, 128, 255 };
+    static const int lengths[] = { 0, 0, 0, 6, 6, 6, 255 };
     int n = below(8);
 
     if (one_in(2)) {
         setup[2 * n] = (unsigned char)ONE_OF(kinds);
     } else {
-        setup[2 * n] = (unsigned char)between(1, 2);
+        setup[2 * n] = (unsigned char)between(1, 3);
         setup[2 * n + 1] = (unsigned char)ONE_OF(lengths);
     }
 }
 
 int main(int argc, char **argv)
 {
-    static const int leanings[] = { MIXED, MIXED, MEMORY, SENSOR, SENSOR, PROTECTION };
     unsigned char setup[16];
     int odd = argc > 3 && strcmp(argv[3], "odd") == 0;
     int oddness, leaning;
@@ -1102,7 +1427,7 @@ int main(int argc, char **argv)
     seed_with(strtoull(argv[1], NULL, 10));
     left = strtol(argv[2], NULL, 10);
     forget();
-    leaning = ONE_OF(leanings);
+    leaning = a_leaning();
     choose_setup(setup, leaning);
     oddness = odd ? below(4) : -1;
     if (oddness == 0 || oddness == 1)
@@ -1119,8 +1444,13 @@ int main(int argc, char **argv)
             record(VOLTAGE, favourite[k], 1);
     if (leaning == SENSOR || one_in(4))
         prime(with_sensor);
-    while (left > 0)
+    for (long since = left; left > 0;) {
         exchange(leaning);
+        if (since - left > 1200) {
+            leaning = next_leaning();
+            since = left;
+        }
+    }
     if (oddness == 3 || oddness == 0)
         fwrite("\1\0\0", 1, (size_t)between(1, 3), stdout);  /* a cut record */
     return 0;

@@ -122,14 +122,14 @@ static void must_end(int status)
  * of its range. */
 static void spoil_setup(void)
 {
-    static const int kinds[] = { 3, 3, 4, 128, 255 };
+    static const int kinds[] = { 4, 4, 5, 128, 255 };
     static const int lengths[] = { 0, 0, 6, 6, 255 };
     unsigned char *pair = input + 2 * below(SLOTS);
 
     if (one_in(2)) {
         pair[0] = (unsigned char)ONE_OF(kinds);
     } else {
-        pair[0] = (unsigned char)between(MEMORY, MEMORY_WITH_SENSOR);
+        pair[0] = (unsigned char)between(MEMORY, OLDER);
         pair[1] = (unsigned char)ONE_OF(lengths);
     }
 }

@@ -8,7 +8,7 @@
 #undef main
 #include <stdlib.h>
 
-enum { START = 1, BYTE = 2, READ = 3, STOP = 4, TIMEOUT = 5, TICK = 6, VOLTAGE = 7, POWER = 8, TEMPERATURE = 9 };
+enum { START = 1, BYTE = 2, READ = 3, STOP = 4, TIMEOUT = 5, TICK = 6, VOLTAGE = 7, POWER = 8, TEMPERATURE = 9, WRITE_PROTECT = 10 };
 enum { SETUP = 2 * SLOTS };       /* bytes of it */
 
 /* One record on the model.  Gives its line, as the script program says it. */

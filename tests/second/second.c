@@ -4,8 +4,9 @@
  * the document is silent it takes the choices of docs/DECISIONS.md.  A power
  * cycle has a number, as request P3 ("Power lost in a write cycle") has it, a
  * temperature goes to the nearest step, as request P7 ("Rounding of
- * temperature") has it, and a sensor has the pin of request P8 ("The EVENT
- * pin"), of which a script sees bit 4 of register 01h.
+ * temperature") has it, a sensor has the pin of request P8 ("The EVENT pin"),
+ * of which a script sees bit 4 of register 01h, and slots of kind 3 are as
+ * request P9 ("Older 2-Kbit modules") has them.
  *
  * It follows the document's sections and uses its words.  It is meant to be
  * read beside the document, so it is plain rather than clever.  The file
@@ -17,7 +18,7 @@
 /* ---- What is modelled --------------------------------------------------- */
 
 enum { SLOTS = 8, SLOT_BYTES = 512, PAGE = 16, BLOCKS = 4, REGISTERS = 10 };
-enum { ABSENT = 0, MEMORY = 1, MEMORY_WITH_SENSOR = 2 };
+enum { ABSENT = 0, MEMORY = 1, MEMORY_WITH_SENSOR = 2, OLDER = 3 };
 
 /* What a slot makes of the next byte or read. */
 enum doing {
@@ -28,7 +29,7 @@ enum doing {
     WRITE_DATA,     /* memory write: the next byte is latched */
     READ_DATA,      /* memory read */
     HALF_SELECTED,  /* after 6Ch or 6Eh */
-    ORDERED,        /* protect or clear was acknowledged; see order and taken */
+    ORDERED,        /* protect, clear or lasting form: see order and taken */
     SENSOR_POINTER, /* sensor write: the next byte is the pointer */
     SENSOR_HIGH,    /* sensor write: the next byte is the high byte */
     SENSOR_LOW,     /* sensor write: the next byte is the low byte */
@@ -37,8 +38,9 @@ enum doing {
     SENSOR_READ_2   /* sensor read: the low byte is next */
 };
 
-/* What a write cycle does when it ends: 0 to 3 protects that block. */
-enum { CLEAR_ALL = 4, STORE_PAGE = 5 };
+/* What a write cycle does when it ends: 0 to 3 protects that block, and
+ * FOR_EVER, the lasting form of an older module, block 0. */
+enum { CLEAR_ALL = 4, STORE_PAGE = 5, FOR_EVER = 6 };
 
 /* Bits of 01h, the configuration: of the sensor, and of its EVENT pin. */
 enum { HYSTERESIS = 0x0600, SHUTDOWN = 0x0100, LOCK_04 = 0x0080, LOCK_02_03 = 0x0040 };
@@ -49,7 +51,7 @@ enum { ENABLED = 0x0008, CRITICAL_ALONE = 0x0004, ACTIVE_HIGH = 0x0002, INTERRUP
 enum { ABOVE_CRITICAL = 0x8000, ABOVE_HIGH = 0x4000, BELOW_LOW = 0x2000 };
 
 struct slot {
-    int kind;                     /* 0 absent, 1 memory, 2 memory with sensor */
+    int kind;                     /* 0 absent, 1 memory, 2 with sensor, 3 older */
     int length;                   /* of a write cycle, in ticks; absent: 0 */
     int is_protected[BLOCKS];
     int high_voltage;
@@ -58,7 +60,7 @@ struct slot {
     enum doing doing;
     unsigned char latch[PAGE];    /* bytes waiting for the stop or the cycle */
     int latched[PAGE];            /* which places of the latch hold one */
-    int order;                    /* in ORDERED: the block, or CLEAR_ALL */
+    int order;                    /* in ORDERED: block, CLEAR_ALL or FOR_EVER */
     int taken;                    /* in ORDERED: bytes taken so far */
     int ticks_left;               /* 0: no write cycle */
     int work;                     /* of the running write cycle */
@@ -67,6 +69,8 @@ struct slot {
     int pending;                  /* a change of the high or low flag is */
     int high_byte;                /* in SENSOR_LOW: the byte before */
     int fixed;                    /* in SENSOR_READ: both bytes */
+    int permanent;                /* kind 3: block 0 is protected for ever */
+    int write_protect;            /* kind 3: the pin is on */
 };
 
 static struct slot bus[SLOTS];
@@ -74,8 +78,8 @@ static unsigned char memory[SLOTS * SLOT_BYTES];
 
 /* ---- Fresh state and power cycle ---------------------------------------- */
 
-/* All that setup and a power cycle have in common; protection, high voltage
- * and memory are not touched here. */
+/* All that setup and a power cycle have in common; protection, also for ever,
+ * high voltage, the write-protect pin and memory are not touched here. */
 static void make_fresh(struct slot *s)
 {
     s->doing = IDLE;
@@ -101,11 +105,11 @@ static int setup(const unsigned char pairs[2 * SLOTS])
         int length = pairs[2 * n + 1];
         struct slot *s = &bus[n];
 
-        if (kind > 2)
+        if (kind > 3)
             return 0;
         if (kind != ABSENT && (length < 1 || length > 5))
             return 0;
-        memset(s, 0, sizeof *s);  /* no protection, high voltage off */
+        memset(s, 0, sizeof *s);  /* no protection, voltage and pin off */
         s->kind = kind;
         s->length = kind == ABSENT ? 0 : length;
         make_fresh(s);
@@ -122,7 +126,8 @@ static void begin_cycle(struct slot *s, int work)
     s->ticks_left = s->length;
 }
 
-/* Address = 256 x half + counter, within the slot's 512 bytes. */
+/* Address = 256 x half + counter, within the slot's 512 bytes.  An older
+ * module has the first 256 of them, and half 0 always. */
 static int address(const struct slot *s)
 {
     return 256 * s->half + s->counter;
@@ -143,12 +148,15 @@ static void store_first(int n, int many)
         }
 }
 
-/* The new protection of a protect or clear. */
+/* The new protection of a protect, a clear or a lasting form. */
 static void change_protection(struct slot *s)
 {
     if (s->work == CLEAR_ALL) {
         for (int b = 0; b < BLOCKS; b++)
             s->is_protected[b] = 0;
+    } else if (s->work == FOR_EVER) {
+        s->is_protected[0] = 1;   /* "set if permanent" */
+        s->permanent = 1;
     } else {
         s->is_protected[s->work] = 1;
     }
@@ -252,16 +260,21 @@ static int word_to_read(const struct slot *s)
 
 /* Each returns 1 for an ACK, with what the slot does from then on. */
 
+static int take_order(struct slot *s, int order)
+{
+    s->doing = ORDERED;
+    s->order = order;
+    s->taken = 0;
+    return 1;
+}
+
 static int protect_or_clear(struct slot *s, int order)
 {
     if (!s->high_voltage)
         return 0;
     if (order != CLEAR_ALL && s->is_protected[order])
         return 0;
-    s->doing = ORDERED;
-    s->order = order;
-    s->taken = 0;
-    return 1;
+    return take_order(s, order);
 }
 
 static int select_half(struct slot *s, int half)
@@ -283,8 +296,38 @@ static int read_half(struct slot *s)
     return s->half == 0;
 }
 
-static int command(struct slot *s, int byte)
+/* The 0110 bytes of an older module (request P9): 62h and 66h and their read
+ * forms with high voltage on, its own select and its read form with it off.
+ * Whoever a 62h is meant for, a module with select 1 takes it as its own. */
+static int older_command(int n, int byte)
 {
+    struct slot *s = &bus[n];
+    int own = 0x60 + 2 * n;       /* its select, and a write bit */
+
+    if (s->permanent)
+        return 0;                 /* "every 0110 byte gets NACK" */
+    if (s->high_voltage) {
+        if (byte == 0x62)
+            return protect_or_clear(s, 0);
+        if (byte == 0x66)
+            return protect_or_clear(s, CLEAR_ALL);
+        if (byte == 0x63 || byte == 0x67)
+            return read_protection(s, 0);
+        return 0;                 /* its own select too */
+    }
+    if (byte == own)
+        return take_order(s, FOR_EVER);  /* on a protected block too */
+    if (byte == own + 1)
+        return read_protection(s, 0);
+    return 0;                     /* halves too: it has one */
+}
+
+static int command(int n, int byte)
+{
+    struct slot *s = &bus[n];
+
+    if (s->kind == OLDER)
+        return older_command(n, byte);
     switch (byte) {
     case 0x62: return protect_or_clear(s, 0);
     case 0x68: return protect_or_clear(s, 1);
@@ -324,11 +367,18 @@ static int control_byte(int n, int byte)
         return 1;
     }
     if (family == 0x6)
-        return command(s, byte);
+        return command(n, byte);
     return 0;
 }
 
 /* ---- Memory exchanges --------------------------------------------------- */
+
+/* Whether the write-protect pin of an older module is on (request P9); other
+ * slots have none. */
+static int pin_is_on(const struct slot *s)
+{
+    return s->kind == OLDER && s->write_protect;
+}
 
 static int latch_byte(struct slot *s, int byte)
 {
@@ -337,6 +387,8 @@ static int latch_byte(struct slot *s, int byte)
 
     if (s->is_protected[block])
         return 0;                 /* NACK, deaf, counter still */
+    if (pin_is_on(s))
+        return 0;                 /* the same, in both blocks */
     s->latch[offset] = (unsigned char)byte;
     s->latched[offset] = 1;
     s->counter = s->counter / 16 * 16 + (offset + 1) % 16;
@@ -557,8 +609,8 @@ static void stop(struct slot *s)
 {
     if (s->doing == WRITE_DATA && any_latched(s))
         begin_cycle(s, STORE_PAGE);
-    if (s->doing == ORDERED && s->taken == 2)
-        begin_cycle(s, s->order);
+    if (s->doing == ORDERED && s->taken == 2 && !pin_is_on(s))
+        begin_cycle(s, s->order); /* else "without cycle or effect" */
     s->doing = IDLE;              /* a stop makes it idle */
 }
 
@@ -570,8 +622,15 @@ static void timeout(struct slot *s)
 static void high_voltage(struct slot *s, int on)
 {
     s->high_voltage = on;
-    if (!on && s->doing == ORDERED)
+    if (!on && s->doing == ORDERED && s->order != FOR_EVER)
         s->doing = DEAF;          /* going off before the stop cancels */
+}
+
+/* It is asked at each data byte, and at the stop of a command; a write whose
+ * bytes were acknowledged and a running cycle are not touched. */
+static void write_protect(struct slot *s, int on)
+{
+    s->write_protect = on;
 }
 
 /* ---- Refusal numbers ---------------------------------------------------- */
@@ -579,11 +638,13 @@ static void high_voltage(struct slot *s, int on)
 /* 0 if the event is not refused.  1, 5 and 6 cannot come up in a script. */
 static int refusal(int kind, int slot, int value)
 {
-    if (kind < 1 || kind > 9)
+    if (kind < 1 || kind > 10)
         return 2;
     if (kind == 7 && (slot > 7 || bus[slot].kind == ABSENT))
         return 3;
     if (kind == 9 && (slot > 7 || bus[slot].kind != MEMORY_WITH_SENSOR))
+        return 3;
+    if (kind == 10 && (slot > 7 || bus[slot].kind != OLDER))
         return 3;
     if (kind == 2 && (value < 0 || value > 255))
         return 4;
@@ -594,6 +655,8 @@ static int refusal(int kind, int slot, int value)
     if (kind == 8 && (value < 0 || value > 16))
         return 4;                 /* whether or not a cycle runs */
     if (kind == 9 && (value < -640 || value > 2000))
+        return 4;
+    if (kind == 10 && (value < 0 || value > 1))
         return 4;
     return 0;
 }
@@ -651,6 +714,7 @@ static void event(int kind, int slot, int value)
         case 7: if (n == slot) high_voltage(s, value); break;
         case 8: power_cycle(n, value); break;
         case 9: if (n == slot) temperature(s, value); break;
+        case 10: if (n == slot) write_protect(s, value); break;
         }
     }
     if (kind == 2) {

@@ -230,7 +230,7 @@ static int simplify(void)
 
 static void say_setup(void)
 {
-    static const char *const kinds[] = { "absent", "memory", "memory with sensor" };
+    static const char *const kinds[] = { "absent", "memory", "memory with sensor", "older memory" };
     int said = 0;
 
     if (now.setup_length < 16) {
@@ -242,7 +242,7 @@ static void say_setup(void)
         if (kind == 0 && length == 0)
             continue;
         said++;
-        if (kind <= 2)
+        if (kind <= 3)
             printf("setup slot %d: %s, length %d\n", n, kinds[kind], length);
         else
             printf("setup slot %d: kind %d, length %d\n", n, kind, length);
@@ -253,16 +253,16 @@ static void say_setup(void)
 static void words(char text[80], const unsigned char r[4])
 {
     static const char *const plain[] = { "", "start", "byte", "read", "stop",
-        "timeout", "tick", "voltage", "power cycle", "temperature" };
+        "timeout", "tick", "voltage", "power cycle", "temperature", "write-protect" };
     int kind = r[0], slot = r[1];
     int value = 256 * r[2] + r[3] - (r[2] >= 128 ? 65536 : 0);
     int on_off = value == 0 || value == 1;
 
-    if (kind < 1 || kind > 9)
+    if (kind < 1 || kind > 10)
         sprintf(text, "kind %d slot %d value %d", kind, slot, value);
-    else if (kind == 7 && on_off)
-        sprintf(text, "voltage slot %d %s", slot, value ? "on" : "off");
-    else if (kind == 7 || kind == 9)
+    else if ((kind == 7 || kind == 10) && on_off)
+        sprintf(text, "%s slot %d %s", plain[kind], slot, value ? "on" : "off");
+    else if (kind == 7 || kind == 9 || kind == 10)
         sprintf(text, "%s slot %d %d", plain[kind], slot, value);
     else if (kind == 2 && slot == 0 && value >= 0 && value < 256)
         sprintf(text, "byte %02Xh", value);

@@ -1,15 +1,16 @@
 /*
  * The numbers of a slot, by their names and in the order of its line, as `watch`
- * tells them: 57, and of a slot with a sensor the three of its pin behind them.
- * Taken from the second opinion's own fields.  Included by rewatch.c and
- * watcher.c.  The file planted.txt replaces single lines of it: keep the two in
- * step.
+ * tells them: 57, and behind them of a slot with a sensor the three of its pin,
+ * of an older module its own three (request P9).  Taken from the second opinion's
+ * own fields.  Included by rewatch.c and watcher.c.  The file planted.txt replaces
+ * single lines of it: keep the two in step.
  *
  * Of most of them the second opinion has a field.  It has none of these, and
  * they follow from what it has:
  *
- *   phase       from `doing`, and in a protect or clear from `taken`.  Where it
- *               still remembers why a slot is deaf (SENSOR_FULL), it is deaf.
+ *   phase       from `doing`, and in a protect, clear or lasting form from
+ *               `taken`.  Where it still remembers why a slot is deaf
+ *               (SENSOR_FULL), it is deaf.
  *   place       the counter's offset while data bytes are taken, else 0
  *   coming      the protection, with what an order or a running cycle brings
  *   mark        `latched` while data bytes are taken and while their cycle runs;
@@ -21,6 +22,7 @@
  *               their phases, else 0 (docs/DECISIONS.md, 8)
  *   level       high or low by bit 1 of the configuration, and the other where
  *               the pin is not asserted (request P8)
+ *   lasting     1 while a lasting form is given or worked off, else 0
  */
 #ifndef NUMBERS_H
 #define NUMBERS_H
@@ -35,6 +37,7 @@ enum {
     AT_POINTER = AT_MARK + PAGE,
     AT_CONFIGURATION, AT_HIGH, AT_LOW, AT_CRITICAL, AT_TEMPERATURE, AT_RESOLUTION, AT_TIMEOUT, AT_WORD,
     AT_ASSERTED, AT_LEVEL, AT_PENDING,  /* of a sensor alone */
+    AT_PERMANENT, AT_LASTING, AT_WRITE_PROTECT,  /* of an older module alone */
     NUMBERS
 };
 
@@ -46,11 +49,16 @@ static const char *const name_of[NUMBERS] = {
     "mark0", "mark1", "mark2", "mark3", "mark4", "mark5", "mark6", "mark7",
     "mark8", "mark9", "mark10", "mark11", "mark12", "mark13", "mark14", "mark15",
     "pointer", "configuration", "high", "low", "critical", "temperature", "resolution", "timeout", "word",
-    "asserted", "level", "pending",
+    "asserted", "level", "pending", "permanent", "lasting", "write-protect",
 };
 
-/* How many of them a slot of this kind has. */
-static int numbers_in(int kind) { return kind == MEMORY_WITH_SENSOR ? NUMBERS : AT_ASSERTED; }
+/* Whether a slot of this kind has it. */
+static int has_number(long kind, int at)
+{
+    if (at >= AT_PERMANENT)
+        return kind == OLDER;
+    return at < AT_ASSERTED || kind == MEMORY_WITH_SENSOR;
+}
 
 static int phase_of(const struct slot *s)
 {
@@ -83,6 +91,8 @@ static int coming_of(const struct slot *s, int block)
 {
     int order = order_of(s);
 
+    if (order == FOR_EVER)
+        order = 0;                /* it protects block 0 */
     return order == CLEAR_ALL ? 0 : order == block ? 1 : s->is_protected[block];
 }
 
@@ -136,11 +146,16 @@ static void numbers_of(const struct slot *s, long to[NUMBERS])
     to[AT_WORD] = word_of(s);
     for (int i = AT_ASSERTED; i < NUMBERS; i++)
         to[i] = 0;
-    if (s->kind != MEMORY_WITH_SENSOR)
-        return;
-    to[AT_ASSERTED] = is_asserted(s);
-    to[AT_LEVEL] = level_of(s);
-    to[AT_PENDING] = s->pending;
+    if (s->kind == MEMORY_WITH_SENSOR) {
+        to[AT_ASSERTED] = is_asserted(s);
+        to[AT_LEVEL] = level_of(s);
+        to[AT_PENDING] = s->pending;
+    }
+    if (s->kind == OLDER) {
+        to[AT_PERMANENT] = s->permanent;
+        to[AT_LASTING] = order_of(s) == FOR_EVER;
+        to[AT_WRITE_PROTECT] = s->write_protect;
+    }
 }
 
 #endif

@@ -7,8 +7,8 @@
  *       Each of the scripts DIR/1.script to DIR/COUNT.script is given to the
  *       command line WATCH as it is, with other slots, and cut or with a bad
  *       setup; some in a talk, one record at a time, where the lines of a record
- *       must have come before the next is given.  Then a small script, cut at
- *       every length.
+ *       must have come before the next is given.  Also a small script, cut at
+ *       every length, and all that happens to an older module.
  *
  * What is read: the script's lines, and between them lines of slots.  Those of a
  * record are in ascending order, of present slots, each with all names of its
@@ -36,18 +36,24 @@ static long scripts, events, lines;
 static int within_bits(long value, long bits) { return (value & ~bits) == 0; }
 static int within_ends(long value, long least, long most) { return least <= value && value <= most; }
 
+/* What an older module does not have is 0: another half, other blocks. */
+static int is_none(int at, int kind) { return kind == OLDER && (at == AT_HALF || within_ends(at, AT_PROTECTION + 1, AT_COMING - 1)); }
+
 /* Of a present slot; `slot_length` is its write cycle's. */
-static int is_in_range(int at, long value, long slot_length)
+static int is_in_range(int at, long value, int kind, long slot_length)
 {
+    if (is_none(at, kind))
+        return value == 0;
     if (within_ends(at, AT_PROTECTION, AT_LATCH - 1) || within_ends(at, AT_MARK, AT_POINTER - 1))
         return within_ends(value, 0, 1);
     if (within_ends(at, AT_LATCH, AT_MARK - 1))
         return within_ends(value, 0, 255);
     switch (at) {
-    case AT_KIND: return within_ends(value, MEMORY, MEMORY_WITH_SENSOR);
+    case AT_KIND: return within_ends(value, MEMORY, OLDER);
     case AT_LENGTH: return within_ends(value, 1, 5);
     case AT_LEFT: return within_ends(value, 0, slot_length);
     case AT_HALF: case AT_VOLTAGE: case AT_ASSERTED: case AT_LEVEL: case AT_PENDING: return within_ends(value, 0, 1);
+    case AT_PERMANENT: case AT_LASTING: case AT_WRITE_PROTECT: return within_ends(value, 0, 1);
     case AT_COUNTER: return within_ends(value, 0, 255);
     case AT_PLACE: return within_ends(value, 0, 15);
     case AT_PHASE: return within_ends(value, 0, 14);
@@ -116,11 +122,13 @@ static long read_number(int n, const char *name)
 static void read_numbers(int n, long to[NUMBERS])
 {
     memset(to, 0, NUMBERS * sizeof to[0]);
-    for (int i = 0; i < numbers_in(bus[n].kind); i++) {
+    for (int i = 0; i < NUMBERS; i++) {
+        if (!has_number(bus[n].kind, i))
+            continue;
         if (!comes(" ") || !comes(name_of[i]) || !comes("="))
             WRONG("%s, slot %d: \"%s=\" was to come, not \"%.*s\"", where, n, name_of[i], rest_of_line(), at);
         to[i] = read_number(n, name_of[i]);
-        if (!is_in_range(i, to[i], to[AT_LENGTH]))
+        if (!is_in_range(i, to[i], bus[n].kind, to[AT_LENGTH]))
             WRONG("%s, slot %d: %s is out of its range: %ld", where, n, name_of[i], to[i]);
     }
     if (!comes("\n"))
@@ -232,8 +240,9 @@ static size_t bytes_of_changes(long before[SLOTS][NUMBERS])
             continue;
         memcpy(before[n], is, sizeof is);
         many += strlen("0\n");
-        for (int i = 0; i < numbers_in(bus[n].kind); i++)
-            many += (size_t)snprintf(NULL, 0, " %s=%ld", name_of[i], is[i]);
+        for (int i = 0; i < NUMBERS; i++)
+            if (has_number(bus[n].kind, i))
+                many += (size_t)snprintf(NULL, 0, " %s=%ld", name_of[i], is[i]);
     }
     return many;
 }
@@ -291,10 +300,10 @@ static void put_up(const unsigned char *script, size_t many)
 /* Slots of other kinds and lengths, all mixes alike, or all of one kind. */
 static void mix_slots(void)
 {
-    int all = one_in(8) ? below(3) : -1;
+    int all = one_in(8) ? below(4) : -1;
 
     for (int n = 0; n < SLOTS && length >= SETUP; n++) {
-        input[2 * n] = (unsigned char)(all >= 0 ? all : below(3));
+        input[2 * n] = (unsigned char)(all >= 0 ? all : below(4));
         input[2 * n + 1] = (unsigned char)between(1, 5);
     }
     ADD_WHAT(", other slots");
@@ -344,7 +353,7 @@ static void one_script(void)
 static void small_scripts(void)
 {
     static const unsigned char script[SETUP + 14] = {
-        1, 1, 0, 0, 0, 0, 2, 5, 0, 0, 0, 0, 0, 0, 2, 1, START, 0, 0, 0, BYTE, 0, 0, 0xA6, STOP, 0, 0, 0, TICK, 0 };
+        1, 1, 0, 0, 3, 2, 2, 5, 0, 0, 0, 0, 0, 0, 2, 1, START, 0, 0, 0, BYTE, 0, 0, 0xA6, STOP, 0, 0, 0, TICK, 0 };
 
     number = 0;                   /* no run any more */
     for (size_t many = 0; many <= sizeof script; many++) {
@@ -354,8 +363,75 @@ static void small_scripts(void)
     put_up(script, sizeof script);
     try_input(AS_TALK);
     put_up(script, sizeof script);
-    input[0] = 3;
+    input[0] = 4;
     try_input(AS_TALK);
+}
+
+/* ---- An older module ---------------------------------------------------------- */
+
+static void add(int kind, int slot, int value)
+{
+    const unsigned char record[4] = { (unsigned char)kind, (unsigned char)slot, 0, (unsigned char)value };
+
+    memcpy(input + length, record, 4);
+    length += 4;
+}
+
+/* What happens to it: s start, p stop, o timeout, t tick, v and u high voltage on
+ * and off, e and d its write-protect pin on and off, r a read, c and x power cycles
+ * with the numbers 0 and 1; l is its own select in a lasting form, w and m are the
+ * control bytes of a memory write and read, and other bytes are in hex. */
+static void add_happening(const char *letters, int n)
+{
+    for (; *letters != 0; letters++)
+        switch (*letters) {
+        case 's': add(START, 0, 0); break;
+        case 'p': add(STOP, 0, 0); break;
+        case 'o': add(TIMEOUT, 0, 0); break;
+        case 't': add(TICK, 0, 0); break;
+        case 'v': add(VOLTAGE, n, 1); break;
+        case 'u': add(VOLTAGE, n, 0); break;
+        case 'e': add(WRITE_PROTECT, n, 1); break;
+        case 'd': add(WRITE_PROTECT, n, 0); break;
+        case 'r': add(READ, 0, 1); break;
+        case 'c': add(POWER, 0, 0); break;
+        case 'x': add(POWER, 0, 1); break;
+        case 'l': add(BYTE, 0, 0x60 + 2 * n); break;
+        case 'w': add(BYTE, 0, 0xA0 + 2 * n); break;
+        case 'm': add(BYTE, 0, 0xA1 + 2 * n); break;
+        default:
+            add(BYTE, 0, (int)strtol((const char[]){ letters[0], letters[1], 0 }, NULL, 16));
+            letters++;
+            break;
+        }
+}
+
+/* The pin, with and without an exchange; lasting forms that are cancelled in every
+ * way, and a page's cycle behind one; protect and clear; and one that lasts, by the
+ * tick or by the power cycle that ends it. */
+static void older_scripts(void)
+{
+    static const char *const happenings[] = {
+        "eedesddp", "esw005Apdsw005A5Ae5Ap", "sw7F5Aepttsmrrp", "sw00p",
+        "sl0000s", "sl0000rp", "sl0000o", "sl000000p", "sl00p", "sl0000epdt", "sl00e00dptcsmp", "sl0000vus62p",
+        "sl0000ps", "sl0000pcsl0000oswF05Aptt", "s6Ep", "s6Cp", "sl", "vs620000ups", "vs620000ptt", "s63p", "usl0000rp",
+        "vs660000ept", "ds660000petd", "vs62p", "vs620000pxusl00op", "vslp" };
+    static const char *const ends[] = { "usl0000ptet", "usl0000vpetts62ps66pudslp", "usl0000pxsw005Ap", "vs620000pttusl0000ptt" };
+
+    for (int i = 0; i < 2 * 4; i++) {
+        int n = below(SLOTS);
+
+        for (int k = 0; k < SLOTS; k++) {
+            input[2 * k] = (unsigned char)(k == n ? OLDER : i < 4 ? ABSENT : between(ABSENT, OLDER));
+            input[2 * k + 1] = 2;
+        }
+        length = SETUP;
+        for (int k = 0; k < (int)(sizeof happenings / sizeof happenings[0]); k++)
+            add_happening(happenings[k], n);
+        add_happening(ends[i % 4], n);
+        SAY_WHAT("all that happens to an older module in slot %d", n);
+        try_input(some_way());
+    }
 }
 
 /* ---- All of it --------------------------------------------------------------- */
@@ -375,6 +451,8 @@ int main(int count, char **words)
     watcher = words[4];
     signal(SIGPIPE, SIG_IGN);     /* a program that ends early */
     small_scripts();
+    seed_with(seed);
+    older_scripts();
     for (number = 1; number <= runs; number++) {
         seed_with(seed + (unsigned)number);
         one_script();

@@ -18,8 +18,9 @@ static int last_line(const char *line)
 static void show_slot(int n, const long is[NUMBERS])
 {
     printf("%d", n);
-    for (int i = 0; i < numbers_in(is[AT_KIND]); i++)
-        printf(" %s=%ld", name_of[i], is[i]);
+    for (int i = 0; i < NUMBERS; i++)
+        if (has_number(is[AT_KIND], i))
+            printf(" %s=%ld", name_of[i], is[i]);
     putchar('\n');
 }
 

@@ -42,7 +42,11 @@ fn older_in_range(s: Slot) -> bool
 {
     let protection = s.protection;
     (s.kind != 3)
-        | (s.half == 0) & !protection[1] & !protection[2] & !protection[3] & (!s.old.permanent | protection[0])
+        | (s.half == 0)
+            & !protection[1]
+            & !protection[2]
+            & !protection[3]
+            & (!s.old.permanent | protection[0])
 }
 
 // Every number of the slot is in its range.

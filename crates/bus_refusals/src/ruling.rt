@@ -33,8 +33,8 @@ pub fn kind_at(slots: [Slot; 8], n: SlotNo) -> u8
     kind
 }
 
-// Row 3, by the kind of the slot that the event names: a voltage for one that is not there, a temperature for one without a sensor, or a write-protect
-// pin of one that is no older module.
+// Row 3, by the kind of the slot that the event names: a voltage for one that is not there, a temperature for one without a sensor, or a
+// write-protect pin of one that is no older module.
 fn wrong_slot(kind: u8, e: Event) -> bool
     ensures { λ r. ⌜ r ≡ wrongSlot kind e ⌝ }
 {

@@ -72,7 +72,12 @@ fn brought(s: Slot) -> [bool; 4]
 {
     let coming = s.coming;
     if s.kind == 3 {
-        return [coming[0] | (s.old.permanent | s.old.lasting), false, false, false];
+        return [
+            coming[0] | (s.old.permanent | s.old.lasting),
+            false,
+            false,
+            false,
+        ];
     }
     coming
 }

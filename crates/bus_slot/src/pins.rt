@@ -8,8 +8,8 @@ use super::phase;
 use rules::Applied;
 use rules::Slot;
 
-// High voltage on or off: a protect or clear that its stop has not begun is cancelled when it goes off. An older module's lasting form is not: it asks
-// for the voltage at the control byte alone.
+// High voltage on or off: a protect or clear that its stop has not begun is cancelled when it goes off. An older module's lasting form is not: it
+// asks for the voltage at the control byte alone.
 fn switched(on: bool, s: Slot) -> Slot
     ensures { λ r. ⌜ r ≡ switched on s ⌝ }
 {

@@ -68,6 +68,36 @@ pub verdicts : map (λ (c : List ℕ × Verdict). verdictOf setup memory (c .0))
 unfolding open-capture
 verdicts = refl
 
+-- P9: an older module of length 1 in slot 3. Data bytes get NACK while its write-protect pin is on. Its voltage is off, so 66h is its lasting form, after
+-- whose cycle every 0110 byte gets NACK, and which has none with the pin on at the stop; 62h it does not hear. Slot 2 has no such pin.
+abbrev olderSetup : List Pair
+olderSetup = set setup 3 (record { kind = 3; length = 1 })
+
+abbrev pin : ℕ → ℕ → List ℕ
+pin slot on = 10 ∷ slot ∷ 0 ∷ on ∷ 0 ∷ 0 ∷ []
+
+abbrev byte : ℕ → ℕ → List ℕ
+byte b code = 2 ∷ 0 ∷ 0 ∷ b ∷ code ∷ 0 ∷ []
+
+abbrev stopped : List ℕ
+stopped = (4 ∷ 0 ∷ 0 ∷ 0 ∷ 0 ∷ 0 ∷ []) ++ (6 ∷ 0 ∷ 0 ∷ 0 ∷ 0 ∷ 0 ∷ [])
+
+abbrev lasting : List ℕ
+lasting = start ++ byte 0x66 1 ++ byte 0 1 ++ byte 0 1 ++ stopped
+
+abbrev olderTable : List (List ℕ × Verdict)
+olderTable =
+    (pin 3 1 ++ start ++ byte 0xA6 1 ++ byte 0 1 ++ byte 7 2 ++ pin 3 0 ++ start ++ byte 0xA6 1 ++ byte 0 1 ++ byte 7 1, Accepted)
+    ∷ (lasting ++ start ++ byte 0x66 2, Accepted)
+    ∷ (pin 3 1 ++ lasting ++ start ++ byte 0x66 2, Differs 8 answer.Ack (seen 2 0))
+    ∷ (start ++ byte 0x62 1, Differs 1 answer.Nack (seen 1 0))
+    ∷ (pin 2 1, Differs 0 (answer.Refused WrongSlot) (seen 0 0))
+    ∷ []
+
+pub older-verdicts : map (λ (c : List ℕ × Verdict). verdictOf olderSetup memory (c .0)) olderTable ≡ map (λ (c : List ℕ × Verdict). c .1) olderTable
+unfolding open-capture
+older-verdicts = refl
+
 -- before any record: memory of another length, then a bad pair, in the last slot
 abbrev bad : List Pair
 bad = replicate 7 (record { kind = 0; length = 0 }) ++ record { kind = 1; length = 6 } ∷ []

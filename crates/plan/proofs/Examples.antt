@@ -15,6 +15,10 @@ use Rattle.plan.specs.Asked.{planText, lastText, askedBench, answerTo, w
 abbrev setup : List ℕ
 setup = replicate 6 0 ++ 1 ∷ 2 ∷ replicate 8 0
 
+-- and the same with an older module in slot 6
+abbrev older : List ℕ
+older = replicate 6 0 ++ 1 ∷ 2 ∷ replicate 4 0 ++ 3 ∷ 5 ∷ replicate 2 0
+
 abbrev memory : List ℕ
 memory = replicate 1536 0x44 ++ replicate 512 0x33 ++ replicate 2048 0x44
 
@@ -32,6 +36,9 @@ table =
     (setup ++ memory ++ 3 ∷ replicate 512 0x33, "5\n06000000\n06000000\n06000000\n06000000\n06000000\n")
     ∷ (setup ++ memory ++ 3 ∷ image ++ half, "27\n06000000\n06000000\n06000000\n06000000\n06000000\n01000000\n020000A6\n020000F0\n020000AB\n020000AB\n020000AB\n020000AB\n020000AB\n020000AB\n020000AB\n020000AB\n020000AB\n020000AB\n020000AB\n020000AB\n020000AB\n020000AB\n020000AB\n020000CD\n04000000\n06000000\n06000000\n")
     ∷ (setup ++ memory ++ 2 ∷ image, "R3\n")
+    -- P9: "3 is given [..] by P1 for a kind 3 slot"; beside one a plan is what it was
+    ∷ (older ++ memory ++ 6 ∷ image, "R3\n")
+    ∷ (older ++ memory ++ 3 ∷ replicate 512 0x33, "5\n06000000\n06000000\n06000000\n06000000\n06000000\n")
     -- "`short` alone where the input ends before the image does" or "inside a record"; "`short` comes before `R3` and `R7`"
     ∷ (setup ++ memory ++ 2 ∷ take 511 image, "short\n")
     ∷ (setup ++ memory ++ 2 ∷ image ++ take 3 half, "short\n")

@@ -1,7 +1,7 @@
 -- The definitions in the form in which a function's proof asks for them: a premise for each fact of the way to a return.
 -- Assumes nothing.
 use mathlib.Core.Path.{_≡_, sym, _∙_, ap, ap₂}
-use mathlib.Core.Bool.{Bool, true, false, not}
+use mathlib.Core.Bool.{Bool, true, false, not, _||_}
 use mathlib.Core.List.{List, map}
 use Prim.Native.Nat.{ℕ, _*_, _<_, _≤_}
 use native.Mathlib.Omega.{arith}
@@ -29,7 +29,7 @@ use Rattle.plan_rules.proofs.Given.{right-lengths, slot-there}
 use Rattle.plan_rules.proofs.Settled.{settled-slot, settled-part}
 use Rattle.plan_pages.specs.Alone.{aloneOf}
 
--- row 3: a number above 7, and a slot by its own kind; and what its types say of it
+-- row 3: a number above 7, and a slot by its own kind, 0 or 3; and what its types say of it
 pub missing-above : (k : SlotNo) (b : Bus) → 7 < k .0 → true ≡ noSuchSlot k b
 unfolding noSuchSlot
 missing-above k b h = rw (lt-ltb 7 (k .0) h)
@@ -38,16 +38,19 @@ module _ (k : SlotNo) (b : Bus) (d : Slot) (below : k .0 ≤ 7) (eight : length 
   same-slot : getD (b .slots) (k .0) d ≡ getD (b .slots) (k .0) absentSlot
   same-slot = getD-any (b .slots) (k .0) d absentSlot (omega arith)
 
-  missing-kind : eqb ((getD (b .slots) (k .0) d) .kind) 0 ≡ noSuchSlot k b
+  abbrev unplanned : ℕ → Bool
+  unplanned kind = eqb kind 0 || eqb kind 3
+
+  missing-kind : unplanned ((getD (b .slots) (k .0) d) .kind) ≡ noSuchSlot k b
   unfolding noSuchSlot kindAt kindsOf absentSlot freshSlot
   missing-kind =
       let e : getD (map (λ (s : Slot). s .kind) (b .slots)) (k .0) 0 ≡ (getD (b .slots) (k .0) absentSlot) .kind = List·getD-map (λ (s : Slot). s .kind) (b .slots) (k .0) absentSlot in
-      rw (le-ltb 7 (k .0) below, e) (ap (λ (s : Slot). eqb (s .kind) 0) same-slot)
+      rw (le-ltb 7 (k .0) below, e) (ap (λ (s : Slot). unplanned (s .kind)) same-slot)
 
   pub by-kind : (v : ℕ) → (v ≡ (getD (b .slots) (k .0) d) .kind) × (length ((getD (b .slots) (k .0) d) .latch) ≡ 16) × (length ((getD (b .slots) (k .0) d) .marks) ≡ 16)
-      → (eqb v 0 ≡ noSuchSlot k b) × (eqb v 0 ≡ false → SlotTyped b k)
+      → (unplanned v ≡ noSuchSlot k b) × (unplanned v ≡ false → SlotTyped b k)
   by-kind v h = (
-    ap (λ (n : ℕ). eqb n 0) (h .0) ∙ missing-kind,
+    ap unplanned (h .0) ∙ missing-kind,
     λ e. record {
       slots = eight;
       latch = sym (ap (λ (s : Slot). length (s .latch)) same-slot) ∙ h .1;

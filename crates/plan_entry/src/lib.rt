@@ -28,7 +28,8 @@ fn kind_of(s: Slot) -> u8
     s.kind
 }
 
-// Row 3: there is no such slot. Where there is, what the types say is passed on: the bus has eight slots, and this one a latch and marks of sixteen.
+// Row 3: a slot absent or above 7, or of kind 3. Where it is none of these, what the types say is passed on: the bus has eight slots, and this one a
+// latch and marks of sixteen.
 fn no_such_slot(k: SlotNo, slots: [Slot; 8]) -> bool
     ensures { λ r. ⌜ r ≡ noSuchSlot k (record { slots = slots }) ⌝ }
     ensures { λ r. ⌜ (r ≡ false → SlotTyped (record { slots = slots }) k) ⌝ }
@@ -39,7 +40,7 @@ fn no_such_slot(k: SlotNo, slots: [Slot; 8]) -> bool
     let at = k.0 as usize;
     let s = slots[at];
     let kind = kind_of(s);
-    kind == 0
+    (kind == 0) | (kind == 3)
 }
 
 // A plan for a slot: script records at the front of the buffer, and their number; what stands behind them stays. Whatever is handed in is planned

@@ -13,7 +13,7 @@ use Rattle.proof_lists.specs.Tests.{by-test, or-left-false, or-right-false}
 use Rattle.rules.specs.declared.Act.{Act}
 use Rattle.rules.specs.declared.Event.{Event}
 use Rattle.rules.specs.declared.Slot.{Slot}
-use Rattle.rules.specs.Modelled.{absent, slotCount, slotBytes, memoryBytes}
+use Rattle.rules.specs.Modelled.{absent, older, slotCount, slotBytes, memoryBytes}
 use Rattle.rules.specs.Fresh.{absentSlot}
 use Rattle.rules.specs.Control.{protects}
 use Rattle.rules.specs.Refusals.{kindsOf, inRange}
@@ -33,14 +33,15 @@ use Rattle.plan_rules.proofs.Pages.{bytesBefore}
 use Rattle.plan_rules.proofs.Steps.{actsBefore, own-run, other-run}
 use Rattle.plan_rules.proofs.Acted.{Acted, acted-due, acted-after, pages-acted, all-heard}
 
--- what is asked of a plan: any bench in range with its memory and its slots, a present slot of it with its arrays, 512 bytes, and no page that differs in a
--- protected block
+-- what is asked of a plan: any bench in range with its memory and its slots, a present slot of it, no older module, with its arrays, 512 bytes, and no page
+-- that differs in a protected block
 pub record Asked (k : ℕ) (x : Bench) (image : List ℕ) : Type 0 where
   pub long : length (x .memory) ≡ memoryBytes
   pub ranged : inRange (x .bus) ≡ true
   pub number : length (x .bus .slots) ≡ slotCount
   pub below : k < slotCount
   pub present : absent (slotAt k x) ≡ false
+  pub newer : older (slotAt k x) ≡ false
   pub arrays : Sixteen (slotAt k x)
   pub wanted : length image ≡ slotBytes
   pub bytes : Every (λ b. b ≤ 255) image
@@ -83,8 +84,12 @@ module _ (k : ℕ) (x : Bench) (image : List ℕ) (asked : Asked k x image) wher
   unfolding absent
   now-present = rw (settled-kind x (asked .long) (asked .ranged) k (there k (asked .below))) (unfold absent in asked .present)
 
+  now-newer : older now ≡ false
+  unfolding older
+  now-newer = rw (settled-kind x (asked .long) (asked .ranged) k (there k (asked .below))) (unfold older in asked .newer)
+
   base : (b : ℕ) → getD (now .protection) b false ≡ false → FreeIn (now .half) b now
-  unfolding absent
+  unfolding absent older
   base b e =
       let t = there k (asked .below) in
       let l = length-range (slotAt k x) (slot-ranged x (asked .long) (asked .ranged) k t) (asked .present) in
@@ -92,6 +97,7 @@ module _ (k : ℕ) (x : Bench) (image : List ℕ) (asked : Asked k x image) wher
       let a = settled-sixteen x (asked .long) (asked .ranged) k t (asked .arrays) in
       record {
         present = now-present;
+        newer = now-newer;
         no-ticks = settled-left x (asked .long) (asked .ranged) k t;
         lasts = λ z. omega (arith, l, n, z);
         half = refl;
@@ -149,10 +155,10 @@ module _ (k : ℕ) (x : Bench) (image : List ℕ) (asked : Asked k x image) wher
       unfolding slotAt bytesAt
       one-part = ap (bytesAt i) went-there ∙ part-went absentSlot i (acts p) (settled x) (settled-there i l)
 
-      passed : absent (slotAt i (settled x)) ≡ false → Passed i (acts p) (slotAt i (settled x)) (bytesAt i (settled x)) (otherBefore old image now (slotAt i (settled x)) p)
-      passed a = other-run old image now (slotAt i (settled x)) a (settled-left x (asked .long) (asked .ranged) i (there i l)) k (asked .below) i other p (bytesAt i (settled x)) h
+      passed : absent (slotAt i (settled x)) ≡ false → Passed i (acts p) (slotAt i (settled x)) (bytesAt i (settled x)) (otherBefore old image now i (slotAt i (settled x)) p)
+      passed a = other-run old image now i (slotAt i (settled x)) a (settled-left x (asked .long) (asked .ranged) i (there i l)) k (asked .below) other p (bytesAt i (settled x)) h
 
-      pub other-slot : absent (slotAt i (settled x)) ≡ false → slotAt i bench ≡ otherBefore old image now (slotAt i (settled x)) p
+      pub other-slot : absent (slotAt i (settled x)) ≡ false → slotAt i bench ≡ otherBefore old image now i (slotAt i (settled x)) p
       other-slot a = one-slot ∙ passed a .slot
 
       pub absent-slot : absent (slotAt i (settled x)) ≡ true → slotAt i bench ≡ slotAt i (settled x)

@@ -2,7 +2,7 @@
 -- Assumes nothing.
 use Prim.Native.Nat.{ℕ, _<_}
 use native.Mathlib.Omega.{arith}
-use mathlib.Core.Path.{_≡_}
+use mathlib.Core.Path.{_≡_, sym}
 use mathlib.Core.Bool.{Bool, false, not, _||_}
 use mathlib.Core.List.{List}
 use lib.Dec.{eqb, ltb}
@@ -12,7 +12,7 @@ use Rattle.proof_lists.specs.Tests.{or-left-false, or-right-false}
 use Rattle.rules.specs.declared.Bus.{Bus}
 use Rattle.rules.specs.declared.Slot.{Slot}
 use Rattle.rules.specs.declared.SlotNo.{SlotNo}
-use Rattle.rules.specs.Modelled.{absent, slotCount, slotBytes, memoryBytes}
+use Rattle.rules.specs.Modelled.{absent, older, slotCount, slotBytes, memoryBytes}
 use Rattle.rules.specs.Fresh.{freshSlot, absentSlot}
 use Rattle.rules.specs.Refusals.{wrongLength, kindsOf, kindAt}
 use Rattle.rules.proofs.Document.Looking.{kind-there}
@@ -30,15 +30,37 @@ right-lengths m image buffer h =
       eqb-true _ _ (not-false _ (or-right-false (first || second) third h)),
     )
 
--- the slot: its number, its place, and that it is not absent
-pub slot-below : (k : SlotNo) (b : Bus) → noSuchSlot k b ≡ false → k .0 < slotCount
-unfolding noSuchSlot
-slot-below k b h = omega (arith, ltb-false 7 (k .0) (or-left-false (ltb 7 (k .0)) _ h))
+-- the slot: its number, its place, and that it is not absent; P9: and no older module
+module _ (k : SlotNo) (b : Bus) (h : noSuchSlot k b ≡ false) where
+  abbrev kind : ℕ
+  kind = kindAt (kindsOf b) k
 
-pub slot-there : (k : SlotNo) (b : Bus) → noSuchSlot k b ≡ false → k .0 < length (b .slots)
-unfolding noSuchSlot
-slot-there k b h = kind-there k b (eqb-false (kindAt (kindsOf b) k) 0 (or-right-false (ltb 7 (k .0)) _ h))
+  numbered : ltb 7 (k .0) || eqb kind 0 ≡ false
+  unfolding noSuchSlot
+  numbered = or-left-false (ltb 7 (k .0) || eqb kind 0) (eqb kind 3) h
 
-pub slot-present : (b : Bus) (m : List ℕ) (k : SlotNo) → noSuchSlot k b ≡ false → absent (slotAt (k .0) (record { bus = b; memory = m })) ≡ false
-unfolding noSuchSlot kindAt kindsOf slotAt absent absentSlot freshSlot
-slot-present b m k h = rw (← List·getD-map (λ (s : Slot). s .kind) (b .slots) (k .0) absentSlot) (or-right-false (ltb 7 (k .0)) (eqb (kindAt (kindsOf b) k) 0) h)
+  not-absent : eqb kind 0 ≡ false
+  not-absent = or-right-false (ltb 7 (k .0)) (eqb kind 0) numbered
+
+  not-older : eqb kind 3 ≡ false
+  unfolding noSuchSlot
+  not-older = or-right-false (ltb 7 (k .0) || eqb kind 0) (eqb kind 3) h
+
+  pub slot-below : k .0 < slotCount
+  slot-below = omega (arith, ltb-false 7 (k .0) (or-left-false (ltb 7 (k .0)) (eqb kind 0) numbered))
+
+  pub slot-there : k .0 < length (b .slots)
+  slot-there = kind-there k b (eqb-false kind 0 not-absent)
+
+  module _ (m : List ℕ) where
+    same-kind : (slotAt (k .0) (record { bus = b; memory = m })) .kind ≡ kind
+    unfolding kindAt kindsOf slotAt absentSlot freshSlot
+    same-kind = sym (List·getD-map (λ (s : Slot). s .kind) (b .slots) (k .0) absentSlot)
+
+    pub slot-present : absent (slotAt (k .0) (record { bus = b; memory = m })) ≡ false
+    unfolding absent
+    slot-present = rw same-kind not-absent
+
+    pub slot-newer : older (slotAt (k .0) (record { bus = b; memory = m })) ≡ false
+    unfolding older
+    slot-newer = rw same-kind not-older

@@ -2,13 +2,15 @@ pub mod Settled
 pub mod LetGo
 pub mod Ran
 pub mod Page
-pub mod Half
 pub mod Others
+pub mod Half
+pub mod Felt
 pub mod Pages
 pub mod Steps
 pub mod Acted
 pub mod Carried
 pub mod Right
+pub mod Neighbours
 pub mod Exact
 pub mod Count
 pub mod Again

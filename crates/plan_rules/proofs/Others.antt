@@ -1,6 +1,7 @@
 -- What a plan does at the other slots: a page written to slot k passes a slot that is not k by, and one that is in no cycle feels no tick.
 -- Assumes nothing.
 use Prim.Native.Nat.{ℕ, _+_, _*_, _<_}
+use native.Mathlib.Omega.{arith}
 use mathlib.Core.Path.{_≡_, refl, sym, _∙_, ap, ap₂, subst}
 use mathlib.Core.Bool.{true, false}
 use mathlib.Core.List.{List, [], _∷_, _++_, map}
@@ -18,6 +19,7 @@ use Rattle.rules.specs.Slot.{standing, letGo, presentNext, partNext}
 use Rattle.rules.specs.Runs.{slotAfter, partAfter}
 use Rattle.runs.specs.Exchanges.{Inside, byte, insideAct, upToStop, controls}
 use Rattle.rules.proofs.Run.Joined.{slots-joined, parts-joined}
+use Rattle.rules.proofs.Document.Commands.{heard-alike}
 use Rattle.rules.proofs.Document.Cycle.{idle-slot, idle-part}
 use Rattle.rules.proofs.Run.Cases.{present-next}
 use Rattle.runs.proofs.TwoClerks.Foreign.{Unheard, NoneHeard, started-waits, absent-after, absent-parts, as-it-was, same-part}
@@ -65,7 +67,7 @@ none-after n (b ∷ bs) = none-after n bs
 module _ (k : ℕ) (below : k < slotCount) (n : ℕ) (other : n ≡ k → ⊥) where
   unheard : Unheard n (0xA0 + 2 * k)
   unfolding acksHeard
-  unheard s = rw (own-heard k below) (ne-eqb k n (λ e. other (sym e)))
+  unheard s = rw (heard-alike (0xA0 + 2 * k) n s (λ e. omega (arith, below, e)), own-heard k below) (ne-eqb k n (λ e. other (sym e)))
 
   pub page-passed : (c : ℕ) (bs : List ℕ) (count : ℕ) (s : Slot) (m : List ℕ) → absent s ≡ false → s .left ≡ 0
       → Passed n (pageActs k c bs count) s m (leaving s)

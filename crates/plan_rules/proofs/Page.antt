@@ -5,7 +5,7 @@ use Prim.Native.Nat.{ℕ, suc, _+_, _-_, _*_, _/_, _%_, _<_, _≤_}
 use native.Mathlib.Omega.{arith}
 use native.Mathlib.Nat.{add-zero}
 use mathlib.Core.Path.{_≡_, refl, sym, _∙_, ap, subst}
-use mathlib.Core.Bool.{Bool, true, false}
+use mathlib.Core.Bool.{Bool, true, false, or-false}
 use mathlib.Core.List.{List, [], _∷_, _++_, map, append-nil}
 use lib.Dec.{eqb}
 use lib.ListN.{length, getD, set, replicate, drop-of-length-le}
@@ -18,26 +18,26 @@ use Rattle.rules.specs.declared.Heard.the-variants.{Memory}
 use Rattle.rules.specs.declared.Phase.{Phase}
 use Rattle.rules.specs.declared.Phase.the-variants.{Idle, Control, MemoryCounter, MemoryData}
 use Rattle.rules.specs.declared.Slot.{Slot}
-use Rattle.rules.specs.Modelled.{slotCount, absent, addressOf, blockOf, pageOf}
+use Rattle.rules.specs.Modelled.{slotCount, absent, older, addressOf, blockOf, pageOf}
 use Rattle.rules.specs.Open.{open-fields, open-memory}
-use Rattle.rules.specs.Fields.{inPhase, inHalf, atCounter, withLeft, protecting, expecting, latched, placed}
-use Rattle.rules.specs.Fresh.{noBytes, noMarks}
+use Rattle.rules.specs.Fields.{inPhase, inHalf, atCounter, withLeft, expecting, latched, placed}
 use Rattle.rules.specs.Control.{protects, selectOf, heardOf, acksControl, obeyed, controlled}
-use Rattle.rules.specs.Memory.{abandoned, cancelled, upInPage, guarded, anyMark, putUpTo, stored}
+use Rattle.rules.specs.Memory.{abandoned, cancelled, upInPage, pinOn, guarded, anyMark, ended, putUpTo, stored}
 use Rattle.rules.specs.Slot.{withSensorIn, standing, letGo, byteIn, acksIn, presentNext, slotNext, partNext, acks}
 use Rattle.runs.specs.Exchanges.{aloneFor, shownAlone}
 use Rattle.rules.proofs.Run.Cases.{let-go-cases, present-next, byte-next}
 use Rattle.rules.proofs.Document.Exchange.{counter-byte, data-byte, stop-begins}
-use Rattle.rules.proofs.Document.Commands.{memory-family, memory-acked}
+use Rattle.rules.proofs.Document.Commands.{memory-family, memory-acked, heard-alike}
 use Rattle.plan_rules.specs.Plan.{pageHalf, pageBlock, pageCounter}
 use Rattle.plan_rules.specs.Effect.{leaving, rested}
 use Rattle.plan_rules.proofs.LetGo.{let-go-lasts}
 use Rattle.plan_rules.proofs.Ran.{Ran, dueFor, dueTo, ran-none, ran-joined, ran-on, ran-begins, ran-ticks}
 
--- what a page can be written to: a present slot in no cycle, that stands in the page's half, with its arrays, and the page's block without protection
--- (over the fields, so that a step which replaces others needs no word)
+-- what a page can be written to: a present slot, no older module, in no cycle, that stands in the page's half, with its arrays, and the page's block
+-- without protection (over the fields, so that a step which replaces others needs no word)
 pub record FreeAt (wanted block kind count left half′ : ℕ) (protection : List Bool) (latch : List ℕ) (marks′ : List Bool) : Type 0 where
   pub present : eqb kind 0 ≡ false
+  pub newer : eqb kind 3 ≡ false
   pub no-ticks : left ≡ 0
   pub lasts : count ≡ 0 → ⊥
   pub half : half′ ≡ wanted
@@ -54,7 +54,7 @@ Free p s = FreeIn (p / 16) (p / 8) s
 -- what is let go is none of that
 pub let-go-free : (h b : ℕ) (s : Slot) → FreeIn h b s → FreeIn h b (letGo (standing s) s)
 unfolding open-memory open-fields
-let-go-free h b s f = let-go-cases (FreeIn h b) (standing s) s f f (record { present = f .present; no-ticks = f .no-ticks; lasts = f .lasts; half = f .half; unguarded = f .unguarded; bytes = refl; marks = refl }) f
+let-go-free h b s f = let-go-cases (FreeIn h b) (standing s) s f f (record { present = f .present; newer = f .newer; no-ticks = f .no-ticks; lasts = f .lasts; half = f .half; unguarded = f .unguarded; bytes = refl; marks = refl }) f
 
 -- the acts of a page
 abbrev pub bytesActs : List ℕ → List Act
@@ -90,10 +90,10 @@ module _ (k p : ℕ) (u : Slot) (f : Free p u) where
   taking-stands c l w = rw (f .present)
 
   taking-open : (j : ℕ) (l : List ℕ) (w : List Bool) → guarded (taking (counterAt j) l w u) ≡ false
-  unfolding guarded protects blockOf addressOf pageBlock pageCounter pageHalf open-fields
+  unfolding guarded pinOn older protects blockOf addressOf pageBlock pageCounter pageHalf open-fields
   taking-open j l w =
       let e : (256 * u .half + counterAt j) / 128 ≡ p / 8 = rw (f .half) (omega arith) in
-      rw e (f .unguarded)
+      rw (e, f .unguarded, f .newer)
 
   goes-up : (j : ℕ) → j < 16 → upInPage (counterAt j) ≡ counterAt (suc j)
   unfolding upInPage pageCounter
@@ -164,15 +164,15 @@ module _ (k p : ℕ) (u : Slot) (f : Free p u) where
     unfolding stored pageOf open-fields
     begun-stored m = ap (λ (n : ℕ). putUpTo bs allMarked n 16 m) (ap (λ (n : ℕ). n / 16 * 16) begun-address ∙ omega arith)
 
-    ended-slot : withLeft 0 (latched noBytes noMarks (protecting (begunSlot .coming) begunSlot)) ≡ written p u
-    unfolding pageHalf open-memory open-fields
-    ended-slot = rw (← f .half)
+    ended-slot : ended begunSlot ≡ written p u
+    unfolding pageHalf older open-memory open-fields
+    ended-slot = rw (f .newer, or-false (u .old .permanent), ← f .half)
 
     ticks-run : (m : List ℕ) → Ran k (replicate (u .length) Tick) begunSlot m (written p u) (pagePut p bs m) []
     unfolding absent open-fields
     ticks-run m =
         let e : u .length ≡ suc (u .length - 1) = omega (arith, f .lasts) in
-        let r : Ran k (replicate (suc (u .length - 1)) Tick) begunSlot m (withLeft 0 (latched noBytes noMarks (protecting (begunSlot .coming) begunSlot))) (stored begunSlot m) []
+        let r : Ran k (replicate (suc (u .length - 1)) Tick) begunSlot m (ended begunSlot) (stored begunSlot m) []
         = ran-ticks k (u .length - 1) begunSlot m (f .present) e in
         subst (λ (n : ℕ). Ran k (replicate n Tick) begunSlot m (written p u) (pagePut p bs m) []) (sym e)
         (rw (ended-slot, begun-stored m) at r)
@@ -221,7 +221,7 @@ module _ (k : ℕ) (below : k < slotCount) where
     unfolding byteIn controlled obeyed open-fields
     own-obeyed =
         byte-next k own (inPhase Control u) ∙ ap (λ (q : Phase). byteIn q k own (inPhase Control u)) (stands-in Control u here refl)
-        ∙ rw (own-acked, own-heard)
+        ∙ rw (own-acked, heard-alike own k (inPhase Control u) (λ e. omega (arith, own-family, e)), own-heard)
 
 -- the whole exchange, and its cycle
 module _ (k p : ℕ) (below : k < slotCount) (bs : List ℕ) (sixteen : length bs ≡ 16) where

@@ -27,9 +27,10 @@ use Rattle.plan_rules.specs.declared.Planned.the-variants.{Records, Refu
 use Rattle.plan_rules.specs.Records.{laid, eventsIn}
 use Rattle.plan_rules.specs.Plan.{fiveTicks, settled, slotAt, bytesAt, pageCount, bufferBytes, wrongLengths, noSuchSlot, forbidden, planEvents, planned, planOf, planNumber, planValue}
 use Rattle.plan_rules.specs.Effect.{Typed, differing, selectionsBefore}
-use Rattle.plan_rules.proofs.Given.{right-lengths, slot-below, slot-there, slot-present}
+use Rattle.plan_rules.proofs.Given.{right-lengths, slot-below, slot-there, slot-present, slot-newer}
 use Rattle.plan_rules.proofs.Carried.{Asked}
 use Rattle.plan_rules.proofs.Right.{done, Right, NoMore, is-right, does-no-more}
+use Rattle.plan_rules.proofs.Neighbours.{Spared, spares}
 use Rattle.plan_rules.proofs.Count.{plan-counted, plan-most}
 use Rattle.plan_rules.proofs.Again.{Again, planned-again}
 use Rattle.plan_rules.proofs.Back.{laid-behind, laid-length, read-back, plan-plain}
@@ -108,6 +109,7 @@ module _ (b : Bus) (m : List ℕ) (k : SlotNo) (image buffer : List ℕ) where
     pub right : Right (k .0) bench image
     pub no-more : NoMore (k .0) bench image
     pub again : Again (k .0) bench image
+    pub spared : (i : ℕ) → i < slotCount → Spared (k .0) bench image i
 
   -- the row that a number of records comes from
   refused : (r : Refusal) {c : ℕ} → refusalNumber r ≡ c → 0 < c → refusalNumber r ≡ 0 → ⊥
@@ -127,13 +129,14 @@ module _ (b : Bus) (m : List ℕ) (k : SlotNo) (image buffer : List ℕ) where
       let g = given-records n (planOf b m k image buffer) judged e in
       let sizes = right-lengths m image buffer (g .0) in
       let below = slot-below k b (g .2) in
-      let present = slot-present b m k (g .2) in
+      let present = slot-present k b (g .2) m in
       let asked : Asked (k .0) bench image = record {
         long = sizes .0;
         ranged = g .1;
         number = typed .slot .slots;
         below = below;
         present = present;
+        newer = slot-newer k b (g .2) m;
         arrays = unfold slotAt in (typed .slot .latch, typed .slot .marks);
         wanted = sizes .1;
         bytes = typed .bytes;
@@ -151,6 +154,7 @@ module _ (b : Bus) (m : List ℕ) (k : SlotNo) (image buffer : List ℕ) where
         right = is-right (k .0) bench image asked;
         no-more = does-no-more (k .0) bench image asked;
         again = planned-again (k .0) bench image asked;
+        spared = spares (k .0) bench image asked;
       }
 
   -- asked again after the run, with any buffer, the planner gives the five ticks

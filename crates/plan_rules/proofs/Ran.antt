@@ -16,9 +16,8 @@ use Rattle.rules.specs.declared.Answer.{Answer}
 use Rattle.rules.specs.declared.Answer.the-variants.{Nothing, Ack}
 use Rattle.rules.specs.declared.Slot.{Slot}
 use Rattle.rules.specs.Modelled.{absent, addressOf}
-use Rattle.rules.specs.Fields.{withLeft, protecting, latched}
-use Rattle.rules.specs.Fresh.{noBytes, noMarks}
-use Rattle.rules.specs.Memory.{stored}
+use Rattle.rules.specs.Fields.{withLeft}
+use Rattle.rules.specs.Memory.{stored, ended}
 use Rattle.rules.specs.Events.{carried}
 use Rattle.rules.specs.Slot.{slotNext, partNext}
 use Rattle.rules.specs.Runs.{slotAfter, partAfter}
@@ -108,5 +107,5 @@ module _ (n : ℕ) where
   begun-ticks (suc j) s a e = rw (ne-eqb (s .left) 0 (λ z. omega arith), other-tick n s a (λ f. omega arith)) (begun-ticks j (withLeft (s .left - 1) s) a (omega arith))
 
   pub ran-ticks : (j : ℕ) (s : Slot) (m : List ℕ) → absent s ≡ false → s .left ≡ suc j
-      → Ran n (replicate (suc j) Tick) s m (withLeft 0 (latched noBytes noMarks (protecting (s .coming) s))) (stored s m) []
+      → Ran n (replicate (suc j) Tick) s m (ended s) (stored s m) []
   ran-ticks j s m a e = record { slot = ends n j s a e; part = ends-part n j s m a e; said = said-ticks (suc j) s m; begins = begun-ticks j s a e }

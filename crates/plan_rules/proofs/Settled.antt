@@ -78,7 +78,7 @@ short-cycle s h =
     cond-cases (λ (t : Bool). t ≡ true → s .length ≤ 5) (eqb (s .kind) 0) (λ z e. omega (arith, eqb-true (s .length) 0 e))
     (λ z e. leb-true (s .length) 5 (and-right (leb 1 (s .length)) (leb (s .length) 5) e)) (facts s h .lengths)
 
-absent-left : (s : Slot) → slotInRange s ≡ true → absent s ≡ true → s .left ≡ 0
+pub absent-left : (s : Slot) → slotInRange s ≡ true → absent s ≡ true → s .left ≡ 0
 unfolding absent
 absent-left s v a =
     let g : eqb (s .length) 0 ≡ true = rw a at (facts s v .lengths) in

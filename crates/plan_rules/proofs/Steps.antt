@@ -8,7 +8,7 @@ use mathlib.Core.List.{List, [], _∷_, _++_, append-nil}
 use lib.Dec.{eqb}
 use lib.ListN.{length, getD}
 use borrow.Author.Tests.{eqb-true}
-use Rattle.proof_lists.specs.Tests.{by-test, cond-cases, or-left-false, or-right-false}
+use Rattle.proof_lists.specs.Tests.{by-test, cond-cases}
 use Rattle.rules.specs.declared.Act.{Act}
 use Rattle.rules.specs.declared.Phase.the-variants.{Idle}
 use Rattle.rules.specs.declared.Slot.{Slot}
@@ -16,14 +16,14 @@ use Rattle.rules.specs.Modelled.{slotCount, absent}
 use Rattle.rules.specs.Open.{open-fields, open-memory}
 use Rattle.rules.specs.Fields.{inPhase, inHalf, atCounter, withLeft}
 use Rattle.rules.specs.Memory.{abandoned, cancelled}
-use Rattle.rules.specs.Slot.{standing, letGo}
 use Rattle.runs.proofs.TwoClerks.Struck.{idle-same, idle-let-go}
 use Rattle.plan_rules.specs.Plan.{pageAt, pageHalf, pageCounter, differs, halfBefore}
-use Rattle.plan_rules.specs.Effect.{leaving, rested, differing, touched, counterBefore, feltBefore, ownBefore, otherBefore}
+use Rattle.plan_rules.specs.Effect.{leaving, feels, rested, differing, touched, counterBefore, feltBefore, ownBefore, otherBefore}
 use Rattle.plan_rules.proofs.LetGo.{let-go-lasts}
 use Rattle.plan_rules.proofs.Ran.{Ran, ran-none, ran-joined}
 use Rattle.plan_rules.proofs.Page.{FreeIn, let-go-free, pageActs, pagePut, page-run}
-use Rattle.plan_rules.proofs.Half.{halfActs, half-run}
+use Rattle.plan_rules.proofs.Half.{halfActs, half-run, half-passed}
+use Rattle.plan_rules.proofs.Felt.{feels-cases, felt-keeps, felt-idle, felt-none}
 use Rattle.plan_rules.proofs.Others.{Passed, passed-none, passed-joined, page-passed}
 use Rattle.plan_rules.proofs.Pages.{page-length, bytesBefore}
 
@@ -45,13 +45,13 @@ rested-free : (h b h′ c : ℕ) (s : Slot) → FreeIn h′ b s → FreeIn h b (
 unfolding rested leaving open-memory open-fields
 rested-free h b h′ c s f =
     let g = let-go-free h′ b s f in
-    record { present = g .present; no-ticks = refl; lasts = g .lasts; half = refl; unguarded = g .unguarded; bytes = refl; marks = refl }
+    record { present = g .present; newer = g .newer; no-ticks = refl; lasts = g .lasts; half = refl; unguarded = g .unguarded; bytes = refl; marks = refl }
 
 half-free : (h b h′ : ℕ) (s : Slot) → FreeIn h′ b s → FreeIn h b (inHalf h (leaving s))
 unfolding leaving open-fields
 half-free h b h′ s f =
     let g = let-go-free h′ b s f in
-    record { present = g .present; no-ticks = g .no-ticks; lasts = g .lasts; half = refl; unguarded = g .unguarded; bytes = g .bytes; marks = g .marks }
+    record { present = g .present; newer = g .newer; no-ticks = g .no-ticks; lasts = g .lasts; half = refl; unguarded = g .unguarded; bytes = g .bytes; marks = g .marks }
 
 -- the acts of half h where `now` stands, and of one page
 unfoldable pub selectActs : ℕ → ℕ → List Act
@@ -64,10 +64,10 @@ module _ (k : ℕ) (below : k < slotCount) (p : ℕ) (within : p < 32) (bs : Lis
   unfolding selectActs
   one-page now s m f = by-test (eqb (pageHalf p) now)
       (λ e. rw e (page-run k p below bs sixteen s m
-      (record { present = f .present; no-ticks = f .no-ticks; lasts = f .lasts; half = f .half ∙ sym (eqb-true (pageHalf p) now e) ∙ unfold pageHalf in refl; unguarded = f .unguarded; bytes = f .bytes; marks = f .marks })))
+      (record { present = f .present; newer = f .newer; no-ticks = f .no-ticks; lasts = f .lasts; half = f .half ∙ sym (eqb-true (pageHalf p) now e) ∙ unfold pageHalf in refl; unguarded = f .unguarded; bytes = f .bytes; marks = f .marks })))
       (λ e. rw e (subst (λ (n : ℕ). Ran k (halfActs (pageHalf p) ++ pageActs k (pageCounter p) bs n) s m (rested (pageHalf p) (pageCounter p) s) (pagePut p bs m) (p ∷ [])) selected-length
       (subst (λ (t : Slot). Ran k (halfActs (pageHalf p) ++ pageActs k (pageCounter p) bs (selected .length)) s m t (pagePut p bs m) (p ∷ [])) (rested-half (pageHalf p) (pageCounter p) (pageHalf p) s)
-      (ran-joined k (half-run k (pageHalf p) (unfold pageHalf in omega arith) s m (f .present) (f .no-ticks)) (page-run k p below bs sixteen selected m selected-free)))))
+      (ran-joined k (half-run k (pageHalf p) (unfold pageHalf in omega arith) s m (f .present) (f .newer) (f .no-ticks)) (page-run k p below bs sixteen selected m selected-free)))))
     where
       selected : Slot
       selected = inHalf (pageHalf p) (leaving s)
@@ -119,64 +119,65 @@ module _ (old image : List ℕ) (s : Slot) where
           (own-free p (p / 8) (allowed p (omega arith) d))))))
           (λ d. rw (d, append-nil (actsBefore k p), append-nil (differing old image p)) (own-run p (omega arith))))
 
-  -- another slot, present and in no cycle, one page on: it feels a half that is selected, and leaves the exchange it stood in
-  module _ (t : Slot) where
-    felt-none : (p : ℕ) → touched old image p ≡ false → feltBefore old image s (t .half) p ≡ t .half
-    unfolding touched feltBefore
-    felt-none zero e = refl
-    felt-none (suc p) e =
-        rw (or-right-false (touched old image p) (differs old image p) e) (felt-none p (or-left-false (touched old image p) (differs old image p) e))
-
-    own-half : inHalf (t .half) (leaving t) ≡ leaving t
-    unfolding leaving open-memory open-fields
-    own-half = ap (λ (h : ℕ). inHalf h (inPhase Idle (letGo (standing t) t))) (sym (let-go-lasts t .half))
-
+  -- another slot n, present and in no cycle, one page on: it leaves the exchange it stood in, and feels a half that is selected
+  module _ (n : ℕ) (t : Slot) where
     -- where the half stands already, and where it is selected
-    other-left : (p : ℕ) → inHalf (feltBefore old image s (t .half) p) (leaving t) ≡ leaving (otherBefore old image s t p)
+    other-left : (p : ℕ) → feltBefore old image s n (leaving t) p ≡ leaving (otherBefore old image s n t p)
     unfolding otherBefore
     other-left p = by-test (touched old image p)
-        (λ e. rw e (sym (leaving-idle (inHalf (feltBefore old image s (t .half) p) (leaving t)) (unfold leaving open-fields in refl))))
-        (λ e. rw (e, felt-none p e) own-half)
-
-    other-selected : (h p : ℕ) → inHalf h (leaving t) ≡ inHalf h (leaving (otherBefore old image s t p))
-    other-selected h p = unfold open-fields in ap (inHalf h) (other-left p)
+        (λ e. rw e (sym (leaving-idle (feltBefore old image s n (leaving t) p) (felt-idle old image s n (leaving t) p (unfold leaving open-fields in refl)))))
+        (λ e. rw e (felt-none old image s n (leaving t) p e))
 
     abbrev oneOn : ℕ → Slot
-    oneOn p = cond (eqb (pageHalf p) (halfBefore old image s p)) (leaving (otherBefore old image s t p)) (inHalf (pageHalf p) (leaving (otherBefore old image s t p)))
+    oneOn p = cond (eqb (pageHalf p) (halfBefore old image s p)) (leaving (otherBefore old image s n t p)) (feels n (pageHalf p) (leaving (otherBefore old image s n t p)))
 
-    other-step : (p : ℕ) → otherBefore old image s t (suc p) ≡ cond (differs old image p) (oneOn p) (otherBefore old image s t p)
+    other-step : (p : ℕ) → otherBefore old image s n t (suc p) ≡ cond (differs old image p) (oneOn p) (otherBefore old image s n t p)
     unfolding otherBefore touched feltBefore
     other-step p = by-test (differs old image p)
         (λ d. rw (d, or-true (touched old image p)) (by-test (eqb (pageHalf p) (halfBefore old image s p))
         (λ e. rw e (unfold otherBefore in other-left p))
-        (λ e. rw e (unfold otherBefore in other-selected (pageHalf p) p))))
+        (λ e. rw e (unfold otherBefore in ap (feels n (pageHalf p)) (other-left p)))))
         (λ d. rw (d, or-false (touched old image p)))
 
     module _ (here : absent t ≡ false) (rests : t .left ≡ 0) where
-      left-kept : (w : Slot) → absent w ≡ false → w .left ≡ 0 → (absent (leaving w) ≡ false) × ((leaving w) .left ≡ 0)
-      unfolding absent leaving open-fields
-      left-kept w a l = (rw (let-go-lasts w .kind) a, let-go-lasts w .left ∙ l)
+      abbrev Kept : Slot → Type 0
+      Kept w = (eqb (w .kind) 0 ≡ false) × (w .left ≡ 0)
 
-      other-kept : (p : ℕ) → (absent (otherBefore old image s t p) ≡ false) × ((otherBefore old image s t p) .left ≡ 0)
-      unfolding otherBefore absent open-fields
-      other-kept p = cond-cases (λ (w : Slot). (absent w ≡ false) × (w .left ≡ 0)) (touched old image p) (λ e. left-kept t here rests) (λ e. (here, rests))
+      left-kept : (w : Slot) → Kept w → Kept (leaving w)
+      unfolding leaving open-fields
+      left-kept w h = (rw (let-go-lasts w .kind) (h .0), let-go-lasts w .left ∙ h .1)
 
-      module _ (k : ℕ) (below : k < slotCount) (n : ℕ) (other : n ≡ k → ⊥) where
-        page-on : (p : ℕ) (bs : List ℕ) (count : ℕ) (w : Slot) (m : List ℕ) (now : ℕ) → p < 32 → absent w ≡ false → w .left ≡ 0
-            → Passed n (selectActs now (pageHalf p) ++ pageActs k (pageCounter p) bs count) w m (cond (eqb (pageHalf p) now) (leaving w) (inHalf (pageHalf p) (leaving w)))
+      felt-kept : (h : ℕ) (w : Slot) → Kept w → Kept (feels n h w)
+      unfolding open-memory open-fields
+      felt-kept h w e = feels-cases Kept n h w e e e
+
+      other-kept : (p : ℕ) → Kept (otherBefore old image s n t p)
+      unfolding otherBefore absent open-memory open-fields
+      other-kept p = cond-cases Kept (touched old image p)
+          (λ e. felt-keeps old image s n Kept (λ w h. h) (λ j w h. h) (leaving t) p (left-kept t (here, rests))) (λ e. (here, rests))
+
+      module _ (k : ℕ) (below : k < slotCount) (other : n ≡ k → ⊥) where
+        page-on : (p : ℕ) (bs : List ℕ) (count : ℕ) (w : Slot) (m : List ℕ) (now : ℕ) → p < 32 → Kept w
+            → Passed n (selectActs now (pageHalf p) ++ pageActs k (pageCounter p) bs count) w m (cond (eqb (pageHalf p) now) (leaving w) (feels n (pageHalf p) (leaving w)))
         unfolding selectActs absent
-        page-on p bs count w m now l a z = by-test (eqb (pageHalf p) now)
-            (λ e. rw e (page-passed k below n other (pageCounter p) bs count w m a z))
-            (λ e. rw e (subst (λ (r : Slot). Passed n (halfActs (pageHalf p) ++ pageActs k (pageCounter p) bs count) w m r) (leaving-idle (inHalf (pageHalf p) (leaving w)) (unfold leaving open-fields in refl))
-            (passed-joined half-passed (page-passed k below n other (pageCounter p) bs count (inHalf (pageHalf p) (leaving w)) m (unfold open-fields in left-kept w a z .0) (unfold open-fields in left-kept w a z .1)))))
+        page-on p bs count w m now l a = by-test (eqb (pageHalf p) now)
+            (λ e. rw e (page-passed k below n other (pageCounter p) bs count w m (a .0) (a .1)))
+            (λ e. rw e (subst (λ (r : Slot). Passed n (halfActs (pageHalf p) ++ pageActs k (pageCounter p) bs count) w m r) (leaving-idle selected selected-idle)
+            (passed-joined (half-passed n (pageHalf p) (unfold pageHalf in omega arith) w m (a .0) (a .1)) (page-passed k below n other (pageCounter p) bs count selected m (selected-kept .0) (selected-kept .1)))))
           where
-            half-passed : Passed n (halfActs (pageHalf p)) w m (inHalf (pageHalf p) (leaving w))
-            half-passed = let r = half-run n (pageHalf p) (unfold pageHalf in omega arith) w m a z in record { slot = r .slot; part = r .part }
+            selected : Slot
+            selected = feels n (pageHalf p) (leaving w)
 
-        pub other-run : (p : ℕ) (m : List ℕ) → p ≤ 32 → Passed n (actsBefore k p) t m (otherBefore old image s t p)
+            selected-kept : Kept selected
+            selected-kept = felt-kept (pageHalf p) (leaving w) (left-kept w a)
+
+            selected-idle : selected .phase ≡ Idle
+            selected-idle = unfold leaving open-memory open-fields in feels-cases (λ (r : Slot). r .phase ≡ Idle) n (pageHalf p) (leaving w) refl refl refl
+
+        pub other-run : (p : ℕ) (m : List ℕ) → p ≤ 32 → Passed n (actsBefore k p) t m (otherBefore old image s n t p)
         unfolding actsBefore
         other-run zero m h = unfold otherBefore touched in passed-none n t m
         other-run (suc p) m h = rw (other-step p) (by-test (differs old image p)
             (λ d. rw d (passed-joined (other-run p m (omega arith))
-            (page-on p (pageAt p image) (s .length) (otherBefore old image s t p) m (halfBefore old image s p) (omega arith) (other-kept p .0) (other-kept p .1))))
+            (page-on p (pageAt p image) (s .length) (otherBefore old image s n t p) m (halfBefore old image s p) (omega arith) (other-kept p))))
             (λ d. rw (d, append-nil (actsBefore k p)) (other-run p m (omega arith))))

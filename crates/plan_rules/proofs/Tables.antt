@@ -4,18 +4,20 @@
 use Prim.Native.Nat.{ℕ}
 use mathlib.Core.Path.{_≡_, refl}
 use mathlib.Core.Bool.{Bool, true, false}
-use mathlib.Core.List.{List, [], _∷_, map}
+use mathlib.Core.List.{List, [], _∷_, _++_, map}
 use lib.IntN.{ℤ, pos, negsuc}
-use lib.ListN.{set, replicate}
+use lib.ListN.{drop, set, replicate}
+use Rattle.rules.specs.declared.Act.{Act}
+use Rattle.rules.specs.declared.Act.the-variants.{Start, Byte, Stop, Tick}
 use Rattle.rules.specs.declared.Bus.{Bus}
 use Rattle.rules.specs.declared.Event.{Event}
 use Rattle.rules.specs.declared.Slot.{Slot}
 use Rattle.rules.specs.declared.SlotNo.{SlotNo}
 use Rattle.rules.specs.Open.{open-all}
-use Rattle.rules.specs.Fields.{atCounter, inHalf, withLeft, protecting, expecting, latched}
+use Rattle.rules.specs.Fields.{atCounter, inHalf, withLeft, withVoltage, protecting, expecting, latched}
 use Rattle.rules.specs.Events.{refusalNumber}
 use Rattle.rules.specs.Fresh.{noBytes, noMarks, noBlocks, freshSlot, absentSlot}
-use Rattle.rules.specs.Runs.{Bench}
+use Rattle.rules.specs.Runs.{Bench, after, slotAfter}
 use Rattle.script_text.specs.Records.{valueAt, recordAt}
 use Rattle.plan_rules.specs.declared.Planned.{Planned}
 use Rattle.plan_rules.specs.Records as Records
@@ -49,9 +51,10 @@ pub row-1 : map firstRow
 unfolding open-plan
 row-1 = refl
 
--- "a slot absent or above 7 is 3": a bus with a memory in slot 0, a sensor in slot 2 and none elsewhere; and one with all eight
+-- "a slot absent or above 7 is 3"; P9: "3 is given [..] by P1 for a kind 3 slot": a bus with a memory in slot 0, a sensor in slot 2, an older module in
+-- slot 3 and none elsewhere; and one with all eight
 abbrev some : Bus
-some = record { slots = freshSlot 1 5 ∷ absentSlot ∷ freshSlot 2 1 ∷ replicate 5 absentSlot }
+some = record { slots = freshSlot 1 5 ∷ absentSlot ∷ freshSlot 2 1 ∷ freshSlot 3 1 ∷ replicate 4 absentSlot }
 
 abbrev full : Bus
 full = record { slots = replicate 8 (freshSlot 1 5) }
@@ -143,6 +146,56 @@ pub after-the-ticks : given (bench protect) 0 last 4096 ∷ given (bench clear) 
     ≡ (7, 0) ∷ (0, 33) ∷ (0, 5) ∷ (0, 30) ∷ (0, 5) ∷ (7, 0) ∷ []
 unfolding open-plan
 after-the-ticks = refl
+
+-- "by P1 for a kind 3 slot", before 7: an older module whose block is protected, and an image that differs in it; and one with nothing to be written
+abbrev olderProtected : Slot
+olderProtected = protecting (set noBlocks 0 true) (freshSlot 3 5)
+
+pub older-refused : given (bench olderProtected) 0 (set none 0 1) 4096 ∷ given (bench (freshSlot 3 5)) 0 none 4096 ∷ [] ≡ (3, 0) ∷ (3, 0) ∷ []
+unfolding open-plan
+older-refused = refl
+
+-- P9: a plan beside older modules in slots 6 and 7, that selects half 0 by 6Ch, writes a page, selects half 1 by 6Eh and writes another: both modules are
+-- as they were
+abbrev beside : Bench
+beside = record {
+  bus = record { slots = inHalf 1 (freshSlot 1 1) ∷ replicate 5 absentSlot ++ freshSlot 3 5 ∷ freshSlot 3 5 ∷ [] };
+  memory = zeros 4096;
+}
+
+abbrev both : List ℕ
+both = set (set none 0 1) 511 1
+
+pub beside-older : given beside 0 both 4096 ≡ (0, 53)
+unfolding open-plan
+beside-older = refl
+
+pub unharmed : drop 6 ((after (Plan.planEvents 0 beside both) beside) .bus .slots) ≡ freshSlot 3 5 ∷ freshSlot 3 5 ∷ []
+unfolding open-plan
+unharmed = refl
+
+-- With two bytes after it the half command would be the lasting form, of slot 6 by 6Ch and of slot 7 by 6Eh: what is permanent five ticks after a command
+-- with no byte, one, two and three, in slots 5, 6 and 7. With the voltage on it is none.
+abbrev command : List ℕ → ℕ → List Act
+command bytes b = Start ∷ map Byte (b ∷ bytes) ++ Stop ∷ replicate 5 Tick
+
+abbrev permanentAfter : List ℕ → ℕ → ℕ → Slot → Bool
+permanentAfter bytes b n s = (slotAfter n (command bytes b) s) .old .permanent
+
+abbrev neighbours : Slot → ℕ → List (List Bool)
+neighbours s count = map (λ n. map (λ b. permanentAfter (zeros count) b n s) (0x6C ∷ 0x6E ∷ [])) (5 ∷ 6 ∷ 7 ∷ [])
+
+abbrev nowhere : List (List Bool)
+nowhere = replicate 3 (false ∷ false ∷ [])
+
+pub two-bytes : map (neighbours (freshSlot 3 5)) (0 ∷ 1 ∷ 2 ∷ 3 ∷ [])
+    ≡ nowhere ∷ nowhere ∷ ((false ∷ false ∷ []) ∷ (true ∷ false ∷ []) ∷ (false ∷ true ∷ []) ∷ []) ∷ nowhere ∷ []
+unfolding open-plan slotAfter
+two-bytes = refl
+
+pub voltage-on : neighbours (withVoltage true (freshSlot 3 5)) 2 ≡ nowhere
+unfolding open-plan slotAfter
+voltage-on = refl
 
 -- "kind, slot, value high byte first, two's complement": events as bytes, and read again
 abbrev event : ℕ → ℕ → ℤ → Event

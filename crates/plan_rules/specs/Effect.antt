@@ -15,7 +15,7 @@ use Rattle.rules.specs.declared.Event.{Event}
 use Rattle.rules.specs.declared.Phase.the-variants.{Idle}
 use Rattle.rules.specs.declared.Slot.{Slot}
 use Rattle.rules.specs.declared.SlotNo.{SlotNo}
-use Rattle.rules.specs.Modelled.{slotCount, addressOf}
+use Rattle.rules.specs.Modelled.{slotCount, older, addressOf}
 use Rattle.rules.specs.Fresh.{absentSlot}
 use Rattle.rules.specs.Fields.{inPhase, inHalf, atCounter, withLeft}
 use Rattle.rules.specs.Memory.{abandoned, cancelled}
@@ -48,6 +48,16 @@ begunPages n (a ∷ r) s =
 unfoldable pub leaving : Slot → Slot
 leaving s = inPhase Idle (letGo (standing s) s)
 
+-- "Selecting a half is shared: other slots feel it." P9: an older module has no halves. In slot 6 it hears 6Ch as the lasting form, in slot 7 6Eh, with
+-- its voltage off, "unless protection is permanent".
+unfoldable pub opens : ℕ → ℕ → Slot → Bool
+opens n h t = not (t .old .permanent) && not (t .voltage) && eqb (6 + h) n
+
+-- What half h, selected "with no bytes after them before the stop", leaves of another slot n, t, that stood in no exchange: it stands in half h; of an
+-- older module the stop cancels that form.
+unfoldable pub feels : ℕ → ℕ → Slot → Slot
+feels n h t = cond (older t) (cond (opens n h t) (cancelled t) t) (inHalf h t)
+
 -- the slot that was written: it has left its exchange, is in no cycle, and nothing is latched or to come
 unfoldable pub rested : ℕ → ℕ → Slot → Slot
 rested half counter s = withLeft 0 (cancelled (abandoned (atCounter counter (inHalf half (leaving s)))))
@@ -74,15 +84,15 @@ module _ (old image : List ℕ) where
     selectionsBefore zero = 0
     selectionsBefore (suc p) = selectionsBefore p + cond (differs old image p && not (eqb (pageHalf p) (halfBefore old image s p))) 1 0
 
-    -- the half that another slot, which stood in half h, then stands in: the one that was selected last
-    unfoldable pub feltBefore : ℕ → ℕ → ℕ
-    feltBefore h zero = h
-    feltBefore h (suc p) =
-        cond (differs old image p && not (eqb (pageHalf p) (halfBefore old image s p))) (pageHalf p) (feltBefore h p)
+    -- what they leave of another slot n, t, that stood in no exchange
+    unfoldable pub feltBefore : ℕ → Slot → ℕ → Slot
+    feltBefore n t zero = t
+    feltBefore n t (suc p) =
+        cond (differs old image p && not (eqb (pageHalf p) (halfBefore old image s p))) (feels n (pageHalf p) (feltBefore n t p)) (feltBefore n t p)
 
-    -- the slot itself, and another slot t, when pages 0 to p - 1 are done
+    -- the slot itself, and another slot n, t, when pages 0 to p - 1 are done
     unfoldable pub ownBefore : ℕ → Slot
     ownBefore p = cond (touched p) (rested (halfBefore old image s p) (counterBefore p) s) s
 
-    unfoldable pub otherBefore : Slot → ℕ → Slot
-    otherBefore t p = cond (touched p) (inHalf (feltBefore (t .half) p) (leaving t)) t
+    unfoldable pub otherBefore : ℕ → Slot → ℕ → Slot
+    otherBefore n t p = cond (touched p) (feltBefore n (leaving t) p) t

@@ -133,9 +133,9 @@ bufferBytes = 4096
 unfoldable pub wrongLengths : List ℕ → List ℕ → List ℕ → Bool
 wrongLengths m image buffer = wrongLength m || not (eqb (length image) slotBytes) || not (eqb (length buffer) bufferBytes)
 
--- "a slot absent or above 7 is 3"
+-- "a slot absent or above 7 is 3"; P9: "3 is given [..] by P1 for a kind 3 slot"
 unfoldable pub noSuchSlot : SlotNo → Bus → Bool
-noSuchSlot k b = ltb 7 (k .0) || eqb (kindAt (kindsOf b) k) 0
+noSuchSlot k b = ltb 7 (k .0) || eqb (kindAt (kindsOf b) k) 0 || eqb (kindAt (kindsOf b) k) 3
 
 -- "Refusal 7, exactly when a page that differs lies in a protected block", after the five ticks
 unfoldable pub forbidden : ℕ → Bench → List ℕ → Bool

@@ -18,6 +18,7 @@ pub use rules::BlockNo;
 pub use rules::Bus;
 pub use rules::Event;
 pub use rules::Looked;
+pub use rules::Older;
 pub use rules::Outcome;
 pub use rules::Pair;
 pub use rules::Phase;

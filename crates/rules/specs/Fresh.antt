@@ -80,4 +80,5 @@ powered s =
 unfoldable pub atRest : ℕ → ℕ → ℕ → ℕ → List Bool → Bool → Sensor → Older → Slot
 atRest kind length half counter protection voltage registers old =
     inHalf half (atCounter counter
-    (withVoltage voltage (expecting protection (protecting protection (withSensor (withWord 0x0000 registers) (withOld old (freshSlot kind length)))))))
+    (withVoltage voltage (expecting protection (protecting protection
+    (withSensor (withWord 0x0000 registers) (withOld old (freshSlot kind length)))))))

@@ -19,10 +19,10 @@ use Rattle.rules.specs.Runs
 
 -- fields replaced
 unfoldable pub open-fields : Unit {0}
-unfolding Fields.inPhase Fields.atCounter Fields.inHalf Fields.withLeft Fields.protecting Fields.toCome Fields.expecting Fields.withVoltage Fields.latched
-    Fields.placed Fields.withSensor Fields.holding Fields.pointing Fields.withConfiguration Fields.withHigh Fields.withLow Fields.withCritical
-    Fields.withTemperature Fields.withResolution Fields.withTimeout Fields.withWord Fields.withPending
-    Fields.lasts Fields.toLast Fields.withPin Fields.withOld
+unfolding Fields.inPhase Fields.atCounter Fields.inHalf Fields.withLeft Fields.protecting Fields.toCome Fields.expecting Fields.withVoltage
+    Fields.latched Fields.placed Fields.withSensor Fields.holding Fields.pointing Fields.withConfiguration Fields.withHigh Fields.withLow
+    Fields.withCritical Fields.withTemperature Fields.withResolution Fields.withTimeout Fields.withWord Fields.withPending Fields.lasts Fields.toLast
+    Fields.withPin Fields.withOld
 open-fields = tt
 
 -- the steps of memory exchanges and commands
@@ -51,8 +51,8 @@ open-pin = tt
 
 -- the control byte
 unfoldable pub open-control : Unit {0}
-unfolding Control.selectOf Control.isRead Control.commandOf Control.heardOf Control.raisedCommand Control.ownCommand Control.olderCommand Control.heardBy
-    Control.protects Control.acksHeard Control.acksControl Control.obeyed Control.controlled
+unfolding Control.selectOf Control.isRead Control.commandOf Control.heardOf Control.raisedCommand Control.ownCommand Control.olderCommand
+    Control.heardBy Control.protects Control.acksHeard Control.acksControl Control.obeyed Control.controlled
 open-control = tt
 
 -- the slot's step
@@ -71,8 +71,9 @@ open-refusals = tt
 -- everything: a run on known values computes
 unfoldable pub open-all : Unit {0}
 unfolding open-fields open-memory open-power open-sensor open-pin open-control open-slot open-refusals Each.mapFrom Each.anyFrom Each.allOf
-    Each.firstFrom Parts.part Parts.eachPart Modelled.absent Modelled.sensing Modelled.older Modelled.bytesOf Modelled.addressOf Modelled.blockOf Modelled.pageOf Events.isOne
-    Events.actOf Fresh.freshSensor Fresh.freshOlder Fresh.freshSlot Fresh.setupSlot Fresh.absentSlot Fresh.powered Memory.pinOn Memory.guarded Memory.anyMark Memory.putUpTo
-    Memory.stored Memory.tickedPart Bus.busNext Bus.memoryNext Bus.anyAck Bus.readByte Bus.shownFor Bus.shown Runs.taken Runs.given Runs.rulingOn
-    Runs.ruledNext Runs.ruledAnswer Runs.next Runs.answered Runs.after Runs.answers Looked.noPin Looked.lookOf
+    Each.firstFrom Parts.part Parts.eachPart Modelled.absent Modelled.sensing Modelled.older Modelled.bytesOf Modelled.addressOf Modelled.blockOf
+    Modelled.pageOf Events.isOne Events.actOf Fresh.freshSensor Fresh.freshOlder Fresh.freshSlot Fresh.setupSlot Fresh.absentSlot Fresh.powered
+    Memory.pinOn Memory.guarded Memory.anyMark Memory.putUpTo Memory.stored Memory.tickedPart Bus.busNext Bus.memoryNext Bus.anyAck Bus.readByte
+    Bus.shownFor Bus.shown Runs.taken Runs.given Runs.rulingOn Runs.ruledNext Runs.ruledAnswer Runs.next Runs.answered Runs.after Runs.answers
+    Looked.noPin Looked.lookOf
 open-all = tt

@@ -32,8 +32,8 @@ firstOf k marks = mapFrom (λ n marked. marked && ltb (latchedBelow marks n) (k 
 unfoldable pub cut : Cut → Slot → Slot
 cut k s = latched (s .latch) (firstOf k (s .marks)) s
 
--- "For protect and clear, 0 keeps the old protection and any other number brings the new." (P9's lasting form is a protect.) So with 0 a running cycle
--- is dropped, and with any other number it ends; "Without a running cycle the number has no effect."
+-- "For protect and clear, 0 keeps the old protection and any other number brings the new." (P9's lasting form is a protect.) So with 0 a running
+-- cycle is dropped, and with any other number it ends; "Without a running cycle the number has no effect."
 unfoldable pub finished : Cut → Slot → Bool
 finished k s = running s && not (eqb (k .0) 0)
 

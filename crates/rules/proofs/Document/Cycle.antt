@@ -6,7 +6,6 @@ use native.Mathlib.Omega.{arith}
 use mathlib.Core.Path.{_≡_, refl, _∙_, ap, ap₂}
 use mathlib.Core.Bool.{Bool, false}
 use mathlib.Core.List.{List, [], _∷_, map}
-use lib.IntN.{ℤ}
 use lib.ListN.{replicate}
 use borrow.Author.Tests.{eq-eqb, ne-eqb}
 use Rattle.proof_lists.specs.Tests.{cond-same}
@@ -17,8 +16,7 @@ use Rattle.rules.specs.declared.Bus.{Bus}
 use Rattle.rules.specs.declared.Slot.{Slot}
 use Rattle.rules.specs.declared.SlotNo.{SlotNo}
 use Rattle.rules.specs.Modelled.{absent, addressOf, older}
-use Rattle.rules.specs.Fields.{withLeft, protecting, latched}
-use Rattle.rules.specs.Fresh.{noBytes, noMarks}
+use Rattle.rules.specs.Fields.{withLeft}
 use Rattle.rules.specs.Memory.{ticked, stored, tickedPart, ended}
 use Rattle.rules.specs.Open.{open-fields, open-memory}
 use Rattle.rules.specs.Slot.{presentNext, slotNext, partNext}

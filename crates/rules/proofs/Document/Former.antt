@@ -5,13 +5,12 @@
 use Prim.Native.Nat.{ℕ, _≤_}
 use native.Mathlib.Omega.{arith}
 use mathlib.Core.Path.{_≡_, refl, sym, _∙_, ap}
-use mathlib.Core.Bool.{Bool, true, false, false≢true, not, cond, _&&_, _||_, and-true, or-false, or-true}
-use mathlib.Core.List.{List, map}
+use mathlib.Core.Bool.{Bool, true, false, not, cond, _&&_, _||_, and-true, or-false, or-true}
+use mathlib.Core.List.{List}
 use lib.Dec.{eqb, leb, ltb}
 use lib.IntN.{pos, negsuc}
-use lib.ListN.{getD}
-use borrow.Author.Tests.{eqb-true, eqb-false, ne-eqb, le-leb, lt-leb, le-ltb, leb-true, leb-false, eq-eqb}
-use Rattle.proof_lists.specs.Tests.{by-test, cond-cases}
+use borrow.Author.Tests.{eqb-false, ne-eqb, le-leb, lt-leb, le-ltb, leb-true, leb-false, eq-eqb}
+use Rattle.proof_lists.specs.Tests.{by-test}
 use Rattle.rules.specs.declared.Applied.the-variants.{Voltage, WriteProtect}
 use Rattle.rules.specs.declared.BlockNo.{BlockNo}
 use Rattle.rules.specs.declared.Bus.{Bus}
@@ -20,7 +19,7 @@ use Rattle.rules.specs.declared.Event.{Event}
 use Rattle.rules.specs.declared.Phase.the-variants.{Deaf, CommandStop}
 use Rattle.rules.specs.declared.Slot.{Slot}
 use Rattle.rules.specs.declared.SlotNo.{SlotNo}
-use Rattle.rules.specs.Control.{heardOf, heardBy, protects, acksHeard, acksControl, obeyed, controlled}
+use Rattle.rules.specs.Control.{heardOf, protects, acksHeard, acksControl, obeyed, controlled}
 use Rattle.rules.specs.Fields.{inPhase, withLeft, protecting, expecting, withVoltage, lasts, withOld}
 use Rattle.rules.specs.Fresh.{powered}
 use Rattle.rules.specs.Memory.{pinOn, guarded, begun, commandStop, emptied, permanentThen, brought, ended}

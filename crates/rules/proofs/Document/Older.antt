@@ -3,28 +3,26 @@
 -- Assumes nothing.
 use Prim.Native.Nat.{ℕ, _+_, _*_, _/_, _%_, _<_, _≤_}
 use native.Mathlib.Omega.{arith}
-use mathlib.Core.Path.{_≡_, refl, sym, _∙_, ap}
-use mathlib.Core.Bool.{Bool, true, false, not, cond, _&&_, _||_, or-true}
+use mathlib.Core.Path.{_≡_, refl, _∙_, ap}
+use mathlib.Core.Bool.{Bool, true, false, not, cond, _&&_, _||_}
 use mathlib.Core.List.{List, [], _∷_, _++_, map}
 use lib.Dec.{eqb}
 use lib.ListN.{getD, set, replicate}
-use borrow.Author.Tests.{eqb-true}
 use Rattle.proof_lists.specs.Tests.{cond-cases, by-test}
 use Rattle.rules.specs.declared.Act.{Act}
 use Rattle.rules.specs.declared.Act.the-variants.{Start, Byte, Read, Stop, Timeout, Tick, Power, Apply}
 use Rattle.rules.specs.declared.Applied.the-variants.{Voltage, WriteProtect}
 use Rattle.rules.specs.declared.Carried.{Carried}
 use Rattle.rules.specs.declared.Carried.the-variants as carries
-use Rattle.rules.specs.declared.Cut.{Cut}
 use Rattle.rules.specs.declared.Heard.{Heard}
 use Rattle.rules.specs.declared.Phase.the-variants.{Deaf, CommandAddress}
 use Rattle.rules.specs.declared.Slot.{Slot}
 use Rattle.rules.specs.declared.SlotNo.{SlotNo}
-use Rattle.rules.specs.Control.{heardBy, acksControl, obeyed, protects, acksHeard, raisedCommand, olderCommand, ownCommand, selectOf, isRead}
+use Rattle.rules.specs.Control.{acksControl, obeyed, protects, acksHeard, raisedCommand, olderCommand, ownCommand, selectOf, isRead}
 use Rattle.rules.specs.Events.{carried}
-use Rattle.rules.specs.Fields.{inPhase, protecting, expecting, toCome, withVoltage, withOld, withLeft, latched}
-use Rattle.rules.specs.Fresh.{freshSlot, noMarks}
-use Rattle.rules.specs.Memory.{permanentThen, brought, guarded, pinOn}
+use Rattle.rules.specs.Fields.{inPhase, toCome}
+use Rattle.rules.specs.Fresh.{freshSlot}
+use Rattle.rules.specs.Memory.{permanentThen, guarded}
 use Rattle.rules.specs.Modelled.{older, addressOf, blockOf, pageOf, absent}
 use Rattle.rules.specs.Open.{open-all}
 use Rattle.rules.specs.Power.{firstOf}

@@ -10,7 +10,7 @@ use mathlib.Core.List.{List, map}
 use lib.Dec.{eqb, leb}
 use lib.ListN.{length, set}
 use borrow.Author.Tests.{eqb-true}
-use Rattle.proof_lists.specs.Tests.{cond-cases, by-test}
+use Rattle.proof_lists.specs.Tests.{cond-cases}
 use Rattle.proof_lists.specs.Each.{length-mapFrom, map-mapFrom}
 use Rattle.rules.specs.declared.Act.{Act}
 use Rattle.rules.specs.declared.Act.the-variants.{Start, Byte, Read, Stop, Timeout, Tick, Power, Apply}
@@ -27,7 +27,7 @@ use Rattle.rules.specs.declared.Slot.{Slot}
 use Rattle.rules.specs.Fields.{inPhase, withVoltage, withSensor}
 use Rattle.rules.specs.Fresh.{noBlocks, freshSlot, powered}
 use Rattle.rules.specs.Pin.{writtenWithPin}
-use Rattle.rules.specs.Control.{heardOf, acksControl, obeyed, controlled, heardBy}
+use Rattle.rules.specs.Control.{acksControl, obeyed, controlled, heardBy}
 use Rattle.rules.specs.Modelled.{absent, older}
 use Rattle.rules.specs.Memory.{cancelled, guarded, anyMark, ticked, pinOn, brought, permanentThen}
 use Rattle.rules.specs.Slot.{standing, commanding, letGo, byteIn, readIn, stopIn, presentNext, slotNext, acksIn, acks, endures}

@@ -16,7 +16,7 @@ use Rattle.rules.specs.declared.Phase.{Phase}
 use Rattle.rules.specs.declared.Phase.the-variants.{Idle, Control, Deaf, MemoryCounter, MemoryData, MemoryRead, HalfSelected, CommandAddress, CommandData, CommandStop, SensorPointer, SensorHigh, SensorLow, SensorReadHigh, SensorReadLow}
 use Rattle.rules.specs.declared.Sensor.{Sensor}
 use Rattle.rules.specs.declared.Slot.{Slot}
-use Rattle.rules.specs.Control.{acksHeard, acksControl, heardOf, obeyed, controlled, protects, heardBy, olderCommand}
+use Rattle.rules.specs.Control.{acksHeard, acksControl, obeyed, controlled, protects, heardBy, olderCommand}
 use Rattle.rules.specs.Fields.{inPhase, withVoltage, withSensor}
 use Rattle.rules.specs.Fresh.{freshSlot, powered}
 use Rattle.rules.specs.Memory.{guarded, anyMark, ended, stored, tickedPart, pinOn}

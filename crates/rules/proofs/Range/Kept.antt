@@ -39,7 +39,7 @@ use Rattle.rules.specs.Memory.{emptied, abandoned, cancelled, loaded, gu
 use Rattle.rules.specs.Modelled.{sensing, older}
 use Rattle.rules.specs.Pin.{convertedWithPin}
 use Rattle.rules.specs.Power.{finished, powerCut}
-use Rattle.rules.specs.Slot.{standing, commanding, letGo, lost, pointer, firstByte, secondByte, byteIn, readIn, stopIn, switched, heated, presentNext, slotNext}
+use Rattle.rules.specs.Slot.{standing, letGo, lost, pointer, firstByte, secondByte, byteIn, readIn, stopIn, presentNext, slotNext}
 use Rattle.rules.specs.Bus.{busNext, shownFor, shown, anyAck}
 use Rattle.rules.specs.Refusals.{outside, wrongValue, goodLength, goodPair, kindInRange, lengthInRange, sensorInRange, pendingInRange, slotInRange, inRange, setupOf, olderInRange}
 use Rattle.rules.specs.Runs.{Bench, taken, given, rulingOn, ruledNext, ruledAnswer, next, answered, after, answers}

@@ -19,7 +19,7 @@ use Rattle.rules.specs.declared.Phase.the-variants.{Control, SensorReadH
 use Rattle.rules.specs.declared.Sensor.{Sensor}
 use Rattle.rules.specs.declared.Slot.{Slot}
 use Rattle.rules.specs.declared.SlotNo.{SlotNo}
-use Rattle.rules.specs.Control.{heardOf, acksHeard, acksControl, obeyed, controlled, heardBy}
+use Rattle.rules.specs.Control.{acksHeard, acksControl, obeyed, controlled, heardBy}
 use Rattle.rules.specs.Modelled.{sensing}
 use Rattle.rules.specs.Open.{open-fields}
 use Rattle.rules.specs.Pin.{asserted, readOf}

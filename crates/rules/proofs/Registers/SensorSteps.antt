@@ -19,7 +19,7 @@ use Rattle.rules.specs.declared.Phase.{Phase}
 use Rattle.rules.specs.declared.Phase.the-variants.{Idle, Control, Deaf, MemoryCounter, MemoryData, MemoryRead, HalfSelected, CommandAddress, CommandData, CommandStop, SensorPointer, SensorHigh, SensorLow, SensorReadHigh, SensorReadLow}
 use Rattle.rules.specs.declared.Sensor.{Sensor}
 use Rattle.rules.specs.declared.Slot.{Slot}
-use Rattle.rules.specs.Control.{acksControl, heardOf, obeyed, heardBy}
+use Rattle.rules.specs.Control.{acksControl, obeyed, heardBy}
 use Rattle.rules.specs.Fields.{withSensor, pointing, withWord, withConfiguration, withHigh, withLow, withCritical, withResolution, withTimeout, withPending}
 use Rattle.rules.specs.Fresh.{freshSensor, freshSlot, powered}
 use Rattle.rules.specs.Memory.{guarded, anyMark, pinOn}

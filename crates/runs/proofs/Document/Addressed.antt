@@ -6,7 +6,6 @@ use mathlib.Core.Path.{_≡_, refl}
 use mathlib.Core.Bool.{Bool, false, not}
 use mathlib.Core.List.{List, [], _∷_, _++_, map}
 use lib.Dec.{eqb}
-use lib.IntN.{ℤ}
 use lib.ListN.{getD, replicate}
 use Rattle.rules.specs.declared.Applied.{Applied}
 use Rattle.rules.specs.declared.SlotNo.{SlotNo}

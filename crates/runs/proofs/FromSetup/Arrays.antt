@@ -2,7 +2,7 @@
 -- Assumes nothing.
 use Prim.Native.Nat.{ℕ}
 use mathlib.Core.Path.{_≡_, refl, _∙_}
-use mathlib.Core.Bool.{Bool, true, false, not, _&&_}
+use mathlib.Core.Bool.{Bool, true, false}
 use mathlib.Core.List.{List}
 use lib.Dec.{eqb, leb}
 use lib.ListN.{length, length-set}
@@ -18,10 +18,10 @@ use Rattle.rules.specs.declared.Phase.the-variants.{Idle, Control, Deaf, Memory
 use Rattle.rules.specs.declared.Slot.{Slot}
 use Rattle.rules.specs.Open.{open-fields, open-memory}
 use Rattle.rules.specs.Fresh.{freshSlot, setupSlot, absentSlot, powered}
-use Rattle.rules.specs.Control.{heardOf, acksControl, obeyed, controlled, heardBy}
+use Rattle.rules.specs.Control.{acksControl, obeyed, controlled, heardBy}
 use Rattle.rules.specs.Memory.{guarded, anyMark, pinOn}
 use Rattle.rules.specs.Power.{powerCut}
-use Rattle.rules.specs.Slot.{commanding, standing, letGo, lost, pointer, firstByte, secondByte, byteIn, readIn, stopIn, switched, presentNext, slotNext}
+use Rattle.rules.specs.Slot.{standing, letGo, lost, pointer, firstByte, secondByte, byteIn, readIn, stopIn, switched, presentNext, slotNext}
 use Rattle.rules.specs.Refusals.{setupOf}
 use Rattle.rules.specs.Runs.{after}
 use Rattle.rules.proofs.Run.Cases.{next-cases, apply-cases, let-go-cases}

@@ -17,7 +17,7 @@ use Rattle.rules.specs.declared.Phase.the-variants.{Idle, Control, Deaf, Memory
 use Rattle.rules.specs.declared.Slot.{Slot}
 use Rattle.rules.specs.Open.{open-all}
 use Rattle.rules.specs.Fresh.{freshSlot, freshSensor, freshOlder}
-use Rattle.rules.specs.Control.{heardOf, heardBy}
+use Rattle.rules.specs.Control.{heardBy}
 use Rattle.rules.specs.Slot.{commanding, taking, standing, slotNext}
 use Rattle.rules.specs.Runs.{slotAfter}
 use Rattle.runs.proofs.FromSetup.Lasting.{fresh-lasts}

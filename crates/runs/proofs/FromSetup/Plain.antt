@@ -21,10 +21,10 @@ use Rattle.rules.specs.declared.Slot.{Slot}
 use Rattle.rules.specs.Modelled.{absent, sensing, older}
 use Rattle.rules.specs.Open.{open-fields, open-memory}
 use Rattle.rules.specs.Fresh.{freshSensor, freshSlot, setupSlot, absentSlot, powered}
-use Rattle.rules.specs.Control.{heardOf, acksHeard, acksControl, obeyed, controlled, heardBy}
+use Rattle.rules.specs.Control.{acksHeard, acksControl, obeyed, controlled, heardBy}
 use Rattle.rules.specs.Memory.{guarded, anyMark, brought, pinOn}
 use Rattle.rules.specs.Power.{powerCut}
-use Rattle.rules.specs.Slot.{withSensorIn, commanding, taking, standing, letGo, lost, byteIn, readIn, stopIn, switched, heated, presentNext, slotNext}
+use Rattle.rules.specs.Slot.{withSensorIn, commanding, taking, standing, letGo, lost, byteIn, readIn, stopIn, presentNext, slotNext}
 use Rattle.rules.specs.Refusals.{setupOf}
 use Rattle.rules.specs.Runs.{after}
 use Rattle.rules.proofs.Memory.Protection.{Decided, asBefore, asStands, byProtect, byClear, byLasting, protection-next, coming-next, kind-next}

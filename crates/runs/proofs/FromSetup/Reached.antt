@@ -26,7 +26,7 @@ use Rattle.rules.specs.Open.{open-fields, open-memory}
 use Rattle.rules.specs.Fields.{inPhase, atCounter, withVoltage, withSensor, holding}
 use Rattle.rules.specs.Fresh.{noBytes, noMarks, freshSlot, setupSlot, absentSlot, powered, freshSensor, freshOlder}
 use Rattle.rules.specs.Pin.{convertedWithPin}
-use Rattle.rules.specs.Control.{acksHeard, acksControl, heardOf, obeyed, controlled, protects, heardBy}
+use Rattle.rules.specs.Control.{acksHeard, acksControl, obeyed, controlled, protects, heardBy}
 use Rattle.rules.specs.Memory.{emptied, ended, cancelled, guarded, latching, fetched, anyMark, ticked, pinOn}
 use Rattle.rules.specs.Power.{powerCut}
 use Rattle.rules.specs.Slot.{withSensorIn, commanding, taking, standing, letGo, lost, pointer, firstByte, secondByte, byteIn, readIn, stopIn, switched, presentNext, slotNext, endures, applied, shielded}

@@ -25,7 +25,7 @@ use Rattle.rules.specs.Modelled.{absent, older}
 use Rattle.rules.specs.Open.{open-fields, open-memory, open-slot}
 use Rattle.rules.specs.Fields.{inPhase, withVoltage}
 use Rattle.rules.specs.Fresh.{noBlocks, noMarks, freshSlot, powered, absentSlot}
-use Rattle.rules.specs.Control.{heardOf, acksHeard, acksControl, controlled, heardBy}
+use Rattle.rules.specs.Control.{acksHeard, acksControl, controlled, heardBy}
 use Rattle.rules.specs.Memory.{anyMark, pinOn, brought}
 use Rattle.rules.specs.Power.{firstOf, powerCut}
 use Rattle.rules.specs.Slot.{commanding, standing, letGo, lost, byteIn, readIn, stopIn, acksIn, acks, presentNext, slotNext, partNext}

@@ -15,7 +15,7 @@ use Rattle.rules.specs.declared.Slot.{Slot}
 use Rattle.rules.specs.Modelled.{absent, sensing}
 use Rattle.rules.specs.Open.{open-fields}
 use Rattle.rules.specs.Fields.{inPhase}
-use Rattle.rules.specs.Control.{acksControl, heardOf, obeyed, controlled, heardBy}
+use Rattle.rules.specs.Control.{acksControl, obeyed, controlled, heardBy}
 use Rattle.rules.specs.Memory.{loaded, guarded, latching, dataByte, fetched}
 use Rattle.rules.specs.Slot.{withSensorIn, standing, lost, pointer, firstByte, secondByte, byteIn, readIn, presentNext, slotNext}
 use Rattle.rules.proofs.Memory.Protection.{still-present}

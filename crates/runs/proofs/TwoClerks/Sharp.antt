@@ -7,7 +7,7 @@ use mathlib.Core.Bool.{true, false}
 use mathlib.Core.List.{List, [], _∷_}
 use lib.IntN.{pos}
 use lib.ListN.{getD, replicate}
-use Rattle.rules.specs.declared.Applied.the-variants.{Voltage, Temperature}
+use Rattle.rules.specs.declared.Applied.the-variants.{Temperature}
 use Rattle.rules.specs.declared.Answer.{Answer}
 use Rattle.rules.specs.declared.Answer.the-variants.{Nothing, Ack, Data}
 use Rattle.rules.specs.Fresh.{absentSlot}

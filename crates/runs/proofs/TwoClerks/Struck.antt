@@ -20,7 +20,7 @@ use Rattle.rules.specs.Fields.{inPhase}
 use Rattle.rules.specs.Fresh.{freshSlot, powered}
 use Rattle.rules.specs.Memory.{emptied, ended, ticked}
 use Rattle.rules.specs.Power.{powerCut}
-use Rattle.rules.specs.Slot.{withSensorIn, standing, commanding, letGo, lost, byteIn, readIn, switched, presentNext, slotNext, partNext}
+use Rattle.rules.specs.Slot.{withSensorIn, standing, commanding, letGo, byteIn, readIn, presentNext, slotNext, partNext}
 use Rattle.rules.specs.Runs.{slotAfter, partAfter}
 use Rattle.runs.specs.Exchanges.{toldAlone, strayByte, strayRead, strayStop, timeout, tick, power, apply, Item, exchange, between, gapAct, upToStop, itemActs, struckGap, struck, strike, own}
 use Rattle.runs.proofs.TwoClerks.Classes.{struck-not-own}

@@ -75,7 +75,7 @@ last-length n = by-test (eqb n 0) (λ e. rw e (omega arith)) (λ e. rw e (omega 
 -- the bus of a refused setup is in range
 pub empty-in-range : inRange emptyBus ≡ true
 unfolding setupOf allOf goodPair
-empty-in-range = setup-in-range (record { kind = 3; length = 0 } ∷ [])
+empty-in-range = setup-in-range (record { kind = 4; length = 0 } ∷ [])
 
 -- past what has been filled stands what stood there
 filled-later : (d s : List ℕ) (k j : ℕ) → k ≤ length s → k ≤ j → getD (filled d s k) j 0 ≡ getD d j 0
