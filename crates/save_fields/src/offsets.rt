@@ -43,7 +43,7 @@ pub fn span(t: usize, slots: [Slot; 8]) -> usize
 
 // Where the field in row t begins: behind those in the rows before it.
 pub fn begins(t: usize, slots: [Slot; 8]) -> usize
-    requires { ⌜ t ≤ 5 ⌝ }
+    requires { ⌜ t ≤ 6 ⌝ }
     ensures { λ r. ⌜ r ≡ begins t slots ⌝ }
 {
     let mut at = 0;

@@ -1,16 +1,17 @@
 // A slot's share of each field of a saved form: how many bytes it is, put into a lent output, and read from a form. The table of fields stands in the
-// crate `save_rules`, and its rows are 0 to 4; the row of a field is its tag less 1.
+// crate `save_rules`, and its rows are 0 to 5; the row of a field is its tag less 1.
 ghost use mathlib.Core.Path.{_≡_};
 ghost use mathlib.Core.Bool.{cond};
-ghost use Prim.Native.Nat.{_+_, _≤_};
+ghost use Prim.Native.Nat.{_+_, min, _≤_};
 ghost use lib.Dec.{eqb};
 ghost use lib.ListN.{length, getD};
 ghost use lib.Seq.{sets};
-ghost use Rattle.rules.specs.Modelled.{absent, sensing};
-ghost use Rattle.rules.specs.Fields.{withSensor, withPending};
+ghost use Rattle.rules.specs.Modelled.{absent, sensing, older, bytesOf};
+ghost use Rattle.rules.specs.Fields.{withSensor, withPending, withOld};
 ghost use Rattle.rules.specs.Fresh.{setupSlot};
 ghost use Rattle.script_text.specs.Records.{pairAt};
-ghost use Rattle.save_rules.specs.Form.{wordOf, wordAt, bitsOf, bitsIn, stateFrom, registersTo, sensorFrom, fieldAt, shareOf};
+ghost use Rattle.save_rules.specs.Form.{wordOf, wordAt, bitsOf, bitsIn, stateFrom, registersTo, sensorFrom, olderByte, olderFrom, fieldAt, shareOf};
+use rules::Older;
 use rules::Pair;
 use rules::Sensor;
 use rules::Slot;
@@ -24,16 +25,19 @@ pub fn tag(t: usize) -> u8
         2 => 3,
         3 => 4,
         4 => 5,
+        5 => 6,
         _ => 1,
     }
 }
 
-// Whether a slot needs the field in row t: P5's every slot, the fifth one with a sensor in which a change is pending.
+// Whether a slot needs the field in row t: P5's every slot, the fifth one with a sensor in which a change is pending, the sixth an older one that is
+// permanently protected or has its pin on.
 pub fn needed(t: usize, s: Slot) -> bool
     ensures { λ r. ⌜ r ≡ fieldAt t .needed s ⌝ }
 {
     match t {
         4 => (s.kind == 2) & s.sensor.pending,
+        5 => (s.kind == 3) & (s.old.permanent | s.old.pin),
         _ => true,
     }
 }
@@ -45,15 +49,33 @@ fn choose(test: bool, yes: usize, no: usize) -> usize
     if test { yes } else { no }
 }
 
+// The smaller of two numbers.
+fn least(a: usize, b: usize) -> usize
+    ensures { λ r. ⌜ r ≡ min a b ⌝ }
+{
+    if a < b { a } else { b }
+}
+
+// The bytes of an older slot.
+const OLDER: usize = 256;
+
+// How many bytes of its 512 are a slot's own.
+fn own_bytes(kind: u8) -> usize
+    ensures { λ r. ⌜ r ≡ bytesOf kind ⌝ }
+{
+    choose(kind == 3, OLDER, Slot::BYTES)
+}
+
 // How many bytes a slot of a kind has in the field in row t.
 pub fn size(t: usize, kind: u8) -> usize
     ensures { λ r. ⌜ r ≡ fieldAt t .size kind ⌝ }
 {
     match t {
-        1 => choose(kind == 0, 0, Slot::BYTES),
+        1 => choose(kind == 0, 0, own_bytes(kind)),
         2 => choose(kind == 0, 0, 4),
         3 => choose(kind == 2, 15, 0),
         4 => choose(kind == 2, 1, 0),
+        5 => choose(kind == 3, 1, 0),
         _ => 2,
     }
 }
@@ -101,7 +123,7 @@ fn put_setup(s: Slot, memory: &[u8], out: &mut [u8], at: usize) -> usize
     script_text::letters::put_two(out, at, s.kind, s.length)
 }
 
-// Its memory.
+// Its memory: its own bytes.
 fn put_memory(s: Slot, memory: &[u8], out: &mut [u8], at: usize) -> usize
     requires { ⌜ at + length (shareOf 1 s (now memory)) ≤ length (now out) ⌝ }
     ensures { λ r. ⌜ (r ≡ at + length (shareOf 1 s (now (memory .entry))))
@@ -110,8 +132,9 @@ fn put_memory(s: Slot, memory: &[u8], out: &mut [u8], at: usize) -> usize
     if s.kind == 0 {
         return at;
     }
-    let to = at + memory.len();
-    bytes::copy(memory, &mut out[at..to]);
+    let n = least(memory.len(), own_bytes(s.kind));
+    let to = at + n;
+    bytes::copy(&memory[..n], &mut out[at..to]);
     to
 }
 
@@ -169,6 +192,25 @@ fn put_pending(s: Slot, memory: &[u8], out: &mut [u8], at: usize) -> usize
     script_text::letters::put_one(out, at, bit(s.sensor.pending))
 }
 
+// Whether an older slot is permanently protected, and its pin.
+fn older_byte(old: Older) -> u8
+    ensures { λ r. ⌜ r ≡ olderByte old ⌝ }
+{
+    bit(old.permanent) + 2 * bit(old.pin)
+}
+
+fn put_older(s: Slot, memory: &[u8], out: &mut [u8], at: usize) -> usize
+    requires { ⌜ at + length (shareOf 5 s (now memory)) ≤ length (now out) ⌝ }
+    ensures { λ r. ⌜ (r ≡ at + length (shareOf 5 s (now (memory .entry))))
+        × (now (out .exit) ≡ sets (now (out .entry)) at (shareOf 5 s (now (memory .entry)))) ⌝ }
+{
+    if s.kind != 3 {
+        return at;
+    }
+    let old = s.old;
+    script_text::letters::put_one(out, at, older_byte(old))
+}
+
 // A slot's share of the field in row t, with the slot's memory, put at a place; the place after it.
 pub fn put(t: usize, s: Slot, memory: &[u8], out: &mut [u8], at: usize) -> usize
     requires { ⌜ at + length (shareOf t s (now memory)) ≤ length (now out) ⌝ }
@@ -180,6 +222,7 @@ pub fn put(t: usize, s: Slot, memory: &[u8], out: &mut [u8], at: usize) -> usize
         2 => put_state(s, memory, out, at),
         3 => put_sensor(s, memory, out, at),
         4 => put_pending(s, memory, out, at),
+        5 => put_older(s, memory, out, at),
         _ => put_setup(s, memory, out, at),
     }
 }
@@ -224,12 +267,15 @@ fn read_state(form: &[u8], at: usize, s: Slot) -> Slot
     let half = byte_at(form, at + 1);
     let counter = byte_at(form, at + 2);
     let voltage = byte_at(form, at + 3) == 1;
+    let was = s.old;
+    let old = Older { lasting: false, ..was };
     Slot {
         half,
         counter,
         protection,
         coming: protection,
         voltage,
+        old,
         ..s
     }
 }
@@ -286,6 +332,22 @@ fn read_pending(form: &[u8], at: usize, s: Slot) -> Slot
     Slot { sensor, ..s }
 }
 
+// A slot with what is permanent there, and its pin, if it is an older one.
+fn read_older(form: &[u8], at: usize, s: Slot) -> Slot
+    ensures { λ r. ⌜ r ≡ cond (older s) (withOld (olderFrom (getD (now (form .entry)) at 0)) s) s ⌝ }
+{
+    if s.kind != 3 {
+        return s;
+    }
+    let v = byte_at(form, at);
+    let old = Older {
+        permanent: v % 2 == 1,
+        lasting: false,
+        pin: v / 2 % 2 == 1,
+    };
+    Slot { old, ..s }
+}
+
 // A slot with what its share of the field in row t, from a place of a form on, says of it.
 pub fn read(t: usize, form: &[u8], at: usize, s: Slot) -> Slot
     requires { ⌜ at ≤ 65520 ⌝ }
@@ -296,6 +358,7 @@ pub fn read(t: usize, form: &[u8], at: usize, s: Slot) -> Slot
         2 => read_state(form, at, s),
         3 => read_sensor(form, at, s),
         4 => read_pending(form, at, s),
+        5 => read_older(form, at, s),
         _ => read_setup(form, at),
     }
 }

@@ -9,27 +9,29 @@ use native.Mathlib.Omega.{arith}
 use borrow.Author.Tests.{eqb-true, eqb-false}
 use lib.Dec.{eqb}
 use lib.ListN.{length, getD, take, drop}
+use lib.Seq.{take-at}
 use Rattle.proof_lists.specs.Parts.{part}
 use Rattle.proof_lists.specs.Same.{same, same-eq, stands, stands-append, stands-none, stands-there, stands-whole}
 use Rattle.proof_lists.specs.Tests.{by-test}
 use Rattle.rules.specs.declared.Slot.{Slot}
 use Rattle.rules.specs.Modelled.{slotCount, slotBytes, memoryBytes, absent}
 use Rattle.rules.specs.Fresh.{absentSlot}
-use Rattle.save_rules.specs.Form.{wordOf, setupField, memoryField, stateField, sensorField, pendingField, fields, fieldCount, fieldAt, shareOf, shares, wholeField, isThere, fieldBytes, formTo}
+use Rattle.save_rules.specs.Form.{wordOf, setupField, memoryField, stateField, sensorField, pendingField, olderField, fields, fieldCount, fieldAt, shareOf, shares, wholeField, isThere, fieldBytes, formTo}
 use Rattle.save_rules.specs.Reading.{sizeIn, offset, span, begins, place, memoryRow, storedTo}
 use Rattle.save_rules.proofs.Places.{fixed-there, span-there, field-there, field-none, length-shares, length-form, share-within, begins-up}
-use Rattle.save_rules.proofs.Bytes.{length-stored, part-stored, whole-in}
+use Rattle.save_rules.proofs.Bytes.{ownBytes, bytesAt, overlaid, length-stored, part-stored, whole-in}
 use Rattle.save_restore.specs.Tallied.{shareTallies, sharesTally, headTallies, fieldTallies, fieldsTally, tallies}
 
 -- only the share of memory goes by the memory
 pub share-any : (t : ℕ) (s : Slot) (p q : List ℕ) → (t ≡ memoryRow → ⊥) → shareOf t s p ≡ shareOf t s q
-unfolding shareOf fieldAt fields setupField stateField sensorField pendingField
+unfolding shareOf fieldAt fields setupField stateField sensorField pendingField olderField
 share-any zero s p q h = refl
 share-any (suc zero) s p q h = absurd (h refl)
 share-any (suc (suc zero)) s p q h = refl
 share-any (suc (suc (suc zero))) s p q h = refl
 share-any (suc (suc (suc (suc zero)))) s p q h = refl
-share-any (suc (suc (suc (suc (suc t))))) s p q h = refl
+share-any (suc (suc (suc (suc (suc zero))))) s p q h = refl
+share-any (suc (suc (suc (suc (suc (suc t)))))) s p q h = refl
 
 module _ (ss : List Slot) (f m : List ℕ) (sized : length m ≡ memoryBytes) (whole : length f ≡ begins fieldCount ss) where
   -- the memory that the form has for these slots
@@ -46,10 +48,13 @@ module _ (ss : List Slot) (f m : List ℕ) (sized : length m ≡ memoryBytes) (w
       (λ a. rw a (stands-none f (place memoryRow k ss)))
       (λ a.
       let w : place memoryRow k ss + sizeIn memoryRow (getD ss k absentSlot) ≤ begins fieldCount ss = share-within ss memoryRow k (omega arith) (fixed-there memoryRow ss (omega arith)) h in
-      let s : sizeIn memoryRow (getD ss k absentSlot) ≡ slotBytes = unfold sizeIn fieldAt fields memoryField absent in rw a in
-      let p : part slotBytes k own ≡ take slotBytes (drop (place memoryRow k ss) f)
-      = part-stored f ss m sized slotCount k h (omega arith) (λ j i. whole-in f ss j (omega arith) i) ∙ ap (λ (b : Bool). cond b (part slotBytes k m) (take slotBytes (drop (place memoryRow k ss) f))) a in
-      rw a (ap (λ (l : List ℕ). stands l f (place memoryRow k ss)) p ∙ stands-there slotBytes f (place memoryRow k ss) (omega arith)))
+      let n : ℕ = ownBytes ss k in
+      let s : sizeIn memoryRow (getD ss k absentSlot) ≡ n = unfold sizeIn fieldAt fields memoryField absent in rw a in
+      let p : part slotBytes k own ≡ overlaid f ss m k
+      = part-stored f ss m sized slotCount k h (omega arith) (λ j i. whole-in f ss j (omega arith) i) ∙ ap (λ (b : Bool). cond b (part slotBytes k m) (overlaid f ss m k)) a in
+      let q : take n (part slotBytes k own) ≡ bytesAt f ss k
+      = ap (take n) p ∙ take-at (bytesAt f ss k) (drop n (part slotBytes k m)) n (whole-in f ss k (omega arith) h a) in
+      rw a (ap (λ (l : List ℕ). stands l f (place memoryRow k ss)) q ∙ stands-there n f (place memoryRow k ss) (omega arith)))
 
   share-tallies : (t k : ℕ) → k < slotCount
       → shareTallies t (getD ss k absentSlot) f (place t k ss) ≡ stands (shareOf t (getD ss k absentSlot) (part slotBytes k own)) f (place t k ss)

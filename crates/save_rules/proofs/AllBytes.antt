@@ -1,5 +1,5 @@
 -- A form in full, byte by byte, and what is refused of it: a bench with a memory in slot 0 and a memory with sensor in slot 2, without a pending change, so
--- as P5 has it, and P8's field 5 with three sensors; and the longest form.
+-- as P5 has it; P8's field 5 with three sensors; P9's field 6 with three older slots, and field 5 before it; and the longest form.
 -- Assumes nothing.
 use Prim.Native.Nat.{ℕ, _+_, _/_, _%_}
 use mathlib.Core.Path.{_≡_, refl}
@@ -17,7 +17,7 @@ use Rattle.rules.specs.Modelled.{memoryBytes}
 use Rattle.rules.specs.Events.{refusalNumber}
 use Rattle.rules.specs.Refusals.{wrongLength}
 use Rattle.rules.specs.Fields.{inPhase, withLeft, pointing, withConfiguration, withPending}
-use Rattle.rules.specs.Fresh.{noBlocks, freshSensor, absentSlot, atRest}
+use Rattle.rules.specs.Fresh.{noBlocks, freshSensor, freshOlder, absentSlot, atRest}
 use Rattle.save_rules.specs.declared.Saved.{Saved}
 use Rattle.save_rules.specs.declared.Saved.the-variants.{Form, Refused}
 use Rattle.save_rules.specs.Form.{formOf}
@@ -30,10 +30,10 @@ abbrev registers : Sensor
 registers = record { pointer = 5; configuration = 0x0241; high = 0x0500; low = 0x0104; critical = 0x0640; temperature = 0xC190; resolution = 3; timeout = 1; word = 0; pending = false }
 
 abbrev memoryOne : Slot
-memoryOne = atRest 1 3 1 0x80 (false ∷ true ∷ false ∷ false ∷ []) false freshSensor
+memoryOne = atRest 1 3 1 0x80 (false ∷ true ∷ false ∷ false ∷ []) false freshSensor freshOlder
 
 abbrev sampleBus : Bus
-sampleBus = record { slots = memoryOne ∷ absentSlot ∷ atRest 2 5 0 0x07 (true ∷ false ∷ true ∷ false ∷ []) true registers ∷ replicate 5 absentSlot }
+sampleBus = record { slots = memoryOne ∷ absentSlot ∷ atRest 2 5 0 0x07 (true ∷ false ∷ true ∷ false ∷ []) true registers freshOlder ∷ replicate 5 absentSlot }
 
 -- memory: A0h, A1h, A2h in slots 0, 1 and 2
 abbrev pub sampleMemory : List ℕ
@@ -66,7 +66,7 @@ sample = record { form = refl; saved = refl; accepts = refl; bus = refl; memory 
 -- the last. "tag 5, a byte for each sensor, 1 if a change is pending": all before it is as it is for the same bench with nothing pending, which has no such
 -- field ("present only when one is 1") and is read as it stands.
 abbrev sensing : Bool → Slot
-sensing on = atRest 2 5 0 0x07 (true ∷ false ∷ true ∷ false ∷ []) true (withPending on (withConfiguration 0x0249 registers))
+sensing on = atRest 2 5 0 0x07 (true ∷ false ∷ true ∷ false ∷ []) true (withPending on (withConfiguration 0x0249 registers)) freshOlder
 
 abbrev pub threeBus : Bool → Bool → Bool → Bus
 threeBus p q r = record { slots = memoryOne ∷ absentSlot ∷ sensing p ∷ absentSlot ∷ absentSlot ∷ sensing q ∷ absentSlot ∷ sensing r ∷ [] }
@@ -91,6 +91,48 @@ pub record Three : Type 0 where
 pub three : Three
 unfolding open-saved
 three = record { before = refl; form = refl; bus-before = refl; bus = refl; other = refl }
+
+-- P9: three older slots, 0, 6 and 7: the first protected for ever, the last with its write-protect pin on; and a sensor in slot 1, with a change pending or
+-- not. "256 bytes (so many in tag 2)"; "tag 6, a byte for each such slot (bit 0 permanent, bit 1 pin)", behind field 5 if that is there.
+abbrev olderSlot : ℕ → Bool → Bool → Slot
+olderSlot counter p w = atRest 3 4 0 counter (p ∷ false ∷ false ∷ false ∷ []) false freshSensor (record { permanent = p; lasting = false; pin = w })
+
+abbrev pub olderBus : Bool → Bool → Bool → Bus
+olderBus on p w = record { slots = olderSlot 0x10 p false ∷ sensing on ∷ replicate 4 absentSlot ++ olderSlot 0x20 false false ∷ olderSlot 0x30 false w ∷ [] }
+
+-- memory: in slots 0, 6 and 7 B0h, C0h, D0h below and B1h, C1h, D1h above, in slot 1 A1h
+abbrev halves : ℕ → ℕ → List ℕ
+halves a b = replicate 256 a ++ replicate 256 b
+
+abbrev pub olderMemory : List ℕ
+olderMemory = halves 0xB0 0xB1 ++ replicate 512 0xA1 ++ replicate 2048 0xFF ++ halves 0xC0 0xC1 ++ halves 0xD0 0xD1
+
+abbrev pub olderForm : ℕ → List ℕ
+olderForm p =
+    (0x01 ∷ 0x00 ∷ 0x10 ∷ 3 ∷ 4 ∷ 2 ∷ 5 ∷ []) ++ replicate 8 0 ++ (3 ∷ 4 ∷ 3 ∷ 4 ∷ [])
+    ++ (0x02 ∷ 0x05 ∷ 0x00 ∷ []) ++ replicate 256 0xB0 ++ replicate 512 0xA1 ++ replicate 256 0xC0 ++ replicate 256 0xD0
+    ++ (0x03 ∷ 0x00 ∷ 0x10 ∷ p ∷ 0 ∷ 0x10 ∷ 0 ∷ 0x05 ∷ 0 ∷ 0x07 ∷ 1 ∷ 0x00 ∷ 0 ∷ 0x20 ∷ 0 ∷ 0x00 ∷ 0 ∷ 0x30 ∷ 0 ∷ [])
+    ++ (0x04 ∷ 0x00 ∷ 0x0F ∷ 0x05 ∷ 0x02 ∷ 0x49 ∷ 0x05 ∷ 0x00 ∷ 0x01 ∷ 0x04 ∷ 0x06 ∷ 0x40 ∷ 0xC1 ∷ 0x90 ∷ 0x00 ∷ 0x03 ∷ 0x00 ∷ 0x01 ∷ [])
+
+abbrev pub five-of-one : List ℕ
+five-of-one = 0x05 ∷ 0x00 ∷ 0x01 ∷ 1 ∷ []
+
+abbrev pub six-of-three : List ℕ
+six-of-three = 0x06 ∷ 0x00 ∷ 0x03 ∷ 0x01 ∷ 0x00 ∷ 0x02 ∷ []
+
+pub record Olders : Type 0 where
+  pub neither : formOf (olderBus false false false) olderMemory ≡ olderForm 0
+  pub six : formOf (olderBus false true true) olderMemory ≡ olderForm 1 ++ six-of-three
+  pub both : formOf (olderBus true true true) olderMemory ≡ olderForm 1 ++ five-of-one ++ six-of-three
+  pub bus-neither : busIn (olderForm 0) ≡ olderBus false false false
+  pub bus-six : busIn (olderForm 1 ++ six-of-three) ≡ olderBus false true true
+  pub bus-both : busIn (olderForm 1 ++ five-of-one ++ six-of-three) ≡ olderBus true true true
+  -- the upper 256 bytes of an older slot stay as they are in the memory that is read into
+  pub memory : memoryIn (olderForm 1 ++ six-of-three) blank ≡ halves 0xB0 0 ++ replicate 512 0xA1 ++ replicate 2048 0 ++ halves 0xC0 0 ++ halves 0xD0 0
+
+pub olders : Olders
+unfolding open-saved
+olders = record { neither = refl; six = refl; both = refl; bus-neither = refl; bus-six = refl; bus-both = refl; memory = refl }
 
 -- Saving refused: slot 1, which is present, in a write cycle or in an exchange; with these a wrong memory and a number out of range come first; and a buffer
 -- that is one byte short comes last. An absent slot may be in any phase.
@@ -131,6 +173,19 @@ pinned = set sensor 5 0x49
 abbrev five : List ℕ
 five = 0x05 ∷ 0x00 ∷ 0x01 ∷ 0x01 ∷ []
 
+-- the form of a bench with an older slot in slot 0 alone: protected for ever, its pin on
+abbrev pairsOlder : List ℕ
+pairsOlder = set pairs 3 3
+
+abbrev bytesOlder : List ℕ
+bytesOlder = 0x02 ∷ 0x01 ∷ 0x00 ∷ replicate 256 0xFF
+
+abbrev stateOlder : List ℕ
+stateOlder = 0x03 ∷ 0x00 ∷ 0x04 ∷ 0x01 ∷ 0 ∷ 0xFF ∷ 1 ∷ []
+
+abbrev six : List ℕ
+six = 0x06 ∷ 0x00 ∷ 0x01 ∷ 0x03 ∷ []
+
 -- and that of a bench without slots, whose other fields are empty
 abbrev noPairs : List ℕ
 noPairs = 0x01 ∷ 0x00 ∷ 0x10 ∷ replicate 16 0
@@ -147,6 +202,9 @@ pub record Table : Type 0 where
   pub no-slot : accepted (noPairs ++ empty 2 ++ empty 3 ++ empty 4) blank ≡ true
   pub not-pending : accepted (pairs ++ bytes ++ state ++ pinned) blank ≡ true
   pub is-pending : accepted (pairs ++ bytes ++ state ++ pinned ++ five) blank ≡ true
+  pub for-ever : accepted (pairsOlder ++ bytesOlder ++ stateOlder ++ empty 4 ++ six) blank ≡ true
+  pub only-protected : accepted (pairsOlder ++ bytesOlder ++ stateOlder ++ empty 4) blank ≡ true
+  pub only-pin : accepted (pairsOlder ++ bytesOlder ++ set stateOlder 3 0x00 ++ empty 4 ++ set six 3 0x02) blank ≡ true
   -- tags
   pub wrong-tag : Departs (set pairs 0 0x05 ++ bytes ++ state ++ sensor)
   pub wrong-order : Departs (noPairs ++ empty 2 ++ empty 4 ++ empty 3)
@@ -160,7 +218,7 @@ pub record Table : Type 0 where
   pub nothing : Departs []
   -- the setup pairs: an absent slot's length, a kind and a present slot's length out of range
   pub absent-length : Departs (set pairs 6 0x01 ++ bytes ++ state ++ sensor)
-  pub unknown-kind : Departs (set pairs 5 0x03 ++ bytes ++ state ++ sensor)
+  pub unknown-kind : Departs (set pairs 3 0x04 ++ bytes ++ state ++ empty 4)
   pub long : Departs (set pairs 4 0x06 ++ bytes ++ state ++ sensor)
   pub no-length : Departs (set pairs 4 0x00 ++ bytes ++ state ++ sensor)
   -- the state: protection above 15, half 2, high voltage 2
@@ -189,6 +247,21 @@ pub record Table : Type 0 where
   pub five-cut : Departs (pairs ++ bytes ++ state ++ pinned ++ take 3 five)
   pub behind-five : Departs (pairs ++ bytes ++ state ++ pinned ++ five ++ 0x00 ∷ [])
   pub tag-6 : Departs (pairs ++ bytes ++ state ++ pinned ++ set five 0 0x06)
+  -- field 6: a byte above 3, of zeros, in a form without an older slot, or with nothing in it; its length wrong; cut short; with a byte behind it
+  pub above-3 : Departs (pairsOlder ++ bytesOlder ++ stateOlder ++ empty 4 ++ set six 3 0x07)
+  pub six-zeros : Departs (pairsOlder ++ bytesOlder ++ stateOlder ++ empty 4 ++ set six 3 0x00)
+  pub no-older : Departs (pairs ++ bytes ++ state ++ sensor ++ six)
+  pub six-empty : Departs (pairs ++ bytes ++ state ++ sensor ++ empty 6)
+  pub six-length : Departs (pairsOlder ++ bytesOlder ++ stateOlder ++ empty 4 ++ set six 2 0x02)
+  pub six-cut : Departs (pairsOlder ++ bytesOlder ++ stateOlder ++ empty 4 ++ take 3 six)
+  pub behind-six : Departs (pairsOlder ++ bytesOlder ++ stateOlder ++ empty 4 ++ six ++ 0x00 ∷ [])
+  -- of an older slot: permanent without protection; a bit of protection that is not bit 0; half 1; a field 5; 512 bytes, and of another kind 256
+  pub not-protected : Departs (pairsOlder ++ bytesOlder ++ set stateOlder 3 0x00 ++ empty 4 ++ six)
+  pub another-bit : Departs (pairsOlder ++ bytesOlder ++ set stateOlder 3 0x03 ++ empty 4)
+  pub upper-half : Departs (pairsOlder ++ bytesOlder ++ set stateOlder 4 1 ++ empty 4)
+  pub pending-older : Departs (pairsOlder ++ bytesOlder ++ stateOlder ++ empty 4 ++ five)
+  pub too-many : Departs (pairsOlder ++ bytes ++ stateOlder ++ empty 4)
+  pub too-few : Departs (set pairs 3 1 ++ bytesOlder ++ state ++ empty 4)
   -- "bit 4 reads whether the pin is asserted (saved as 0)"; and bit 5
   pub pin-saved : Departs (pairs ++ bytes ++ state ++ set sensor 5 0x59 ++ five)
   pub clear-saved : Departs (pairs ++ bytes ++ state ++ set sensor 5 0x69 ++ five)
@@ -200,6 +273,9 @@ departures = record {
   no-slot = refl;
   not-pending = refl;
   is-pending = refl;
+  for-ever = refl;
+  only-protected = refl;
+  only-pin = refl;
   wrong-tag = refl;
   wrong-order = refl;
   twice = refl;
@@ -234,6 +310,19 @@ departures = record {
   five-cut = refl;
   behind-five = refl;
   tag-6 = refl;
+  above-3 = refl;
+  six-zeros = refl;
+  no-older = refl;
+  six-empty = refl;
+  six-length = refl;
+  six-cut = refl;
+  behind-six = refl;
+  not-protected = refl;
+  another-bit = refl;
+  upper-half = refl;
+  pending-older = refl;
+  too-many = refl;
+  too-few = refl;
   pin-saved = refl;
   clear-saved = refl;
 }
@@ -294,7 +383,7 @@ numbers = refl
 -- places have the same bytes in all slots. Every field has the slots in their order, and the memory has each slot's bytes in theirs. With nothing pending it is the
 -- longest that P5 has.
 abbrev numbered : Bool → ℕ → Slot
-numbered on k = atRest 2 5 0 k noBlocks false (withPending on (withConfiguration 0x0009 (pointing k freshSensor)))
+numbered on k = atRest 2 5 0 k noBlocks false (withPending on (withConfiguration 0x0009 (pointing k freshSensor))) freshOlder
 
 abbrev fullBus : Bus
 fullBus = record { slots = numbered true 0 ∷ numbered true 1 ∷ numbered false 2 ∷ numbered true 3 ∷ numbered false 4 ∷ numbered false 5 ∷ numbered false 6 ∷ numbered true 7 ∷ [] }

@@ -1,4 +1,4 @@
--- Request P5: "What was saved reads back the same, the rest as fresh, absent slots' bytes untouched".
+-- Request P5: "What was saved reads back the same, the rest as fresh, absent slots' bytes untouched"; and P9's upper 256 bytes of an older slot.
 -- Assumes nothing.
 use Prim.Native.Nat.{ℕ, zero, suc, _+_, _≤_, _<_}
 use native.Mathlib.Omega.{arith}
@@ -6,8 +6,8 @@ use mathlib.Core.Path.{_≡_, refl, sym, _∙_, ap, ap₂}
 use mathlib.Core.Bool.{Bool, true, false, cond}
 use mathlib.Core.List.{List, map, _++_}
 use lib.Dec.{eqb}
-use lib.ListN.{length, getD, take, drop, getD-replicate, length-map, List·getD-map}
-use lib.Seq.{ext-getD, take-append-seam}
+use lib.ListN.{length, getD, take, drop, length-take, getD-replicate, length-map, List·getD-map}
+use lib.Seq.{ext-getD, take-all, take-at, drop-at, take-append-seam}
 use borrow.Author.Tests.{eq-eqb, le-ltb}
 use Rattle.proof_lists.specs.Alike.{allOf-map}
 use Rattle.proof_lists.specs.Each.{allOf-at, every-at}
@@ -17,7 +17,7 @@ use Rattle.proof_lists.specs.Tests.{by-test, both}
 use Rattle.rules.specs.declared.Answer.the-variants as answer
 use Rattle.rules.specs.declared.Bus.{Bus}
 use Rattle.rules.specs.declared.Slot.{Slot}
-use Rattle.rules.specs.Modelled.{slotCount, slotBytes, memoryBytes, absent}
+use Rattle.rules.specs.Modelled.{slotCount, slotBytes, memoryBytes, absent, older, bytesOf}
 use Rattle.rules.specs.Fresh.{freshSlot, absentSlot}
 use Rattle.rules.specs.Refusals.{wrongLength, slotInRange, inRange}
 use Rattle.rules.proofs.Range.Kept.{InRange, facts, test}
@@ -27,9 +27,9 @@ use Rattle.save_rules.specs.Form.{fieldCount, fieldAt, shareOf, isThere,
 use Rattle.save_rules.specs.Saving.{allQuiet, saveOf, savedValue}
 use Rattle.save_rules.specs.Reading.{sizeIn, begins, place, tagged, readTo, busIn, memoryRow, memoryIn, accepted, restoreOf}
 use Rattle.save_rules.specs.Rested.{rested, restedBus, Typed}
-use Rattle.save_rules.proofs.Places.{none-asks, tagged-there, share-at, bytes-of-form, length-form, SameSize, SameNeed, same-there, same-begins, same-tagged, same-place, begins-by-kinds, place-by-kinds, same-form, length-readTo, read-at, not-read}
+use Rattle.save_rules.proofs.Places.{bytes-most, length-own, none-asks, tagged-there, share-at, bytes-of-form, length-form, SameSize, SameNeed, same-there, same-begins, same-tagged, same-place, begins-by-kinds, place-by-kinds, same-form, length-readTo, read-at, not-read}
 use Rattle.save_rules.proofs.Stages.{stage, stage-next, stage-same, stage-size, stage-needs, share-rested, rested-in-range, rested-kind, rested-needs}
-use Rattle.save_rules.proofs.Bytes.{part-read}
+use Rattle.save_rules.proofs.Bytes.{length-read, part-read}
 
 -- what is kept of an absent slot is an absent slot
 rested-absent : rested absentSlot ≡ absentSlot
@@ -125,15 +125,39 @@ module _ (b : Bus) (m : List ℕ) (typed : Typed b) (ranged : inRange b ≡ true
       begins-by-kinds rs ss kind-back fieldCount (λ u l. same-there rs ss u (need-back u)) ∙ sym (length-form ss m sized fieldCount)
 
   module _ (n : List ℕ) (wide : length n ≡ memoryBytes) where
-    -- the bytes of present slots as they were saved, "absent slots' bytes untouched"
-    part-back : (k : ℕ) → k < slotCount → part slotBytes k (memoryIn (formOf b m) n) ≡ cond (absent (slot k)) (part slotBytes k n) (part slotBytes k m)
+    -- of present slots their own bytes as they were saved, "absent slots' bytes untouched"
+    abbrev own : ℕ → ℕ
+    own k = bytesOf ((slot k) .kind)
+
+    abbrev joined : ℕ → List ℕ
+    joined k = take (own k) (part slotBytes k m) ++ drop (own k) (part slotBytes k n)
+
+    part-back : (k : ℕ) → k < slotCount → part slotBytes k (memoryIn (formOf b m) n) ≡ cond (absent (slot k)) (part slotBytes k n) (joined k)
     part-back k h =
         let rs = busIn (formOf b m) .slots in
-        let a : absent (getD rs k absentSlot) ≡ absent (slot k) = unfold absent in ap (λ (j : ℕ). eqb j 0) (kind-back k h) in
         let p : place memoryRow k rs ≡ place memoryRow k ss = place-by-kinds rs ss kind-back memoryRow k (omega arith) (λ u l. need-back u) in
+        let a : absent (getD rs k absentSlot) ≡ absent (slot k) = unfold absent in ap (λ (j : ℕ). eqb j 0) (kind-back k h) in
+        let w : absent (slot k) ≡ false → take (own k) (drop (place memoryRow k ss) (formOf b m)) ≡ take (own k) (part slotBytes k m)
+        = unfold formOf in bytes-of-form ss m sized k h in
         part-read (formOf b m) n k wide (omega (arith, length-back)) h
-        ∙ ap₂ (λ (c : Bool) (at : ℕ). cond c (part slotBytes k n) (take slotBytes (drop at (formOf b m)))) a p
-        ∙ by-test (absent (slot k)) (λ e. rw e) (λ e. rw e (unfold formOf in bytes-of-form ss m sized k h e))
+        ∙ (λ i. cond (a i) (part slotBytes k n) (take (bytesOf (kind-back k h i)) (drop (p i) (formOf b m)) ++ drop (bytesOf (kind-back k h i)) (part slotBytes k n)))
+        ∙ by-test (absent (slot k))
+        (λ e. rw e)
+        (λ e. rw e (ap (λ (l : List ℕ). l ++ drop (own k) (part slotBytes k n)) (w e)))
+
+    -- so, the one and the other
+    length-saved : (k : ℕ) → k < slotCount → length (take (own k) (part slotBytes k m)) ≡ own k
+    length-saved k h = rw length-take (omega (arith, bytes-most ((slot k) .kind), length-own k m h sized))
+
+    own-back : (k : ℕ) → k < slotCount → absent (slot k) ≡ false → take (own k) (part slotBytes k (memoryIn (formOf b m) n)) ≡ take (own k) (part slotBytes k m)
+    own-back k h e =
+        ap (take (own k)) (part-back k h ∙ rw e)
+        ∙ take-at (take (own k) (part slotBytes k m)) (drop (own k) (part slotBytes k n)) (own k) (length-saved k h)
+
+    over-back : (k : ℕ) → k < slotCount → absent (slot k) ≡ false → drop (own k) (part slotBytes k (memoryIn (formOf b m) n)) ≡ drop (own k) (part slotBytes k n)
+    over-back k h e =
+        ap (drop (own k)) (part-back k h ∙ rw e)
+        ∙ drop-at (take (own k) (part slotBytes k m)) (drop (own k) (part slotBytes k n)) (own k) (length-saved k h)
 
     -- what was read is written as what was saved
     form-back : formOf (busIn (formOf b m)) (memoryIn (formOf b m) n) ≡ formOf b m
@@ -141,7 +165,7 @@ module _ (b : Bus) (m : List ℕ) (typed : Typed b) (ranged : inRange b ≡ true
     form-back =
         same-form (busIn (formOf b m) .slots) ss (memoryIn (formOf b m) n) m fieldCount
         (λ t k h. ap (λ (s : Slot). shareOf t s (part slotBytes k (memoryIn (formOf b m) n))) (slot-back k)
-        ∙ share-rested t (slot k) (part slotBytes k m) _ (in-range k h) (λ a. part-back k h ∙ rw a))
+        ∙ share-rested t (slot k) (part slotBytes k m) _ (in-range k h) (own-back k h))
         need-back
 
     range-back : inRange (busIn (formOf b m)) ≡ true
@@ -157,16 +181,29 @@ module _ (b : Bus) (m : List ℕ) (typed : Typed b) (ranged : inRange b ≡ true
 pub record ReadsBack (b : Bus) (m n : List ℕ) : Type 0 where
   pub accepts : accepted (formOf b m) n ≡ true
   pub bus : busIn (formOf b m) ≡ restedBus b
-  pub present : (k : ℕ) → k < slotCount → absent (getD (b .slots) k absentSlot) ≡ false → part slotBytes k (memoryIn (formOf b m) n) ≡ part slotBytes k m
+  pub own : (k : ℕ) → k < slotCount → absent (getD (b .slots) k absentSlot) ≡ false
+      → take (bytesOf ((getD (b .slots) k absentSlot) .kind)) (part slotBytes k (memoryIn (formOf b m) n))
+      ≡ take (bytesOf ((getD (b .slots) k absentSlot) .kind)) (part slotBytes k m)
+  pub over : (k : ℕ) → k < slotCount → absent (getD (b .slots) k absentSlot) ≡ false
+      → drop (bytesOf ((getD (b .slots) k absentSlot) .kind)) (part slotBytes k (memoryIn (formOf b m) n))
+      ≡ drop (bytesOf ((getD (b .slots) k absentSlot) .kind)) (part slotBytes k n)
+  pub present : (k : ℕ) → k < slotCount → absent (getD (b .slots) k absentSlot) ≡ false → older (getD (b .slots) k absentSlot) ≡ false
+      → part slotBytes k (memoryIn (formOf b m) n) ≡ part slotBytes k m
   pub untouched : (k : ℕ) → k < slotCount → absent (getD (b .slots) k absentSlot) ≡ true → part slotBytes k (memoryIn (formOf b m) n) ≡ part slotBytes k n
 
 -- What is saved of a bench in range reads back: it is accepted, whatever memory it is read into; every present slot comes back as what a form keeps of
--- it, with its bytes; and the bytes of absent slots stay.
+-- it, with its own bytes, which are all 512 of a slot that is no older one; and every other byte, of absent slots and of older ones, stays.
 pub reads-back : (b : Bus) (m n : List ℕ) → Typed b → inRange b ≡ true → length m ≡ memoryBytes → length n ≡ memoryBytes → ReadsBack b m n
 reads-back b m n t r l w = record {
   accepts = accepted-back b m t r l n w;
   bus = bus-back b m t r l;
-  present = λ k h a. part-back b m t r l n w k h ∙ rw a;
+  own = own-back b m t r l n w;
+  over = over-back b m t r l n w;
+  present = λ k h a o.
+      let all : bytesOf ((getD (b .slots) k absentSlot) .kind) ≡ slotBytes = unfold bytesOf older in rw o in
+      sym (take-all slotBytes _ (omega (arith, length-own k (memoryIn (formOf b m) n) h (length-read (formOf b m) n ∙ w))))
+      ∙ (rw all at (own-back b m t r l n w k h a))
+      ∙ take-all slotBytes _ (omega (arith, length-own k m h l));
   untouched = λ k h a. part-back b m t r l n w k h ∙ rw a;
 }
 

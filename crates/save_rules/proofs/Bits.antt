@@ -58,6 +58,21 @@ unfolding bitsOf
 bits-small [] = omega arith
 bits-small (b ∷ bs) = let i = bits-small bs in let c = bit-small b in rw pow-suc (omega arith)
 
+-- four blocks of which only the first may be protected: that one tells them, and their byte is it
+pub only-first : (bs : List Bool) → length bs ≡ 4 → getD bs 1 false ≡ false → getD bs 2 false ≡ false → getD bs 3 false ≡ false
+    → bs ≡ getD bs 0 false ∷ false ∷ false ∷ false ∷ []
+only-first [] l x y z = absurd (omega arith)
+only-first (a ∷ []) l x y z = absurd (omega arith)
+only-first (a ∷ b ∷ []) l x y z = absurd (omega arith)
+only-first (a ∷ b ∷ c ∷ []) l x y z = absurd (omega arith)
+only-first (a ∷ b ∷ c ∷ d ∷ []) l x y z = λ i. a ∷ x i ∷ y i ∷ z i ∷ []
+only-first (a ∷ b ∷ c ∷ d ∷ e ∷ r) l x y z = absurd (omega arith)
+
+pub first-bit : (b : Bool) → bitsOf (b ∷ false ∷ false ∷ false ∷ []) ≡ cond b 1 0
+unfolding bitsOf
+first-bit true = refl
+first-bit false = refl
+
 -- a register of which only some bits are kept is no greater than these
 pub kept-small : (bits v : ℕ) → keptIn bits v ≡ true → v ≤ bits
 unfolding keptIn

@@ -1,36 +1,37 @@
 -- Request P5: "Reading refuses a wrong memory length with 1, then every departure or number out of range with 10, and leaves state and memory." What an
 -- accepted form has at each place, so that a form which has anything else there is refused; and that nothing may stand behind it or be missing, but for
--- P8's field 5, without which it is another bench's.
+-- P8's field 5 and P9's field 6, without which it is another bench's.
 -- Assumes nothing.
 use Prim.Native.Nat.{ℕ, zero, suc, _+_, _*_, _/_, _%_, _^_, _≤_, _<_}
 use native.Mathlib.Nat.{add-zero, add-assoc}
 use native.Mathlib.Omega.{arith}
 use mathlib.Core.Logic.{_⊎_, inl, inr, ⊎-elim}
 use mathlib.Core.Path.{_≡_, refl, sym, _∙_, ap, ap₂}
-use mathlib.Core.Bool.{Bool, true, false, false≢true, not, cond}
-use mathlib.Core.List.{List, [], _∷_, _++_}
+use mathlib.Core.Bool.{Bool, true, false, false≢true, not, cond, _||_}
+use mathlib.Core.List.{List, [], _∷_, _++_, append-assoc}
 use lib.Dec.{eqb, ltb}
 use lib.ListN.{length, getD, drop, length-append, drop-of-length-le, List·getD-append}
 use lib.Seq.{drop-append-seam}
 use borrow.Author.Tests.{eqb-true, eqb-false, eq-eqb, ne-eqb, leb-true, ltb-true, ltb-false}
 use Rattle.proof_lists.specs.Each.{allOf-at, every-at}
 use Rattle.proof_lists.specs.Parts.{part}
-use Rattle.proof_lists.specs.Tests.{by-test, and-left, and-right, both}
+use Rattle.proof_lists.specs.Tests.{by-test, and-left, and-right, both, or-left-false, or-right-false}
 use Rattle.rules.specs.declared.Answer.the-variants as answer
 use Rattle.rules.specs.declared.Bus.{Bus}
 use Rattle.rules.specs.declared.Refusal.the-variants.{MemoryLength, WrongForm}
 use Rattle.rules.specs.declared.Sensor.{Sensor}
 use Rattle.rules.specs.declared.Slot.{Slot}
-use Rattle.rules.specs.Modelled.{slotCount, slotBytes, memoryBytes, absent, sensing}
+use Rattle.rules.specs.Modelled.{slotCount, slotBytes, memoryBytes, absent, sensing, older}
 use Rattle.rules.specs.Events.{refusalNumber, valueOf}
 use Rattle.rules.specs.Fresh.{absentSlot}
 use Rattle.rules.specs.Pin.{canPend}
 use Rattle.rules.specs.Sensor.{configurationBits, registerOf}
 use Rattle.rules.specs.Refusals.{goodLength, wrongLength, keptIn, sensorInRange, slotInRange, inRange}
 use Rattle.rules.proofs.Range.Kept.{InRange, facts}
-use Rattle.save_rules.specs.Form.{wordOf, wordAt, bitsOf, setupField, stateBytes, stateField, registersTo, sensorBytes, sensorField, pendingField, fields, fieldCount, fixedCount, fieldAt, shareOf, wholeField, isThere, fieldBytes, formTo, formOf}
+use Rattle.rules.proofs.Range.Olders.{Alone}
+use Rattle.save_rules.specs.Form.{wordOf, wordAt, bitsOf, setupField, stateBytes, stateField, registersTo, sensorBytes, sensorField, pendingField, olderByte, olderField, fields, fieldCount, fixedCount, fieldAt, shareOf, wholeField, isThere, fieldBytes, formTo, formOf}
 use Rattle.save_rules.specs.Reading.{sizeIn, offset, span, begins, place, tagged, busIn, memoryIn, restored, accepted, restoreOf}
-use Rattle.save_rules.proofs.Bits.{bit-small, bits-small, not-kept}
+use Rattle.save_rules.proofs.Bits.{bit-small, bits-small, only-first, first-bit, not-kept}
 use Rattle.save_rules.proofs.Places.{tags, Asks, who-asks, none-asks, span-there, span-none, fixed-there, begins-up, field-there, length-form, high-at, low-at, tagged-there, share-at, share-within, offset-most, same-tagged, same-place, begins-by-kinds}
 use Rattle.save_rules.proofs.Stages.{resolution-small, timeout-small, length-zero, word-back}
 use Rattle.save_rules.proofs.Once.{typed-read, accepted-in-range, written-again, length-restored, accepted-length}
@@ -56,14 +57,17 @@ slotIn f k = getD (busIn f .slots) k absentSlot
 abbrev pub placeIn : List ℕ → ℕ → ℕ → ℕ
 placeIn f t k = place t k (busIn f .slots)
 
--- how many of slots 0 to k - 1 have a sensor
-unfoldable pub sensorsTo : ℕ → List Slot → ℕ
-sensorsTo zero ss = 0
-sensorsTo (suc k) ss = sensorsTo k ss + cond (sensing (getD ss k absentSlot)) 1 0
+-- how many of slots 0 to k - 1 have a sensor, or are older ones
+unfoldable pub countTo : (Slot → Bool) → ℕ → List Slot → ℕ
+countTo is zero ss = 0
+countTo is (suc k) ss = countTo is k ss + cond (is (getD ss k absentSlot)) 1 0
 
--- a form has field 5: its tag stands behind field 4
+-- a form has field 5: its tag stands behind field 4; and field 6: its tag stands behind these
 abbrev pub HasFive : List ℕ → Type 0
 HasFive f = getD f (begins 4 (busIn f .slots)) 0 ≡ 5
+
+abbrev pub HasSix : List ℕ → Type 0
+HasSix f = getD f (begins 5 (busIn f .slots)) 0 ≡ 6
 
 -- one of the bytes of field 5 is 1
 pub record OneIs (f : List ℕ) : Type 0 where
@@ -71,6 +75,13 @@ pub record OneIs (f : List ℕ) : Type 0 where
   pub below : slot < slotCount
   pub sensor : sensing (slotIn f slot) ≡ true
   pub one : getD f (placeIn f 4 slot) 0 ≡ 1
+
+-- one of the bytes of field 6 is not 0
+pub record OneIsNot (f : List ℕ) : Type 0 where
+  pub slot : ℕ
+  pub below : slot < slotCount
+  pub old : older (slotIn f slot) ≡ true
+  pub other : getD f (placeIn f 5 slot) 0 ≡ 0 → ⊥
 
 -- What an accepted form has at its places.
 pub record Conforms (f : List ℕ) : Type 0 where
@@ -81,8 +92,8 @@ pub record Conforms (f : List ℕ) : Type 0 where
   pub high : (t : ℕ) → t < fieldCount → isThere t (busIn f .slots) ≡ true → getD f (begins t (busIn f .slots) + 1) 0 ≡ offset t slotCount (busIn f .slots) / 256
   pub low : (t : ℕ) → t < fieldCount → isThere t (busIn f .slots) ≡ true → getD f (begins t (busIn f .slots) + 2) 0 ≡ offset t slotCount (busIn f .slots) % 256
   pub whole : length f ≡ begins fieldCount (busIn f .slots)
-  -- the setup pairs: kinds 0 to 2, "an absent slot's length as 0", a present one's 1 to 5
-  pub kind : (k : ℕ) → k < slotCount → getD f (placeIn f 0 k) 0 ≤ 2
+  -- the setup pairs: kinds 0 to 3, "an absent slot's length as 0", a present one's 1 to 5
+  pub kind : (k : ℕ) → k < slotCount → getD f (placeIn f 0 k) 0 ≤ 3
   pub no-length : (k : ℕ) → k < slotCount → absent (slotIn f k) ≡ true → getD f (placeIn f 0 k + 1) 0 ≡ 0
   pub some-length : (k : ℕ) → k < slotCount → absent (slotIn f k) ≡ false → goodLength (getD f (placeIn f 0 k + 1) 0) ≡ true
   -- of each present slot: protection in four bits, half 0 or 1, a counter of one byte, high voltage 0 or 1
@@ -90,22 +101,38 @@ pub record Conforms (f : List ℕ) : Type 0 where
   pub half : (k : ℕ) → k < slotCount → absent (slotIn f k) ≡ false → getD f (placeIn f 2 k + 1) 0 ≤ 1
   pub counter : (k : ℕ) → k < slotCount → absent (slotIn f k) ≡ false → getD f (placeIn f 2 k + 2) 0 ≤ 255
   pub voltage : (k : ℕ) → k < slotCount → absent (slotIn f k) ≡ false → getD f (placeIn f 2 k + 3) 0 ≤ 1
+  -- P9, of each older slot: "half always 0"; "Protection is bit 0 alone"
+  pub older-half : (k : ℕ) → k < slotCount → older (slotIn f k) ≡ true → getD f (placeIn f 2 k + 1) 0 ≡ 0
+  pub older-protection : (k : ℕ) → k < slotCount → older (slotIn f k) ≡ true → getD f (placeIn f 2 k) 0 ≤ 1
   -- of each sensor: the pointer, and registers 08h and 09h, whose high bytes are 0; "bit 4 reads whether the pin is asserted (saved as 0)", and bit 5 is 0
   pub pointer : (k : ℕ) → k < slotCount → sensing (slotIn f k) ≡ true → getD f (placeIn f 3 k) 0 ≤ 9
   pub pin-bits : (k : ℕ) → k < slotCount → sensing (slotIn f k) ≡ true → getD f (placeIn f 3 k + 2) 0 / 16 % 4 ≡ 0
   pub resolution-high : (k : ℕ) → k < slotCount → sensing (slotIn f k) ≡ true → getD f (placeIn f 3 k + 11) 0 ≡ 0
   pub timeout-high : (k : ℕ) → k < slotCount → sensing (slotIn f k) ≡ true → getD f (placeIn f 3 k + 13) 0 ≡ 0
   -- P8: field 5 is there exactly if a change is pending in a slot ("present only when one is 1"): if it is there, one of its bytes is 1; if it is not,
-  -- the form ends where it would begin, and nothing is pending
+  -- field 6 would begin where it would, and nothing is pending
   pub some-pending : HasFive f → OneIs f
-  pub five-ends : (HasFive f → ⊥) → length f ≡ begins 4 (busIn f .slots)
+  pub no-five : (HasFive f → ⊥) → begins 5 (busIn f .slots) ≡ begins 4 (busIn f .slots)
   pub none-pending : (HasFive f → ⊥) → (k : ℕ) → k < slotCount → (slotIn f k) .sensor .pending ≡ false
   -- "a byte for each sensor": so long it is; each byte is 0 or 1, "1 if a change is pending", and that only where by register 01h one can be
   pub five-high : HasFive f → getD f (begins 4 (busIn f .slots) + 1) 0 ≡ 0
-  pub five-low : HasFive f → getD f (begins 4 (busIn f .slots) + 2) 0 ≡ sensorsTo slotCount (busIn f .slots)
+  pub five-low : HasFive f → getD f (begins 4 (busIn f .slots) + 2) 0 ≡ countTo sensing slotCount (busIn f .slots)
   pub pending : HasFive f → (k : ℕ) → k < slotCount → sensing (slotIn f k) ≡ true → getD f (placeIn f 4 k) 0 ≡ cond ((slotIn f k) .sensor .pending) 1 0
   pub can-pend : HasFive f → (k : ℕ) → k < slotCount → sensing (slotIn f k) ≡ true → getD f (placeIn f 4 k) 0 ≡ 1
       → canPend (wordAt f (placeIn f 3 k + 1)) ≡ true
+  -- P9: field 6 is there exactly if protection is permanent in an older slot or the pin of one is on ("present only when one is not 0"): if it is there, one
+  -- of its bytes is not 0; if it is not, the form ends where it would begin
+  pub some-older : HasSix f → OneIsNot f
+  pub six-ends : (HasSix f → ⊥) → length f ≡ begins 5 (busIn f .slots)
+  pub none-older : (HasSix f → ⊥) → (k : ℕ) → k < slotCount → older (slotIn f k) ≡ true
+      → ((slotIn f k) .old .permanent ≡ false) × ((slotIn f k) .old .pin ≡ false)
+  -- "a byte for each such slot": so long it is; each byte is "bit 0 permanent, bit 1 pin", so at most 3, and bit 0 only where bit 0 of protection is set
+  pub six-high : HasSix f → getD f (begins 5 (busIn f .slots) + 1) 0 ≡ 0
+  pub six-low : HasSix f → getD f (begins 5 (busIn f .slots) + 2) 0 ≡ countTo older slotCount (busIn f .slots)
+  pub older-bits : HasSix f → (k : ℕ) → k < slotCount → older (slotIn f k) ≡ true
+      → getD f (placeIn f 5 k) 0 ≡ cond ((slotIn f k) .old .permanent) 1 0 + 2 * cond ((slotIn f k) .old .pin) 1 0
+  pub set-if-permanent : HasSix f → (k : ℕ) → k < slotCount → older (slotIn f k) ≡ true → getD f (placeIn f 5 k) 0 % 2 ≡ 1
+      → getD f (placeIn f 2 k) 0 ≡ 1
   -- and every number of row 6 is in its range
   pub ranged : inRange (busIn f) ≡ true
 
@@ -136,11 +163,33 @@ one-on : (v : Bool) → _≡_ {A = ℕ} (cond v 1 0) 1 → v ≡ true
 one-on true e = refl
 one-on false e = absurd (omega arith)
 
--- field 5 has a byte for each sensor, eight at most
-sensors-offset : (k : ℕ) (ss : List Slot) → offset 4 k ss ≡ sensorsTo k ss
-unfolding offset sensorsTo sizeIn fieldAt fields pendingField sensing
-sensors-offset zero ss = refl
-sensors-offset (suc k) ss = ap (λ (n : ℕ). n + cond (eqb ((getD ss k absentSlot) .kind) 2) 1 0) (sensors-offset k ss)
+-- field 5 has a byte for each sensor, and field 6 one for each older slot: eight at most
+counts : (t : ℕ) (is : Slot → Bool) → ((s : Slot) → sizeIn t s ≡ cond (is s) 1 0) → (k : ℕ) (ss : List Slot) → offset t k ss ≡ countTo is k ss
+unfolding offset countTo
+counts t is e zero ss = refl
+counts t is e (suc k) ss = ap₂ _+_ (counts t is e k ss) (e (getD ss k absentSlot))
+
+sensors-offset : (ss : List Slot) → offset 4 slotCount ss ≡ countTo sensing slotCount ss
+sensors-offset = counts 4 sensing (λ s. unfold sizeIn fieldAt fields pendingField sensing in refl) slotCount
+
+olders-offset : (ss : List Slot) → offset 5 slotCount ss ≡ countTo older slotCount ss
+olders-offset = counts 5 older (λ s. unfold sizeIn fieldAt fields olderField older in refl) slotCount
+
+-- an older slot is present
+older-present : (s : Slot) → older s ≡ true → absent s ≡ false
+unfolding older absent
+older-present s o = ap (λ (k : ℕ). eqb k 0) (eqb-true (s .kind) 3 o)
+
+-- the two bits of a byte of field 6
+bits-none : (p q : Bool) → (p || q) ≡ true → _≡_ {A = ℕ} (cond p 1 0 + 2 * cond q 1 0) 0 → ⊥
+bits-none true q e z = omega arith
+bits-none false true e z = omega arith
+bits-none false false e z = false≢true e
+
+low-bit : (p q : Bool) → (cond p 1 0 + 2 * cond q 1 0) % 2 ≡ 1 → p ≡ true
+low-bit true q e = refl
+low-bit false true e = absurd (omega arith)
+low-bit false false e = absurd (omega arith)
 
 no-high-byte : (v : ℕ) → v ≤ 3 → v / 256 ≡ 0
 no-high-byte v h = omega arith
@@ -186,6 +235,9 @@ module _ (f n : List ℕ) (accepts : accepted f n ≡ true) (sized : length n �
   first-in : (t k : ℕ) → t < fieldCount → isThere t slots ≡ true → k < slotCount → 0 < sizeIn t (slotIn f k)
       → getD f (placeIn f t k) 0 ≡ getD (shareOf t (slotIn f k) (part slotBytes k (memoryIn f n))) 0 0
   first-in t k h e l g = rw add-zero at (byte-in t k 0 h e l g)
+
+  four-blocks : (k : ℕ) → k < slotCount → length ((slotIn f k) .protection) ≡ 4
+  four-blocks k h = every-at (λ (s : Slot). length (s .protection) ≡ 4) k slots absentSlot (rw (typed-read f .slots) h) (typed-read f .blocks)
 
   kind-in : (k : ℕ) → k < slotCount → getD f (placeIn f 0 k) 0 ≡ (slotIn f k) .kind
   unfolding sizeIn shareOf fieldAt fields setupField
@@ -233,17 +285,59 @@ module _ (f n : List ℕ) (accepts : accepted f n ≡ true) (sized : length n �
       (λ p. absurd (false≢true (sym (none-asks 4 slots i k h) ∙ both _ _ (ranges k h .pins .here p) p)))
       (λ p. p)
 
+  older-in : isThere 5 slots ≡ true → (k : ℕ) → k < slotCount → older (slotIn f k) ≡ true
+      → getD f (placeIn f 5 k) 0 ≡ cond ((slotIn f k) .old .permanent) 1 0 + 2 * cond ((slotIn f k) .old .pin) 1 0
+  unfolding sizeIn shareOf fieldAt fields olderField olderByte bitsOf older
+  older-in i k h a = rw add-zero at (share-in 5 k 1 (olderByte ((slotIn f k) .old) ∷ []) (omega arith) i h (rw a) (rw a) 0 (omega arith)) ∙ omega arith
+
+  -- field 6 is there for an older slot with one of the two; and where it is not, none has
+  other-in : isThere 5 slots ≡ true → OneIsNot f
+  unfolding fieldAt fields olderField
+  other-in i =
+      let a : Asks 5 slots slotCount = who-asks 5 slots i in
+      let s = slotIn f (a .slot) in
+      let x : older s ≡ true = and-left (older s) (s .old .permanent || s .old .pin) (a .needs) in
+      let y : (s .old .permanent || s .old .pin) ≡ true = and-right (older s) (s .old .permanent || s .old .pin) (a .needs) in
+      record {
+        slot = a .slot;
+        below = a .below;
+        old = x;
+        other = λ z. bits-none (s .old .permanent) (s .old .pin) y (sym (older-in i (a .slot) (a .below) x) ∙ z);
+      }
+
+  none-older-in : isThere 5 slots ≡ false → (k : ℕ) → k < slotCount → older (slotIn f k) ≡ true
+      → ((slotIn f k) .old .permanent ≡ false) × ((slotIn f k) .old .pin ≡ false)
+  unfolding fieldAt fields olderField
+  none-older-in i k h o =
+      let none : ((slotIn f k) .old .permanent || (slotIn f k) .old .pin) ≡ false = rw o at (none-asks 5 slots i k h) in
+      (or-left-false ((slotIn f k) .old .permanent) ((slotIn f k) .old .pin) none, or-right-false ((slotIn f k) .old .permanent) ((slotIn f k) .old .pin) none)
+
+  -- an older slot's half, and its protection, in a byte of which only bit 0 can be set
+  alone : (k : ℕ) → k < slotCount → older (slotIn f k) ≡ true → Alone ((slotIn f k) .half) ((slotIn f k) .protection) ((slotIn f k) .old .permanent)
+  unfolding older
+  alone k h o = ranges k h .olders o
+
+  one-bit : (k : ℕ) → k < slotCount → older (slotIn f k) ≡ true → getD f (placeIn f 2 k) 0 ≡ cond (getD ((slotIn f k) .protection) 0 false) 1 0
+  unfolding stateBytes
+  one-bit k h o =
+      let v = alone k h o in
+      rw add-zero at (state-in k h (older-present (slotIn f k) o) 0 (omega arith))
+      ∙ ap bitsOf (only-first ((slotIn f k) .protection) (four-blocks k h) (v .no-one) (v .no-two) (v .no-three))
+      ∙ first-bit (getD ((slotIn f k) .protection) 0 false)
+
   four-bits : (k : ℕ) → k < slotCount → bitsOf ((slotIn f k) .protection) ≤ 15
   four-bits k h =
-      let four : length ((slotIn f k) .protection) ≡ 4 = every-at (λ (s : Slot). length (s .protection) ≡ 4) k slots absentSlot (rw (typed-read f .slots) h) (typed-read f .blocks) in
-      let b : bitsOf ((slotIn f k) .protection) < 2 ^ 4 = rw four at (bits-small ((slotIn f k) .protection)) in
+      let b : bitsOf ((slotIn f k) .protection) < 2 ^ 4 = rw (four-blocks k h) at (bits-small ((slotIn f k) .protection)) in
       omega arith
 
-  few : offset 4 slotCount slots / 256 ≡ 0
-  few = let m = offset-most 4 slotCount slots in omega arith
+  few : (n : ℕ) → n ≤ 8 → (n / 256 ≡ 0) × (n % 256 ≡ n)
+  few n h = (omega arith, omega arith)
 
-  number : offset 4 slotCount slots % 256 ≡ offset 4 slotCount slots
-  number = let m = offset-most 4 slotCount slots in omega arith
+  few-five : (offset 4 slotCount slots / 256 ≡ 0) × (offset 4 slotCount slots % 256 ≡ offset 4 slotCount slots)
+  few-five = few (offset 4 slotCount slots) (omega (arith, offset-most 4 slotCount slots))
+
+  few-six : (offset 5 slotCount slots / 256 ≡ 0) × (offset 5 slotCount slots % 256 ≡ offset 5 slotCount slots)
+  few-six = few (offset 5 slotCount slots) (omega (arith, offset-most 5 slotCount slots))
 
   -- So each departure that the request names is refused: the bytes of an accepted form are these.
   pub conforms : Conforms f
@@ -261,19 +355,30 @@ module _ (f n : List ℕ) (accepts : accepted f n ≡ true) (sized : length n �
     half = λ k h a. rw (state-in k h a 1 (omega arith)) (ranges k h .halves);
     counter = λ k h a. rw (state-in k h a 2 (omega arith)) (ranges k h .counters);
     voltage = λ k h a. rw (state-in k h a 3 (omega arith)) (bit-small ((slotIn f k) .voltage));
+    older-half = λ k h o. state-in k h (older-present (slotIn f k) o) 1 (omega arith) ∙ alone k h o .first-half;
+    older-protection = λ k h o. rw (one-bit k h o) (bit-small (getD ((slotIn f k) .protection) 0 false));
     pointer = λ k h a. rw (rw add-zero at (sensor-in k h a 0 (omega arith))) (pointer-small ((slotIn f k) .sensor) (ranges k h .sensors));
     pin-bits = λ k h a. rw (sensor-in k h a 2 (omega arith)) (no-pin-bits _ (configuration-kept ((slotIn f k) .sensor) (ranges k h .sensors)));
     resolution-high = λ k h a. sensor-in k h a 11 (omega arith) ∙ no-high-byte _ (resolution-small ((slotIn f k) .sensor) (ranges k h .sensors));
     timeout-high = λ k h a. sensor-in k h a 13 (omega arith) ∙ no-high-byte _ (let e = timeout-small ((slotIn f k) .sensor) (ranges k h .sensors) in omega arith);
     some-pending = λ e. one-in (there-in 4 (omega arith) e);
-    five-ends = λ e. accepted-length f n accepts sized ∙ (unfold begins in rw (span-none 4 slots (none-in 4 (omega arith) e)) (omega arith));
+    no-five = λ e. unfold begins in rw (span-none 4 slots (none-in 4 (omega arith) e)) (omega arith);
     none-pending = λ e. none-pends (none-in 4 (omega arith) e);
-    five-high = λ e. in-form (begins 4 slots + 1) ∙ high-at slots bytes long 4 (omega arith) (there-in 4 (omega arith) e) ∙ few;
-    five-low = λ e. in-form (begins 4 slots + 2) ∙ low-at slots bytes long 4 (omega arith) (there-in 4 (omega arith) e) ∙ number ∙ sensors-offset slotCount slots;
+    five-high = λ e. in-form (begins 4 slots + 1) ∙ high-at slots bytes long 4 (omega arith) (there-in 4 (omega arith) e) ∙ few-five .0;
+    five-low = λ e. in-form (begins 4 slots + 2) ∙ low-at slots bytes long 4 (omega arith) (there-in 4 (omega arith) e) ∙ few-five .1 ∙ sensors-offset slots;
     pending = λ e. pending-in (there-in 4 (omega arith) e);
     can-pend = λ e k h a i.
         let p : (slotIn f k) .sensor .pending ≡ true = one-on _ (sym (pending-in (there-in 4 (omega arith) e) k h a) ∙ i) in
         ap canPend (configuration-in k h a) ∙ ranges k h .pins .can p;
+    some-older = λ e. other-in (there-in 5 (omega arith) e);
+    six-ends = λ e. accepted-length f n accepts sized ∙ (unfold begins in rw (span-none 5 slots (none-in 5 (omega arith) e)) (omega arith));
+    none-older = λ e. none-older-in (none-in 5 (omega arith) e);
+    six-high = λ e. in-form (begins 5 slots + 1) ∙ high-at slots bytes long 5 (omega arith) (there-in 5 (omega arith) e) ∙ few-six .0;
+    six-low = λ e. in-form (begins 5 slots + 2) ∙ low-at slots bytes long 5 (omega arith) (there-in 5 (omega arith) e) ∙ few-six .1 ∙ olders-offset slots;
+    older-bits = λ e. older-in (there-in 5 (omega arith) e);
+    set-if-permanent = λ e k h o i.
+        let p : (slotIn f k) .old .permanent ≡ true = low-bit ((slotIn f k) .old .permanent) ((slotIn f k) .old .pin) (ap (λ (v : ℕ). v % 2) (sym (older-in (there-in 5 (omega arith) e) k h o)) ∙ i) in
+        one-bit k h o ∙ rw (alone k h o .set-if p);
     ranged = accepted-in-range f n accepts;
   }
 
@@ -382,27 +487,48 @@ module _ (f g n : List ℕ) (one : accepted f n ≡ true) (other : accepted (f +
       (λ (x : Ends). inr x)
       (go-on fieldCount (omega arith))
 
-  -- Field 5 is the only one: so what stands behind is just that field of the longer form, and in the shorter nothing is pending.
-  pub record Five : Type 0 where
-    pub tail : g ≡ wholeField 4 (busIn (f ++ g) .slots) (memoryIn (f ++ g) n)
-    pub none : (k : ℕ) → k < slotCount → (slotIn f k) .sensor .pending ≡ false
+  -- Fields 5 and 6 are the only ones: so what stands behind is field 5 of the longer form, with field 6 behind it if that is there, and in the shorter
+  -- nothing is pending; or field 6 alone. And in the shorter nothing is permanent in an older slot, and no pin is on.
+  abbrev ms : List ℕ
+  ms = memoryIn (f ++ g) n
 
-  five : (row : ℕ) → EndsAt f g row → Five
-  unfolding restored formOf formTo
-  five row x =
-      let r : row ≡ 4 = omega (arith, x .later, x .below) in
-      let there : isThere 4 gs ≡ true = ap (λ (t : ℕ). isThere t gs) (sym r) ∙ x .has in
-      let ms = memoryIn (f ++ g) n in
-      let long : length ms ≡ memoryBytes = length-restored (f ++ g) n other sized in
-      let l : length f ≡ length (formTo 4 gs ms) = x .ends ∙ ap (λ (t : ℕ). begins t gs) r ∙ sym (length-form gs ms long 4) in
-      record {
-        tail =
-            sym (drop-append-seam f g)
-            ∙ ap₂ drop l (sym (written-again (f ++ g) n other))
-            ∙ drop-append-seam (formTo 4 gs ms) (fieldBytes 4 gs ms)
-            ∙ field-there gs ms long 4 there;
-        none = none-pends f n one sized (x .lacks 4 (omega arith) (omega arith));
-      }
+  abbrev pub NothingPending : Type 0
+  NothingPending = (k : ℕ) → k < slotCount → (slotIn f k) .sensor .pending ≡ false
 
-  pub tail-is-five : (g ≡ [] → ⊥) → Five
-  tail-is-five h = ⊎-elim (λ e. absurd (h e)) (λ (x : Ends). five (x .row) (x .there)) no-tail
+  abbrev pub NothingOlder : Type 0
+  NothingOlder = (k : ℕ) → k < slotCount → older (slotIn f k) ≡ true → ((slotIn f k) .old .permanent ≡ false) × ((slotIn f k) .old .pin ≡ false)
+
+  pub data Tail : Type 0 where
+    from-five : g ≡ wholeField 4 (busIn (f ++ g) .slots) (memoryIn (f ++ g) n) ++ fieldBytes 5 (busIn (f ++ g) .slots) (memoryIn (f ++ g) n)
+        → NothingPending → NothingOlder → Tail
+    six : g ≡ wholeField 5 (busIn (f ++ g) .slots) (memoryIn (f ++ g) n) → NothingOlder → Tail
+
+  long-again : length ms ≡ memoryBytes
+  long-again = length-restored (f ++ g) n other sized
+
+  -- what stands behind the first t fields of the longer form
+  behind : (t : ℕ) (b : List ℕ) → length f ≡ begins t gs → formTo fieldCount gs ms ≡ formTo t gs ms ++ b → g ≡ b
+  behind t b e s =
+      sym (drop-append-seam f g)
+      ∙ ap₂ drop (e ∙ sym (length-form gs ms long-again t)) (sym (again (f ++ g) n other sized) ∙ s)
+      ∙ drop-append-seam (formTo t gs ms) b
+
+  tail : (row : ℕ) → EndsAt f g row → Tail
+  unfolding formTo
+  tail row x = by-test (eqb row 4)
+      (λ i.
+      let r : row ≡ 4 = eqb-true row 4 i in
+      from-five
+      (behind 4 _ (x .ends ∙ ap (λ (t : ℕ). begins t gs) r) (append-assoc (formTo 4 gs ms) (fieldBytes 4 gs ms) (fieldBytes 5 gs ms))
+      ∙ ap (λ (b : List ℕ). b ++ fieldBytes 5 gs ms) (field-there gs ms long-again 4 (ap (λ (t : ℕ). isThere t gs) (sym r) ∙ x .has)))
+      (none-pends f n one sized (x .lacks 4 (omega (arith, r)) (omega arith)))
+      (none-older-in f n one sized (x .lacks 5 (omega (arith, r)) (omega arith))))
+      (λ i.
+      let r : row ≡ 5 = omega (arith, x .later, x .below, eqb-false row 4 i) in
+      six
+      (behind 5 _ (x .ends ∙ ap (λ (t : ℕ). begins t gs) r) refl
+      ∙ field-there gs ms long-again 5 (ap (λ (t : ℕ). isThere t gs) (sym r) ∙ x .has))
+      (none-older-in f n one sized (x .lacks 5 (omega (arith, r)) (omega arith))))
+
+  pub tail-is : (g ≡ [] → ⊥) → Tail
+  tail-is h = ⊎-elim (λ e. absurd (h e)) (λ (x : Ends). tail (x .row) (x .there)) no-tail

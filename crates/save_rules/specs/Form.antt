@@ -1,17 +1,18 @@
--- Request P5, "Saving a bench overnight", with what P8 adds to it: the saved form, as a table of fields over the slots. Writing, reading and what is
--- proved of them go by this table alone.
+-- Request P5, "Saving a bench overnight", with what P8 and P9 add to it: the saved form, as a table of fields over the slots. Writing, reading and
+-- what is proved of them go by this table alone.
 -- Assumes nothing.
 use Prim.Native.Nat.{ℕ, zero, suc, _+_, _*_, _/_, _%_}
 use mathlib.Core.Bool.{Bool, true, false, cond, _&&_, _||_}
 use mathlib.Core.List.{List, [], _∷_, _++_}
 use lib.Dec.{eqb}
-use lib.ListN.{length, getD}
+use lib.ListN.{length, getD, take}
 use Rattle.proof_lists.specs.Parts.{part}
 use Rattle.rules.specs.declared.Bus.{Bus}
+use Rattle.rules.specs.declared.Older.{Older}
 use Rattle.rules.specs.declared.Sensor.{Sensor}
 use Rattle.rules.specs.declared.Slot.{Slot}
-use Rattle.rules.specs.Modelled.{slotCount, slotBytes, absent, sensing}
-use Rattle.rules.specs.Fields.{inHalf, atCounter, withVoltage, protecting, expecting, withSensor, withPending}
+use Rattle.rules.specs.Modelled.{slotCount, slotBytes, absent, sensing, older, bytesOf}
+use Rattle.rules.specs.Fields.{inHalf, atCounter, withVoltage, protecting, expecting, withSensor, withPending, withOld}
 use Rattle.rules.specs.Fresh.{setupSlot, absentSlot}
 use Rattle.rules.specs.Sensor.{registerOf}
 use Rattle.script_text.specs.Records.{pairAt}
@@ -33,8 +34,8 @@ unfoldable pub bitsIn : ℕ → ℕ → List Bool
 bitsIn zero v = []
 bitsIn (suc n) v = eqb (v % 2) 1 ∷ bitsIn n (v / 2)
 
--- A field of the form: its tag; whether a slot needs it (P8: "present only when one is 1": it is in the form exactly if a slot needs it); how many
--- bytes a slot of each kind has in it; what these are, of a slot with its 512 bytes; and a slot with what the bytes from a place on say of it. (A
+-- A field of the form: its tag; whether a slot needs it (P8: "present only when one is 1"; P9: "present only when one is not 0": it is in the form
+-- exactly if a slot needs it); how many bytes a slot of each kind has in it; what these are, of a slot with its 512 bytes; and a slot with what the bytes from a place on say of it. (A
 -- slot's memory is no part of the slot: what is read of it is Reading.memoryIn.)
 pub record Field : Type 0 where
   pub tag : ℕ
@@ -57,13 +58,13 @@ setupField = record {
   reads = λ f at s. setupSlot (pairAt f at);
 }
 
--- "2 the memory of present slots in slot order"
+-- "2 the memory of present slots in slot order"; P9: "256 bytes (so many in tag 2)", the first of an older slot's 512
 unfoldable pub memoryField : Field
 memoryField = record {
   tag = 2;
   needed = always;
-  size = λ kind. cond (eqb kind 0) 0 slotBytes;
-  writes = λ s m. cond (absent s) [] m;
+  size = λ kind. cond (eqb kind 0) 0 (bytesOf kind);
+  writes = λ s m. cond (absent s) [] (take (bytesOf (s .kind)) m);
   reads = λ f at s. s;
 }
 
@@ -133,12 +134,29 @@ pendingField = record {
   reads = λ f at s. cond (sensing s) (withSensor (withPending (eqb (getD f at 0) 1) (s .sensor)) s) s;
 }
 
+-- P9: "tag 6, a byte for each such slot (bit 0 permanent, bit 1 pin), present only when one is not 0": what the byte is, and what it says. (Nothing is
+-- open or running in a slot that is saved, so that nothing is to become permanent. A byte above 3 would not be written so.)
+unfoldable pub olderByte : Older → ℕ
+olderByte x = bitsOf (x .permanent ∷ x .pin ∷ [])
+
+unfoldable pub olderFrom : ℕ → Older
+olderFrom v = record { permanent = eqb (v % 2) 1; lasting = false; pin = eqb (v / 2 % 2) 1 }
+
+unfoldable pub olderField : Field
+olderField = record {
+  tag = 6;
+  needed = λ s. older s && (s .old .permanent || s .old .pin);
+  size = λ kind. cond (eqb kind 3) 1 0;
+  writes = λ s m. cond (older s) (olderByte (s .old) ∷ []) [];
+  reads = λ f at s. cond (older s) (withOld (olderFrom (getD f at 0)) s) s;
+}
+
 -- "a run of fields [..] Tags in ascending order, each once"
 unfoldable pub fields : List Field
-fields = setupField ∷ memoryField ∷ stateField ∷ sensorField ∷ pendingField ∷ []
+fields = setupField ∷ memoryField ∷ stateField ∷ sensorField ∷ pendingField ∷ olderField ∷ []
 
 abbrev pub fieldCount : ℕ
-fieldCount = 5
+fieldCount = 6
 
 -- so many of them are P5's
 abbrev pub fixedCount : ℕ

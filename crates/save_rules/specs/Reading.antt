@@ -1,4 +1,4 @@
--- Request P5, "Saving a bench overnight", with what P8 adds to it: reading.
+-- Request P5, "Saving a bench overnight", with what P8 and P9 add to it: reading.
 -- Assumes nothing.
 use Prim.Native.Nat.{ℕ, zero, suc, _+_, _*_}
 use mathlib.Core.Bool.{Bool, not, cond, _&&_}
@@ -13,7 +13,7 @@ use Rattle.rules.specs.declared.Bus.{Bus}
 use Rattle.rules.specs.declared.Outcome.{Outcome}
 use Rattle.rules.specs.declared.Refusal.the-variants.{MemoryLength, WrongForm}
 use Rattle.rules.specs.declared.Slot.{Slot}
-use Rattle.rules.specs.Modelled.{slotCount, slotBytes, absent}
+use Rattle.rules.specs.Modelled.{slotCount, slotBytes, absent, bytesOf}
 use Rattle.rules.specs.Fresh.{absentSlot}
 use Rattle.rules.specs.Refusals.{wrongLength, inRange}
 use Rattle.rules.specs.Runs.{Bench}
@@ -62,12 +62,13 @@ busIn f = record { slots = readTo fieldCount f }
 abbrev pub memoryRow : ℕ
 memoryRow = 1
 
--- "absent slots' bytes untouched": a memory m in which the bytes of present slots among the first k are the form's
+-- "absent slots' bytes untouched": a memory m in which the bytes of present slots among the first k are the form's. P9: "256 bytes", so the upper 256
+-- of an older slot stay too ("blocks 2 and 3 never touched").
 unfoldable pub storedTo : ℕ → List ℕ → List Slot → List ℕ → List ℕ
 storedTo zero f ss m = m
 storedTo (suc k) f ss m =
     cond (absent (getD ss k absentSlot)) (storedTo k f ss m)
-    (sets (storedTo k f ss m) (slotBytes * k) (take slotBytes (drop (place memoryRow k ss) f)))
+    (sets (storedTo k f ss m) (slotBytes * k) (take (bytesOf ((getD ss k absentSlot) .kind)) (drop (place memoryRow k ss) f)))
 
 unfoldable pub memoryIn : List ℕ → List ℕ → List ℕ
 memoryIn f m = storedTo slotCount f (busIn f .slots) m
@@ -77,7 +78,8 @@ unfoldable pub restored : List ℕ → List ℕ → Bench
 restored f m = record { bus = busIn f; memory = memoryIn f m }
 
 -- "every form that is accepted is the one the writer would give": a departure is a byte that the writer would not put there, one that is missing,
--- or one too many (so too a field 5 of which no byte is 1); "or number out of range": of row 6 (P8: "a 1 where no change can be pending")
+-- or one too many (so too a field 5 of which no byte is 1, a field 6 of zeros, and in field 6 a byte above 3); "or number out of range": of row 6 (P8:
+-- "a 1 where no change can be pending"; P9: "another half or bit falls under 6 and 10", and so does permanent without protection)
 unfoldable pub accepted : List ℕ → List ℕ → Bool
 accepted f m = inRange (busIn f) && same (formOf (busIn f) (memoryIn f m)) f
 

@@ -3,19 +3,22 @@
 use mathlib.Core.Path.{_≡_, refl, sym, _∙_, ap}
 use mathlib.Core.Bool.{Bool, true, false, cond}
 use mathlib.Core.List.{List, [], _∷_, _++_}
-use Prim.Native.Nat.{ℕ, zero, suc, _+_, _*_, _≤_}
+use Prim.Native.Nat.{ℕ, zero, suc, _+_, _*_, min, _≤_, _<_}
 use native.Mathlib.Numerals.{add-one}
 use native.Mathlib.Omega.{arith}
-use borrow.Author.Tests.{eq-eqb, ne-eqb}
-use lib.Dec.{eqb}
-use lib.ListN.{length, getD, length-append}
+use borrow.Author.Tests.{eq-eqb, ne-eqb, ltb-true, ltb-false}
+use lib.Dec.{eqb, ltb}
+use lib.ListN.{length, getD, take, length-append, length-take}
+use lib.Seq.{take-all}
+use Rattle.proof_lists.specs.Tests.{by-test}
 use Rattle.script_text.proofs.letters.Laws.{Put, put-on}
+use Rattle.rules.specs.declared.Older.{Older}
 use Rattle.rules.specs.declared.Sensor.{Sensor}
 use Rattle.rules.specs.declared.Slot.{Slot}
-use Rattle.rules.specs.Modelled.{absent, sensing}
-use Rattle.rules.specs.Fields.{inHalf, atCounter, withVoltage, expecting, protecting, withSensor, withPending}
+use Rattle.rules.specs.Modelled.{absent, sensing, older, bytesOf}
+use Rattle.rules.specs.Fields.{inHalf, atCounter, withVoltage, expecting, protecting, withSensor, withPending, withOld}
 use Rattle.rules.specs.Sensor.{registerOf}
-use Rattle.save_rules.specs.Form.{bitsOf, bitsIn, wordOf, stateFrom, sensorFrom, Field, fieldAt, fields, setupField, memoryField, stateField, sensorField, pendingField, shareOf, stateBytes, savedRegisters, sensorBytes, registersTo}
+use Rattle.save_rules.specs.Form.{bitsOf, bitsIn, wordOf, stateFrom, sensorFrom, Field, fieldAt, fields, setupField, memoryField, stateField, sensorField, pendingField, olderByte, olderFrom, olderField, shareOf, stateBytes, savedRegisters, sensorBytes, registersTo}
 
 -- the rows; where the row is none of the others' it is the first
 pub row-1 : (t : ℕ) → t ≡ 1 → fieldAt t ≡ memoryField
@@ -34,24 +37,30 @@ pub row-4 : (t : ℕ) → t ≡ 4 → fieldAt t ≡ pendingField
 unfolding fieldAt fields
 row-4 t e = rw e
 
-pub row-0 : (t : ℕ) → (t ≡ 1 → ⊥) → (t ≡ 2 → ⊥) → (t ≡ 3 → ⊥) → (t ≡ 4 → ⊥) → fieldAt t ≡ setupField
+pub row-5 : (t : ℕ) → t ≡ 5 → fieldAt t ≡ olderField
 unfolding fieldAt fields
-row-0 zero a b c d = refl
-row-0 (suc zero) a b c d = absurd (a refl)
-row-0 (suc (suc zero)) a b c d = absurd (b refl)
-row-0 (suc (suc (suc zero))) a b c d = absurd (c refl)
-row-0 (suc (suc (suc (suc zero)))) a b c d = absurd (d refl)
-row-0 (suc (suc (suc (suc (suc t))))) a b c d = refl
+row-5 t e = rw e
+
+pub row-0 : (t : ℕ) → (t ≡ 1 → ⊥) → (t ≡ 2 → ⊥) → (t ≡ 3 → ⊥) → (t ≡ 4 → ⊥) → (t ≡ 5 → ⊥) → fieldAt t ≡ setupField
+unfolding fieldAt fields
+row-0 zero a b c d e = refl
+row-0 (suc zero) a b c d e = absurd (a refl)
+row-0 (suc (suc zero)) a b c d e = absurd (b refl)
+row-0 (suc (suc (suc zero))) a b c d e = absurd (c refl)
+row-0 (suc (suc (suc (suc zero)))) a b c d e = absurd (d refl)
+row-0 (suc (suc (suc (suc (suc zero))))) a b c d e = absurd (e refl)
+row-0 (suc (suc (suc (suc (suc (suc t)))))) a b c d e = refl
 
 -- the fields before the fifth are needed by every slot
-pub row-fixed : (t : ℕ) (s : Slot) → (t ≡ 4 → ⊥) → true ≡ fieldAt t .needed s
+pub row-fixed : (t : ℕ) (s : Slot) → (t ≡ 4 → ⊥) → (t ≡ 5 → ⊥) → true ≡ fieldAt t .needed s
 unfolding fieldAt fields setupField memoryField stateField sensorField
-row-fixed zero s h = refl
-row-fixed (suc zero) s h = refl
-row-fixed (suc (suc zero)) s h = refl
-row-fixed (suc (suc (suc zero))) s h = refl
-row-fixed (suc (suc (suc (suc zero)))) s h = absurd (h refl)
-row-fixed (suc (suc (suc (suc (suc t))))) s h = refl
+row-fixed zero s h g = refl
+row-fixed (suc zero) s h g = refl
+row-fixed (suc (suc zero)) s h g = refl
+row-fixed (suc (suc (suc zero))) s h g = refl
+row-fixed (suc (suc (suc (suc zero)))) s h g = absurd (h refl)
+row-fixed (suc (suc (suc (suc (suc zero))))) s h g = absurd (g refl)
+row-fixed (suc (suc (suc (suc (suc (suc t)))))) s h g = refl
 
 -- four blocks as bits
 pub bits-four : (p : List Bool) → length p ≡ 4
@@ -73,9 +82,28 @@ pub no-memory : (s : Slot) (m : List ℕ) → s .kind ≡ 0 → shareOf 1 s m �
 unfolding shareOf fieldAt fields memoryField absent
 no-memory s m e = rw (eq-eqb (s .kind) 0 e)
 
-pub memory-share : (s : Slot) (m : List ℕ) → (s .kind ≡ 0 → ⊥) → shareOf 1 s m ≡ m
+pub memory-share : (s : Slot) (m : List ℕ) → (s .kind ≡ 0 → ⊥) → shareOf 1 s m ≡ take (bytesOf (s .kind)) m
 unfolding shareOf fieldAt fields memoryField absent
 memory-share s m e = rw (ne-eqb (s .kind) 0 e)
+
+-- so many bytes of a memory, however short it is
+pub memory-by : (s : Slot) (m : List ℕ) (n own : ℕ) → (s .kind ≡ 0 → ⊥) → own ≡ bytesOf (s .kind) → n ≡ min (length m) own → shareOf 1 s m ≡ take n m
+memory-by s m n own e f g =
+    memory-share s m e ∙ ap (λ (k : ℕ). take k m) (sym f) ∙ take-least own m ∙ ap (λ (k : ℕ). take k m) (sym g)
+  where
+    take-least : (k : ℕ) (m : List ℕ) → take k m ≡ take (min (length m) k) m
+    take-least k m = by-test (ltb (length m) k)
+        (λ h.
+        let l : length m < k = ltb-true (length m) k h in
+        let i : min (length m) k ≡ length m = omega arith in
+        rw i (take-all k m (omega arith) ∙ sym (take-all (length m) m (omega arith))))
+        (λ h.
+        let l : k ≤ length m = ltb-false (length m) k h in
+        let i : k ≡ min (length m) k = omega arith in
+        ap (λ (j : ℕ). take j m) i)
+
+pub length-memory : (m : List ℕ) (n own : ℕ) → n ≡ min (length m) own → length (take n m) ≡ n
+length-memory m n own e = rw length-take (omega (arith, e))
 
 pub no-state : (s : Slot) (m : List ℕ) → s .kind ≡ 0 → shareOf 2 s m ≡ []
 unfolding shareOf fieldAt fields stateField absent
@@ -100,6 +128,14 @@ no-pending s m e = rw (ne-eqb (s .kind) 2 e)
 pub pending-share : (s : Slot) (m : List ℕ) → s .kind ≡ 2 → shareOf 4 s m ≡ cond (s .sensor .pending) 1 0 ∷ []
 unfolding shareOf fieldAt fields pendingField sensing
 pending-share s m e = rw (eq-eqb (s .kind) 2 e)
+
+pub no-older : (s : Slot) (m : List ℕ) → (s .kind ≡ 3 → ⊥) → shareOf 5 s m ≡ []
+unfolding shareOf fieldAt fields olderField older
+no-older s m e = rw (ne-eqb (s .kind) 3 e)
+
+pub older-share : (s : Slot) (m : List ℕ) → s .kind ≡ 3 → shareOf 5 s m ≡ olderByte (s .old) ∷ []
+unfolding shareOf fieldAt fields olderField older
+older-share s m e = rw (eq-eqb (s .kind) 3 e)
 
 -- nothing is put, or what is the same
 pub none-put : (out : List ℕ) (at : ℕ) (x : List ℕ) → x ≡ [] → Put out at x at out
@@ -164,10 +200,24 @@ pub pended : (f : List ℕ) (at : ℕ) (s : Slot) (v : ℕ) → s .kind ≡ 2 �
 unfolding sensing
 pended f at s v h e = rw (eq-eqb (s .kind) 2 h, e)
 
+-- an older slot's byte: what it is, and how it is put and read
+pub older-bits : (x : Older) (p q : ℕ) → p ≡ cond (x .permanent) 1 0 → q ≡ cond (x .pin) 1 0 → p + 2 * q ≡ olderByte x
+unfolding olderByte bitsOf
+older-bits x p q e f = rw (e, f) (omega arith)
+
+pub older-put : (s : Slot) (m : List ℕ) (v at end : ℕ) (out o : List ℕ) → s .kind ≡ 3 → v ≡ olderByte (s .old) → Put out at (v ∷ []) end o
+    → Put out at (shareOf 5 s m) end o
+older-put s m v at end out o e f x = rw (older-share s m e, ← f) x
+
+pub aged : (f : List ℕ) (at : ℕ) (s : Slot) (v : ℕ) → s .kind ≡ 3 → v ≡ getD f at 0
+    → withOld (olderFrom v) s ≡ cond (older s) (withOld (olderFrom (getD f at 0)) s) s
+unfolding older
+aged f at s v h e = rw (eq-eqb (s .kind) 3 h, e)
+
 -- a slot's share, by its row
 pub share-row : (t u : ℕ) (s : Slot) (m : List ℕ) → t ≡ u → shareOf t s m ≡ shareOf u s m
 share-row t u s m e = ap (λ (k : ℕ). shareOf k s m) e
 
-pub share-first : (t : ℕ) (s : Slot) (m : List ℕ) → (t ≡ 1 → ⊥) → (t ≡ 2 → ⊥) → (t ≡ 3 → ⊥) → (t ≡ 4 → ⊥) → shareOf t s m ≡ shareOf 0 s m
+pub share-first : (t : ℕ) (s : Slot) (m : List ℕ) → (t ≡ 1 → ⊥) → (t ≡ 2 → ⊥) → (t ≡ 3 → ⊥) → (t ≡ 4 → ⊥) → (t ≡ 5 → ⊥) → shareOf t s m ≡ shareOf 0 s m
 unfolding shareOf fieldAt fields
-share-first t s m a b c d = ap (λ (x : Field). x .writes s m) (row-0 t a b c d)
+share-first t s m a b c d e = ap (λ (x : Field). x .writes s m) (row-0 t a b c d e)

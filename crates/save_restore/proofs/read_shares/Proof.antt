@@ -15,7 +15,7 @@ use Rattle.save_restore.proofs.read_shares.Statement.{statement}
 use Rattle.save_restore.proofs.read_shares.Tie as tie
 
 abbrev Inv-loop : tie.InvT-loop
-Inv-loop t form slots at₀ all₀ i₀ at all i = (i ≤ 8) × (length slots ≡ 8) × (t < 5) × (at ≡ place t i slots) × (length all ≡ 8) × (all ≡ mapTo (readBy t form slots) 0 i slots)
+Inv-loop t form slots at₀ all₀ i₀ at all i = (i ≤ 8) × (length slots ≡ 8) × (t < 6) × (at ≡ place t i slots) × (length all ≡ 8) × (all ≡ mapTo (readBy t form slots) 0 i slots)
 
 abbrev μ-loop : tie.MeasureT-loop
 μ-loop t form slots at₀ all₀ i₀ at all i = 8 - i

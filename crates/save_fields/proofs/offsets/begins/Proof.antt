@@ -10,7 +10,7 @@ use Rattle.save_fields.proofs.offsets.begins.Statement.{statement}
 use Rattle.save_fields.proofs.offsets.begins.Tie as tie
 
 abbrev Inv-loop : tie.InvT-loop
-Inv-loop t slots at₀ u₀ at u = (u ≤ t) × (t ≤ 5) × (at ≡ begins u slots)
+Inv-loop t slots at₀ u₀ at u = (u ≤ t) × (t ≤ 6) × (at ≡ begins u slots)
 
 abbrev μ-loop : tie.MeasureT-loop
 μ-loop t slots at₀ u₀ at u = t - u
