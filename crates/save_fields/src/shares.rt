@@ -268,7 +268,10 @@ fn read_state(form: &[u8], at: usize, s: Slot) -> Slot
     let counter = byte_at(form, at + 2);
     let voltage = byte_at(form, at + 3) == 1;
     let was = s.old;
-    let old = Older { lasting: false, ..was };
+    let old = Older {
+        lasting: false,
+        ..was
+    };
     Slot {
         half,
         counter,

@@ -34,6 +34,7 @@ use Rattle.save_rules.specs.Reading.{sizeIn, offset, span, begins, place
 use Rattle.save_rules.proofs.Bits.{bit-small, bits-small, only-first, first-bit, not-kept}
 use Rattle.save_rules.proofs.Places.{tags, Asks, who-asks, none-asks, span-there, span-none, fixed-there, begins-up, field-there, length-form, high-at, low-at, tagged-there, share-at, share-within, offset-most, same-tagged, same-place, begins-by-kinds}
 use Rattle.save_rules.proofs.Stages.{resolution-small, timeout-small, length-zero, word-back}
+use Rattle.save_rules.proofs.Before.{NonePending, NothingOlder}
 use Rattle.save_rules.proofs.Once.{typed-read, accepted-in-range, written-again, length-restored, accepted-length}
 
 -- A wrong memory length is refused with 1, and every other form that is not accepted with 10; both leave state and memory.
@@ -113,7 +114,7 @@ pub record Conforms (f : List ℕ) : Type 0 where
   -- field 6 would begin where it would, and nothing is pending
   pub some-pending : HasFive f → OneIs f
   pub no-five : (HasFive f → ⊥) → begins 5 (busIn f .slots) ≡ begins 4 (busIn f .slots)
-  pub none-pending : (HasFive f → ⊥) → (k : ℕ) → k < slotCount → (slotIn f k) .sensor .pending ≡ false
+  pub none-pending : (HasFive f → ⊥) → NonePending (busIn f)
   -- "a byte for each sensor": so long it is; each byte is 0 or 1, "1 if a change is pending", and that only where by register 01h one can be
   pub five-high : HasFive f → getD f (begins 4 (busIn f .slots) + 1) 0 ≡ 0
   pub five-low : HasFive f → getD f (begins 4 (busIn f .slots) + 2) 0 ≡ countTo sensing slotCount (busIn f .slots)
@@ -124,8 +125,7 @@ pub record Conforms (f : List ℕ) : Type 0 where
   -- of its bytes is not 0; if it is not, the form ends where it would begin
   pub some-older : HasSix f → OneIsNot f
   pub six-ends : (HasSix f → ⊥) → length f ≡ begins 5 (busIn f .slots)
-  pub none-older : (HasSix f → ⊥) → (k : ℕ) → k < slotCount → older (slotIn f k) ≡ true
-      → ((slotIn f k) .old .permanent ≡ false) × ((slotIn f k) .old .pin ≡ false)
+  pub none-older : (HasSix f → ⊥) → NothingOlder (busIn f)
   -- "a byte for each such slot": so long it is; each byte is "bit 0 permanent, bit 1 pin", so at most 3, and bit 0 only where bit 0 of protection is set
   pub six-high : HasSix f → getD f (begins 5 (busIn f .slots) + 1) 0 ≡ 0
   pub six-low : HasSix f → getD f (begins 5 (busIn f .slots) + 2) 0 ≡ countTo older slotCount (busIn f .slots)
@@ -279,7 +279,7 @@ module _ (f n : List ℕ) (accepts : accepted f n ≡ true) (sized : length n �
       let y : (slotIn f (a .slot)) .sensor .pending ≡ true = and-right (sensing (slotIn f (a .slot))) ((slotIn f (a .slot)) .sensor .pending) (a .needs) in
       record { slot = a .slot; below = a .below; sensor = x; one = pending-in i (a .slot) (a .below) x ∙ rw y }
 
-  none-pends : isThere 4 slots ≡ false → (k : ℕ) → k < slotCount → (slotIn f k) .sensor .pending ≡ false
+  none-pends : isThere 4 slots ≡ false → NonePending (busIn f)
   unfolding fieldAt fields pendingField sensing
   none-pends i k h = by-test ((slotIn f k) .sensor .pending)
       (λ p. absurd (false≢true (sym (none-asks 4 slots i k h) ∙ both _ _ (ranges k h .pins .here p) p)))
@@ -305,8 +305,7 @@ module _ (f n : List ℕ) (accepts : accepted f n ≡ true) (sized : length n �
         other = λ z. bits-none (s .old .permanent) (s .old .pin) y (sym (older-in i (a .slot) (a .below) x) ∙ z);
       }
 
-  none-older-in : isThere 5 slots ≡ false → (k : ℕ) → k < slotCount → older (slotIn f k) ≡ true
-      → ((slotIn f k) .old .permanent ≡ false) × ((slotIn f k) .old .pin ≡ false)
+  none-older-in : isThere 5 slots ≡ false → NothingOlder (busIn f)
   unfolding fieldAt fields olderField
   none-older-in i k h o =
       let none : ((slotIn f k) .old .permanent || (slotIn f k) .old .pin) ≡ false = rw o at (none-asks 5 slots i k h) in
@@ -492,16 +491,10 @@ module _ (f g n : List ℕ) (one : accepted f n ≡ true) (other : accepted (f +
   abbrev ms : List ℕ
   ms = memoryIn (f ++ g) n
 
-  abbrev pub NothingPending : Type 0
-  NothingPending = (k : ℕ) → k < slotCount → (slotIn f k) .sensor .pending ≡ false
-
-  abbrev pub NothingOlder : Type 0
-  NothingOlder = (k : ℕ) → k < slotCount → older (slotIn f k) ≡ true → ((slotIn f k) .old .permanent ≡ false) × ((slotIn f k) .old .pin ≡ false)
-
   pub data Tail : Type 0 where
     from-five : g ≡ wholeField 4 (busIn (f ++ g) .slots) (memoryIn (f ++ g) n) ++ fieldBytes 5 (busIn (f ++ g) .slots) (memoryIn (f ++ g) n)
-        → NothingPending → NothingOlder → Tail
-    six : g ≡ wholeField 5 (busIn (f ++ g) .slots) (memoryIn (f ++ g) n) → NothingOlder → Tail
+        → NonePending (busIn f) → NothingOlder (busIn f) → Tail
+    six : g ≡ wholeField 5 (busIn (f ++ g) .slots) (memoryIn (f ++ g) n) → NothingOlder (busIn f) → Tail
 
   long-again : length ms ≡ memoryBytes
   long-again = length-restored (f ++ g) n other sized

@@ -232,7 +232,7 @@ goes-on x n es c q l =
     let a : Alike y x = restored-alike x n c q l in
     let z : Alike (after es y) (after es x) = after-alike es y x a in
     let own : (k : ℕ) → k < slotCount → absent (slotAt absentSlot k (after es x)) ≡ false
-        → take (bytesOf ((slotAt absentSlot k (after es x)) .kind)) (partOf k (after es y)) ≡ take (bytesOf ((slotAt absentSlot k (after es x)) .kind)) (partOf k (after es x))
+    → take (bytesOf ((slotAt absentSlot k (after es x)) .kind)) (partOf k (after es y)) ≡ take (bytesOf ((slotAt absentSlot k (after es x)) .kind)) (partOf k (after es x))
     = λ k h e. alike-taken _ (partOf k (after es y)) (partOf k (after es x)) (same-length (after es y) (after es x) k (z .sized)) (z .bytes k (rw (after-calm es x c .slots) h) e) in
     record {
       told = answers-alike es y x a;

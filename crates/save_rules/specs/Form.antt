@@ -35,8 +35,8 @@ bitsIn zero v = []
 bitsIn (suc n) v = eqb (v % 2) 1 ∷ bitsIn n (v / 2)
 
 -- A field of the form: its tag; whether a slot needs it (P8: "present only when one is 1"; P9: "present only when one is not 0": it is in the form
--- exactly if a slot needs it); how many bytes a slot of each kind has in it; what these are, of a slot with its 512 bytes; and a slot with what the bytes from a place on say of it. (A
--- slot's memory is no part of the slot: what is read of it is Reading.memoryIn.)
+-- exactly if a slot needs it); how many bytes a slot of each kind has in it; what these are, of a slot with its 512 bytes; and a slot with what the
+-- bytes from a place on say of it. (A slot's memory is no part of the slot: what is read of it is Reading.memoryIn.)
 pub record Field : Type 0 where
   pub tag : ℕ
   pub needed : Slot → Bool
@@ -134,8 +134,8 @@ pendingField = record {
   reads = λ f at s. cond (sensing s) (withSensor (withPending (eqb (getD f at 0) 1) (s .sensor)) s) s;
 }
 
--- P9: "tag 6, a byte for each such slot (bit 0 permanent, bit 1 pin), present only when one is not 0": what the byte is, and what it says. (Nothing is
--- open or running in a slot that is saved, so that nothing is to become permanent. A byte above 3 would not be written so.)
+-- P9: "tag 6, a byte for each such slot (bit 0 permanent, bit 1 pin), present only when one is not 0": what the byte is, and what it says. (Nothing
+-- is open or running in a slot that is saved, so that nothing is to become permanent. A byte above 3 would not be written so.)
 unfoldable pub olderByte : Older → ℕ
 olderByte x = bitsOf (x .permanent ∷ x .pin ∷ [])
 
