@@ -52,8 +52,8 @@ module _ (n b : ℕ) (s : Slot) (o : older s ≡ true) (family : b / 16 ≡ 0x6)
       → acksControl n b s ≡ cond (eqb b 0x62) (not protected) (cond (eqb b 0x66) true (cond (eqb b 0x63 || eqb b 0x67) (not protected) false))
   unfolding acksHeard olderCommand raisedCommand protects
   high-acks p v = asked ∙ ap (λ (h : Heard). acksHeard h n s) reads ∙ (
-    by-test (eqb b 0x62) (λ e. rw e (ap (λ (x : Bool). x && not protected) v)) λ e. rw e (
-    by-test (eqb b 0x66) (λ f. rw f v) λ f. rw f (by-test (eqb b 0x63 || eqb b 0x67) (λ g. rw g) (λ g. rw g))))
+      by-test (eqb b 0x62) (λ e. rw e (ap (λ (x : Bool). x && not protected) v)) λ e. rw e (
+      by-test (eqb b 0x66) (λ f. rw f v) λ f. rw f (by-test (eqb b 0x63 || eqb b 0x67) (λ g. rw g) (λ g. rw g))))
     where
       reads : olderCommand n b s ≡ raisedCommand b
       reads = rw (p, v)

@@ -123,21 +123,51 @@ module _ (n : ℕ) (a : Act) (s : Slot) (o : older s ≡ true) (b : Bits (s .pro
 
   decided : (coming : List Bool) (lasting : Bool) → Decided n a s (r .protection) coming lasting → Bits (r .protection) coming (r .old .permanent) lasting
   decided coming lasting (asBefore c l) = record {
-    now = nowThen; then = b .then; stands = protected; comes = c ∙ b .comes; set-now = kept-now; set-then = kept-then; will = λ e. b .will (sym l ∙ e);
+    now = nowThen;
+    then = b .then;
+    stands = protected;
+    comes = c ∙ b .comes;
+    set-now = kept-now;
+    set-then = kept-then;
+    will = λ e. b .will (sym l ∙ e);
   }
   decided coming lasting (asStands c l) = record {
-    now = nowThen; then = nowThen; stands = protected; comes = c ∙ protected; set-now = kept-now; set-then = kept-now; will = λ e. absurd (false≢true (sym l ∙ e));
+    now = nowThen;
+    then = nowThen;
+    stands = protected;
+    comes = c ∙ protected;
+    set-now = kept-now;
+    set-then = kept-now;
+    will = λ e. absurd (false≢true (sym l ∙ e));
   }
   decided coming lasting (byProtect v k e p f g c l) =
       let w : (k .0 ≡ 0) × (s .old .permanent ≡ false) = subst (λ (h : Heard). alike h (s .old .permanent)) g (asked n v s o) in record {
-    now = nowThen; then = true; stands = protected; comes = c ∙ rw (w .0, b .stands); set-now = kept-now; set-then = λ e. refl; will = λ e. refl;
-  }
+        now = nowThen;
+        then = true;
+        stands = protected;
+        comes = c ∙ rw (w .0, b .stands);
+        set-now = kept-now;
+        set-then = λ e. refl;
+        will = λ e. refl;
+      }
   decided coming lasting (byClear v e p f g c l) =
       let w : s .old .permanent ≡ false = subst (λ (h : Heard). alike h (s .old .permanent)) g (asked n v s o) in record {
-    now = nowThen; then = false; stands = protected; comes = c; set-now = kept-now; set-then = λ q. absurd (byte-calm v e w q); will = λ q. absurd (false≢true (sym l ∙ q));
-  }
+        now = nowThen;
+        then = false;
+        stands = protected;
+        comes = c;
+        set-now = kept-now;
+        set-then = λ q. absurd (byte-calm v e w q);
+        will = λ q. absurd (false≢true (sym l ∙ q));
+      }
   decided coming lasting (byLasting v e p f g c l) = record {
-    now = nowThen; then = true; stands = protected; comes = c ∙ rw (b .stands); set-now = kept-now; set-then = λ e. refl; will = λ e. refl;
+    now = nowThen;
+    then = true;
+    stands = protected;
+    comes = c ∙ rw (b .stands);
+    set-now = kept-now;
+    set-then = λ e. refl;
+    will = λ e. refl;
   }
 
 pub slot-lasts : (n : ℕ) (a : Act) (s : Slot) → Lasts s → Lasts (slotNext n a s)
@@ -149,7 +179,13 @@ slot-lasts n a s h e =
 pub fresh-lasts : (kind long : ℕ) → Lasts (freshSlot kind long)
 unfolding freshSlot freshOlder
 fresh-lasts kind long o = record {
-  now = false; then = false; stands = refl; comes = refl; set-now = λ e. e; set-then = λ e. e; will = λ e. e;
+  now = false;
+  then = false;
+  stands = refl;
+  comes = refl;
+  set-now = λ e. e;
+  set-then = λ e. e;
+  will = λ e. e;
 }
 
 -- OTHER SLOTS: nothing of it is there
