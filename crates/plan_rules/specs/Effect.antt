@@ -48,13 +48,13 @@ begunPages n (a ∷ r) s =
 unfoldable pub leaving : Slot → Slot
 leaving s = inPhase Idle (letGo (standing s) s)
 
--- "Selecting a half is shared: other slots feel it." P9: an older module has no halves. In slot 6 it hears 6Ch as the lasting form, in slot 7 6Eh, with
--- its voltage off, "unless protection is permanent".
+-- "Selecting a half is shared: other slots feel it." P9: an older module has no halves. In slot 6 it hears 6Ch as the lasting form, in slot 7 6Eh,
+-- with its voltage off, "unless protection is permanent".
 unfoldable pub opens : ℕ → ℕ → Slot → Bool
 opens n h t = not (t .old .permanent) && not (t .voltage) && eqb (6 + h) n
 
--- What half h, selected "with no bytes after them before the stop", leaves of another slot n, t, that stood in no exchange: it stands in half h; of an
--- older module the stop cancels that form.
+-- What half h, selected "with no bytes after them before the stop", leaves of another slot n, t, that stood in no exchange: it stands in half h; of
+-- an older module the stop cancels that form.
 unfoldable pub feels : ℕ → ℕ → Slot → Slot
 feels n h t = cond (older t) (cond (opens n h t) (cancelled t) t) (inHalf h t)
 
