@@ -116,15 +116,10 @@ pub was-before : (f n : List ℕ) → accepted f n ≡ true → length n ≡ mem
     → earlierForm (busIn f) (memoryIn f n) ≡ f
 was-before f n a l h o = sym (same-as-before (busIn f) (memoryIn f n) (length-restored f n a l) h o) ∙ (unfold restored in written-again f n a)
 
--- So the forms of a bench with three older slots and a sensor, with field 6, and with fields 5 and 6, are accepted;
+-- So the form of a bench with three older slots and a sensor, with fields 5 and 6, is accepted;
 older-typed : (on p w : Bool) → Typed (olderBus on p w)
 unfolding open-saved
 older-typed on p w = record { slots = refl; blocks = (refl, (refl, (refl, (refl, (refl, (refl, (refl, (refl, tt)))))))) }
-
-pub older-accepted : accepted (olderForm 1 ++ six-of-three) blank ≡ true
-older-accepted =
-    ap (λ (f : List ℕ). accepted f blank) (sym (olders .six))
-    ∙ reads-back (olderBus false true true) olderMemory blank (older-typed false true true) (unfold open-saved in refl) refl refl .accepts
 
 pub both-accepted : accepted (olderForm 1 ++ five-of-one ++ six-of-three) blank ≡ true
 both-accepted =
