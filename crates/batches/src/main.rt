@@ -1,11 +1,13 @@
 // Lists for tests: a setup on standard input, then lists, each two bytes its number of records, the high byte first, and the records. Each is given
 // as one list, with as many answer places, over the bench as the one before left it, and its lines are written: so a script cut into lists gives
 // the script's lines. A list that is cut is not given, and ends with `short`; one of more than 4,096 records ends with the list program's sentence.
+#![tactic(auto)]
+
 ghost use Rattle.std.specs.Prelude.{◌≡◌, ◌≤◌, length};
 
-use libc::{STDERR_FILENO, STDIN_FILENO, STDOUT_FILENO};
 use list_lend::text::Told;
 use rules::Bus;
+use script_streams::opening::{STDERR_FILENO, STDIN_FILENO, STDOUT_FILENO};
 
 // Bytes of the longest list's records; and what stands for no list to be given.
 const MOST: usize = 16384;
@@ -13,7 +15,7 @@ const MOST: usize = 16384;
 const NONE: usize = 16385;
 
 // What goes from one list to the next: the bus, and whether to go on.
-#[derive(Drop)]
+#[derive(Clone, Copy)]
 struct Going {
     bus: Bus,
     on: bool,

@@ -1,4 +1,6 @@
 // The reader: a block as a part of the caller's memory.
+#![tactic(auto)]
+
 ghost use Rattle.std.specs.Prelude.{◌≡◌, cond, ◌+◌, ◌*◌};
 ghost use Rattle.rules.specs.Reader.{no_block, block_bytes};
 

@@ -1,4 +1,6 @@
 // The control byte: what it asks for, of every slot and of an older module. Which slot then acknowledges is the slot's matter.
+#![tactic(auto)]
+
 ghost use Rattle.std.specs.Prelude.{◌≡◌};
 ghost use Rattle.bus_control.specs.Rows.{found_in};
 ghost use Rattle.rules.specs.Control.{heard_of, command_of, raised_command, own_command, older_command, heard_by};
@@ -6,7 +8,7 @@ ghost use Rattle.rules.specs.Control.{heard_of, command_of, raised_command, own_
 use rules::{BlockNo, Heard, Slot, SlotNo};
 
 // A row of the table of commands: the control byte, and what it asks for.
-#[derive(Drop)]
+#[derive(Clone, Copy)]
 struct Row(u8, Heard);
 
 // How many commands the family 0110 has.

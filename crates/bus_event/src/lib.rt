@@ -1,4 +1,6 @@
 // The bus at an event: eight slots and one lent memory. The bus's fields are public: what a user wants to look at is read there.
+#![tactic(auto)]
+
 ghost use Rattle.std.specs.Prelude.{◌≡◌, true, length};
 ghost use Rattle.rules.specs.Modelled.{memory_bytes};
 ghost use Rattle.rules.specs.Refusals.{in_range};

@@ -1,4 +1,6 @@
 // The EVENT pin of a slot, as it stands.
+#![tactic(auto)]
+
 ghost use Rattle.std.specs.Prelude.{◌≡◌};
 ghost use Rattle.rules.specs.Looked.{no_pin, look_of};
 

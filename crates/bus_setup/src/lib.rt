@@ -1,4 +1,6 @@
 // The setup: a bus from eight kinds and lengths, and document 01's row 5, by which it is refused.
+#![tactic(auto)]
+
 ghost use Rattle.std.specs.Prelude.{◌≡◌, map};
 ghost use Rattle.proof_lists.specs.Each.{all_of};
 ghost use Rattle.rules.specs.Fresh.{setup_slot};

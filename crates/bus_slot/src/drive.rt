@@ -10,7 +10,7 @@ use super::{leaving, memory, phase};
 use rules::{Phase, Slot};
 
 // A slot after a read, whether it drives a byte, and which; FFh where it drives none.
-#[derive(Drop)]
+#[derive(Clone, Copy)]
 pub struct Drive {
     pub slot: Slot,
     pub drives: bool,

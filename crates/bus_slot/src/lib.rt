@@ -1,5 +1,7 @@
 // One slot's machine, a module for each thing that it does. A slot looks at no other slot, and each contract is an equation with the law's
 // definition of the same thing.
+#![tactic(auto)]
+
 pub mod blocks; // a slot's blocks and their protection; the address that the counter points to
 pub mod cycle; // the write cycle: begun by a stop, run down by ticks, its end
 pub mod drive; // a read

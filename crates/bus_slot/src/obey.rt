@@ -8,7 +8,7 @@ use super::{blocks, phase};
 use rules::{BlockNo, Heard, Phase, Slot, SlotNo};
 
 // A slot after a byte from the master, and whether it acknowledges.
-#[derive(Drop)]
+#[derive(Clone, Copy)]
 pub struct Heed {
     pub slot: Slot,
     pub ack: bool,

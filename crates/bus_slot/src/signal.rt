@@ -29,7 +29,7 @@ fn stop_in(p: Phase, s: Slot) -> Slot
 }
 
 // The events that reach every slot and carry nothing.
-#[derive(Drop)]
+#[derive(Clone, Copy)]
 pub enum Signal {
     Start,
     Stop,

@@ -9,7 +9,7 @@ ghost use Rattle.rules.specs.Events.{carried};
 use rules::{Act, Carried, Heard, Phase, Slot, SlotNo};
 
 // The slot stays, or moves to another phase and no more, and shows nothing; or there is more to it.
-#[derive(Drop)]
+#[derive(Clone, Copy)]
 pub enum Change {
     Nothing,
     To(Phase),

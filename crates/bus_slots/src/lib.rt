@@ -1,4 +1,6 @@
 // All slots at an act.
+#![tactic(auto)]
+
 pub mod every; // the one loop over the slots
 pub mod foreseen; // what an act carries over the wires, and what can be told of a slot's step at a glance
 pub mod shown; // what the bus shows, joined from what its slots show

@@ -19,7 +19,7 @@ fn ack_of(ack: bool) -> Answer
 }
 
 // What the slots so far show: whether one acknowledges, whether one drives a byte, and the byte of the first that does.
-#[derive(Drop)]
+#[derive(Clone, Copy)]
 pub struct Shown {
     pub ack: bool,
     pub driven: bool,

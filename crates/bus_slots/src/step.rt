@@ -12,7 +12,7 @@ use bus_slot::signal::Signal;
 use rules::{Act, Applied, Heard, Slot, SlotNo};
 
 // A slot after an act, whether it acknowledges, whether it drives a byte, and which; FFh where it drives none.
-#[derive(Drop)]
+#[derive(Clone, Copy)]
 pub struct Step {
     pub slot: Slot,
     pub ack: bool,

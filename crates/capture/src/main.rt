@@ -1,17 +1,19 @@
 // The capture program: a setup, a memory and records with the answers seen on standard input; the verdict on them as a line on standard output. It
 // begins by `opening`, reads a piece at a time, hands what came to `capture_pieces`, and writes what that put at the front of the output: all that
 // decides is said and proved there. The status that a verdict has, the script `run` gives it (the file status).
+#![tactic(auto)]
+
 ghost use Rattle.std.specs.Prelude.{◌≡◌, true, ◌+◌, ◌≤◌, length};
 ghost use Rattle.rules.specs.Modelled.{memory_bytes};
 ghost use Rattle.rules.specs.Refusals.{in_range};
 ghost use Rattle.capture.specs.Program.{Came, Ended, Served};
 
 use capture_rules::Verdict;
-use libc::{STDIN_FILENO, STDOUT_FILENO};
 use rules::Bus;
+use script_streams::opening::{STDIN_FILENO, STDOUT_FILENO};
 
 // What goes from one piece to the next: the bus, the number of records so far, the verdict on them, and whether to go on.
-#[derive(Drop)]
+#[derive(Clone, Copy)]
 struct Going {
     bus: Bus,
     number: usize,

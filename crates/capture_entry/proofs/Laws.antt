@@ -15,6 +15,7 @@ use Rattle.rules.specs.declared.Answer.TheVariants as answer
 use Rattle.rules.specs.declared.Outcome.{Outcome}
 use Rattle.rules.specs.declared.Pair.{Pair}
 use Rattle.rules.specs.declared.Refusal.{Refusal}
+use Rattle.rules.specs.declared.Refusal.TheVariants.{WrongSetup}
 use Rattle.rules.specs.Modelled.{memory_bytes}
 use Rattle.rules.specs.Events.{value_of, refusal_number}
 use Rattle.rules.proofs.Range.Judged.{refusal_of, numbered}
@@ -38,10 +39,10 @@ module _ (ps : List Pair) (r : Outcome) (e : r ≡ setup_of ps) where
       let n : refusal_number x ≡ 5 = rw g at (ap value_of (sym a) ∙ ap (λ (o : Outcome). value_of o.answer) e) in
       ap Refused (sym (numbered x) ∙ ap refusal_of n) ∙ sym (at-setup ps m bs h g))
 
-  pub good-setup : OneOf (0 ∷ 1 ∷ 2 ∷ 3 ∷ []) (tag_of the_type r.answer) → all_of good_pair ps ≡ true
+  pub good-setup : ((x : Refusal) → r.answer ≡ answer.Refused x → ⊥) → all_of good_pair ps ≡ true
   unfolding setup_of
   good-setup t =
-      by-test (all_of good_pair ps) (λ g. g) (λ g. absurd (miss (0 ∷ 1 ∷ 2 ∷ 3 ∷ []) 4 tt (rw g at (rw e at t))))
+      by-test (all_of good_pair ps) (λ g. g) (λ g. absurd (t WrongSetup (rw g at (ap (λ (o : Outcome). o.answer) e))))
 
 -- the records of a whole capture, checked as one piece and closed
 pub whole-capture : (ps : List Pair) (m mem bs : List ℕ) (r : Outcome) (c : Checked) (left : List ℕ) (v : Verdict) → r ≡ setup_of ps → all_of good_pair ps ≡ true

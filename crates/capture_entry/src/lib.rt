@@ -1,5 +1,7 @@
 // The checker: the verdict on a whole capture. What a verdict is, and what it says of the model, stands in the crate
 // `capture_rules`; a capture that is too long to lend is checked by `capture_pieces::pieces` alone.
+#![tactic(auto)]
+
 ghost use Rattle.std.specs.Prelude.{◌≡◌};
 ghost use Rattle.capture_rules.specs.Capture.{verdict_of};
 
@@ -21,7 +23,7 @@ pub fn check(pairs: [Pair; 8], memory: &[u8], records: &[u8]) -> Verdict
     }
     let bus = made.bus;
     let mut mem = [0u8; 4096];
-    bytes::copy(memory, &mut mem);
+    mem.copy_from_slice(memory);
     let checked = capture_pieces::pieces::piece(bus, &mut mem, 0, records);
     let verdict = checked.verdict;
     capture_pieces::pieces::closed(verdict, records.len() % capture_pieces::pieces::RECORD)

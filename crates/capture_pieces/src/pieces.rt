@@ -27,7 +27,7 @@ fn agrees(a: Answer, s: Seen) -> bool
 }
 
 // The bus after the records that were looked at, and the verdict on them.
-#[derive(Drop)]
+#[derive(Clone, Copy)]
 pub struct Checked {
     pub bus: Bus,
     pub verdict: Verdict,

@@ -1,16 +1,18 @@
 // What a capture holds beside a script's records, and what checking it comes to. What the verdict is, and what it says of the model, stands in
 // specs/ and proofs/.
+#![tactic(auto)]
+
 use rules::{Answer, Refusal};
 
 // An answer as it was captured: the code of its sort, and its byte. Rubbish is welcome in both. What they mean: specs/Capture.
-#[derive(Drop)]
+#[derive(Clone, Copy)]
 pub struct Seen {
     pub code: u8,
     pub byte: u8,
 }
 
 // What checking a capture comes to.
-#[derive(Drop)]
+#[derive(Clone, Copy)]
 pub enum Verdict {
     Accepted,
     // The first record that differs, counted from 0; the model's answer, and the captured one.

@@ -1,5 +1,6 @@
 // A bench for what no script can reach: it reads tries, hands in the states and memories that they ask for, and writes each command with what
 // came of it. `stdin` says what a line may hold, and `stdout` has what document 01 asks for.
+#![tactic(auto)]
 ghost use Rattle.std.specs.Prelude.{◌≤◌, length};
 
 mod names; // the words of the tries
@@ -15,7 +16,7 @@ use rules::{Answer, BlockNo, Bus, Event, Pair, SlotNo};
 use save_rules::Saved;
 
 // What a command goes on from, beside memory and shelf: the pairs of the last setup, the bus, and how long the memory is.
-#[derive(Drop)]
+#[derive(Clone, Copy)]
 struct Bench {
     pairs: [Pair; 8],
     bus: Bus,

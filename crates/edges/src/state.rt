@@ -153,7 +153,7 @@ fn poke(s: Slot, k: usize, v: u16) -> Slot {
 }
 
 // The slot with what a command hands in, and whether all of it is there and fits.
-#[derive(Drop)]
+#[derive(Clone, Copy)]
 pub struct Handed {
     pub slot: Slot,
     pub ok: bool,

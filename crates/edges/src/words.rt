@@ -194,14 +194,14 @@ fn is_whole(t: [u32; 38]) -> bool {
 }
 
 // The words of a command, and the byte behind it: a semicolon or a line's end; 0 where the input ends.
-#[derive(Drop)]
+#[derive(Clone, Copy)]
 pub struct Said {
     pub words: [u32; 38],
     pub end: u8,
 }
 
 // How much of a command was read, and the byte behind it.
-#[derive(Drop)]
+#[derive(Clone, Copy)]
 struct Piece {
     length: usize,
     end: u8,

@@ -3,7 +3,7 @@
 // filled.
 ghost use Rattle.std.specs.Prelude.{◌≤◌, length};
 
-use libc::{STDERR_FILENO, STDOUT_FILENO};
+use super::{STDERR, STDOUT};
 use rules::{Bus, Pair};
 
 // Bytes of the bench's form.
@@ -58,7 +58,7 @@ fn restore_laps(bus: Bus, mem: &mut [u8; 4096], form: &mut [u8; FORM], count: u6
 // So many copies of as many bytes.
 fn copy_laps(from: &mut [u8; FORM], to: &mut [u8; FORM], count: u64) {
     for _ in 0..count {
-        bytes::copy(from, to);
+        to.copy_from_slice(from);
         from[FIRST] = up(to[FIRST]);
     }
     finish(from[FIRST], count, to);
@@ -70,11 +70,11 @@ fn finish(last: u8, count: u64, room: &mut [u8])
     requires { 5 ≤ length room.old }
 {
     if last != ((count % 256 + 255) % 256) as u8 {
-        io::write_all(STDERR_FILENO, b"laps: a lap was lost\n");
+        io::write_all(STDERR, b"laps: a lap was lost\n");
         return;
     }
-    bytes::copy(b"done\n", room);
-    io::write_all(STDOUT_FILENO, &room[..5]);
+    room[..5].copy_from_slice(b"done\n");
+    io::write_all(STDOUT, &room[..5]);
 }
 
 // The laps that a letter asks for, from a bench whose form has been saved once.

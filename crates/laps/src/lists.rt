@@ -3,11 +3,11 @@
 ghost use Rattle.std.specs.Prelude.{◌≡◌, ◌≤◌};
 ghost use Rattle.list_entry.specs.Lists.{events_of};
 
-use libc::{STDERR_FILENO, STDOUT_FILENO};
+use super::{STDERR, STDOUT};
 use rules::{Answer, Bus, Event, Outcome, Pair, SlotNo};
 
 // The bus after some events, and the sum of what their answers weigh.
-#[derive(Drop)]
+#[derive(Clone, Copy)]
 struct Summed {
     bus: Bus,
     sum: u8,
@@ -126,10 +126,10 @@ fn laps(
 // The end of some laps, where each has come to its sum.
 fn finish(right: u64, count: u64) {
     if right != count {
-        io::write_all(STDERR_FILENO, b"laps: a lap was lost\n");
+        io::write_all(STDERR, b"laps: a lap was lost\n");
         return;
     }
-    io::write_all(STDOUT_FILENO, b"done\n");
+    io::write_all(STDOUT, b"done\n");
 }
 
 // So many laps, behind one that says what a lap comes to.

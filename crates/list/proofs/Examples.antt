@@ -35,9 +35,9 @@ places n = 0 ∷ n ∷ []
 -- what is read, and what is written for it
 abbrev table : List (List ℕ × Written)
 table =
-    (setup ++ places 3 ++ records, on_output (quoted "-\n_a\n_r2\n"))
-    ∷ (setup ++ places 5 ++ records, on_output (quoted "-\n_a\n_r2\n.\n.\n"))
-    ∷ (older ++ places 8 ++ pins, on_output (quoted "-\n_r4\n_r3\n-\n_a\n_a\n_n\n-\n"))
+    (setup ++ places 3 ++ records, on_output (quoted "-\nA\nR2\n"))
+    ∷ (setup ++ places 5 ++ records, on_output (quoted "-\nA\nR2\n.\n.\n"))
+    ∷ (older ++ places 8 ++ pins, on_output (quoted "-\nR4\nR3\n-\nA\nA\nN\n-\n"))
     ∷ (setup ++ places 0, on_output [])
     ∷ (setup ++ places 2 ++ records, on_output (quoted "R9\n"))
     -- "`R5`, then too many records, then `short`, then `R9`"

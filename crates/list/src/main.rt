@@ -1,11 +1,12 @@
 // The list program: a setup, a number of answer places and records on standard input; the records given as one list, and a line for each answer
 // place on standard output, or what stands in the way. Its input is bounded: so it is one read, one function, `written`, whose contract says all
 // that is written for what came, and one write. The status that a result has, the script `run` gives it (the file status).
+#![tactic(auto)]
 ghost use Rattle.std.specs.Prelude.{◌≡◌, cond, ◌≤◌, ltb, length};
 ghost use Rattle.list_lend.specs.Listed.{number_in};
 ghost use Rattle.list.specs.Asked.{answer_of, fronted, put_for, written_for};
 
-use libc::STDIN_FILENO;
+use script_streams::opening::STDIN_FILENO;
 use rules::Bus;
 
 // Bytes of one record more than a list may have; and of setup, number of places and so many records, which is all that is ever looked at.
@@ -14,7 +15,7 @@ const TOO_MANY: usize = 16388;
 const INPUT: usize = 16406;
 
 // What is written in the end: the front of the output, as far as its end says, and whether it is for standard output, or for standard error.
-#[derive(Drop)]
+#[derive(Clone, Copy)]
 struct Answered {
     end: usize,
     output: bool,

@@ -19,7 +19,7 @@ use Rattle.rules.specs.declared.Outcome.{Outcome}
 use Rattle.list_entry.specs.Lists.{Left, events_of}
 use Rattle.list_entry.specs.contracts.events as events
 
--- the clause is the equation with the definition: `events` is walked by hand, so nothing but this reads it
+-- the clause is the equation with the definition
 pub events-says : {M : Type 1} {𝓤 : Ura M} (𝓛 : Logic 𝓤) (mem : Memory → SProp 𝓤) (run : Routine → Fun 𝓤) (κs : Lfts 3) (a : Args events.signature κs) (r : Res events.signature κs) (s : AtExit events.ended κs)
     → (events.clauses 𝓛 mem run κs a).ensures tt r s ≡ fact 𝓤 (events_of a.0 a.1.0.now a.1.1.0.now a.1.1.1.0.now ≡ (r, s.1.0.now, s.1.1.1.0.now))
 events-says 𝓛 mem run κs a r s = refl

@@ -1,4 +1,3 @@
 pub mod Determined
 pub mod Onward
 pub mod Promise
-pub mod Values

@@ -11,7 +11,7 @@ use lib.ListN.{length, take, drop, replicate, drop_of_length-le, length-append, 
 use lib.Seq.{length-take-le, drop-drop, take_at, drop_at}
 use Rattle.proof_lists.specs.Tests.{by-test}
 use Rattle.rules.specs.declared.Answer.{Answer}
-use Rattle.rules.specs.declared.Answer.TheVariants.{Nothing, Refused}
+use Rattle.rules.specs.declared.Answer.TheVariants.{Nothing}
 use Rattle.rules.specs.declared.Bus.{Bus}
 use Rattle.rules.specs.declared.Event.{Event}
 use Rattle.rules.specs.declared.Outcome.{Outcome}

@@ -1,5 +1,7 @@
 // A list of events in one call, on records and answer places that the caller lends: the events one by one, in order. Memory and state are judged
 // once, before the first of them: no event changes how they are judged.
+#![tactic(auto)]
+
 ghost use Rattle.std.specs.Prelude.{◌≡◌, true, length};
 ghost use Rattle.rules.specs.Modelled.{memory_bytes};
 ghost use Rattle.rules.specs.Refusals.{in_range};

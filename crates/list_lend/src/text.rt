@@ -88,7 +88,7 @@ fn put_places(answers: [Answer; 65535], places: usize, out: &mut [u8]) -> usize
 }
 
 // What is told of a list: the bus after it, and where its text ends.
-#[derive(Drop)]
+#[derive(Clone, Copy)]
 pub struct Told {
     pub bus: Bus,
     pub end: usize,
@@ -114,5 +114,6 @@ pub fn put_too_many(out: &mut [u8]) -> usize
     requires { 41 ≤ length out.old }
     ensures { (result ≡ 41) × (out.new ≡ sets out.old 0 too_many_text) }
 {
-    bytes::copy(b"list: more than 4096 records in one list\n", out)
+    out[..41].copy_from_slice(b"list: more than 4096 records in one list\n");
+    41
 }

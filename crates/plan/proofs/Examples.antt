@@ -34,7 +34,7 @@ half = (1 ∷ 0 ∷ 0 ∷ 0 ∷ []) ++ (2 ∷ 0 ∷ 0 ∷ 0x6E ∷ []) ++ (4 ∷
 abbrev table : List (List ℕ × String)
 table =
     (setup ++ memory ++ 3 ∷ replicate 512 0x33, "5\n06000000\n06000000\n06000000\n06000000\n06000000\n")
-    ∷ (setup ++ memory ++ 3 ∷ image ++ half, "27\n06000000\n06000000\n06000000\n06000000\n06000000\n01000000\n020000_a6\n020000_f0\n020000_aB\n020000_aB\n020000_aB\n020000_aB\n020000_aB\n020000_aB\n020000_aB\n020000_aB\n020000_aB\n020000_aB\n020000_aB\n020000_aB\n020000_aB\n020000_aB\n020000_aB\n020000_cD\n04000000\n06000000\n06000000\n")
+    ∷ (setup ++ memory ++ 3 ∷ image ++ half, "27\n06000000\n06000000\n06000000\n06000000\n06000000\n01000000\n020000A6\n020000F0\n020000AB\n020000AB\n020000AB\n020000AB\n020000AB\n020000AB\n020000AB\n020000AB\n020000AB\n020000AB\n020000AB\n020000AB\n020000AB\n020000AB\n020000AB\n020000CD\n04000000\n06000000\n06000000\n")
     ∷ (setup ++ memory ++ 2 ∷ image, "R3\n")
     -- P9: "3 is given [..] by P1 for a kind 3 slot"; beside one a plan is what it was
     ∷ (older ++ memory ++ 6 ∷ image, "R3\n")

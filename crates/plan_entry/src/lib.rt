@@ -1,5 +1,7 @@
 // The planner: the records of a script that brings one slot's memory to an image. What a plan is, and what it does on the bus, stands in the
 // crate `plan_rules`.
+#![tactic(auto)]
+
 ghost use Rattle.std.specs.Prelude.{◌≡◌, false, length};
 ghost use Rattle.plan_rules.specs.Effect.{SlotTyped, Typed};
 ghost use Rattle.plan_rules.specs.Plan.{wrong_lengths, no_such_slot, plan_number, plan_of};

@@ -1,4 +1,6 @@
 // The planner's work, for one slot.
+#![tactic(auto)]
+
 pub mod pages; // what five ticks leave of a slot's pages, which differ from an image, and whether one of those is protected
 pub mod records; // events laid as records into a lent buffer
 pub mod slot; // the plan for one slot by itself, or its refusal

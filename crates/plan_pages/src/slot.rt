@@ -23,7 +23,7 @@ fn copied(part: &[u8]) -> [u8; 512]
     ensures { result ≡ part.now }
 {
     let mut all = [0u8; 512];
-    bytes::copy(part, &mut all);
+    all.copy_from_slice(part);
     all
 }
 

@@ -16,7 +16,7 @@ fn sent(counter: u8, image: &[u8], p: usize) -> [u8; 17]
     let mut all = [counter; 17];
     let from = Slot::PAGE * p;
     let to = from + Slot::PAGE;
-    bytes::copy(&image[from..to], &mut all[1..]);
+    all[1..].copy_from_slice(&image[from..to]);
     all
 }
 

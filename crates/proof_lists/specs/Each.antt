@@ -56,6 +56,8 @@ module _ {A : Type 0} where
   unfolding map_to
   map_to-suc f n zero (x ∷ xs) d h = rw add-zero
   map_to-suc f n (suc k) (x ∷ xs) d (suc-le-suc h) = rw (add-suc, ← suc-add) (ap (λ (l : List A). f n x ∷ l) (map_to-suc f (suc n) k xs d h))
+  map_to-suc f n zero [] d h = elim h [ ]
+  map_to-suc f n (suc k) [] d h = elim h [ ]
 
   pub map_to-all : (f : ℕ → A → A) (n : ℕ) (xs : List A) → map_to f n (length xs) xs ≡ map_from f n xs
   unfolding map_to map_from
@@ -133,6 +135,7 @@ module _ {A : Type 0} where
   map_to-full f n zero [] h = refl
   map_to-full f n (suc k) [] h = refl
   map_to-full f n (suc k) (x ∷ xs) (suc-le-suc h) = ap (λ (l : List A). f n x ∷ l) (map_to-full f (suc n) k xs h)
+  map_to-full f n zero (x ∷ xs) h = elim h [ ]
 
   pub length-map_from : (f : ℕ → A → A) (n : ℕ) (xs : List A) → length (map_from f n xs) ≡ length xs
   unfolding map_from
@@ -144,6 +147,7 @@ module _ {A : Type 0} where
   unfolding map_from
   map_from-at f n (x ∷ xs) zero d h = rw add-zero
   map_from-at f n (x ∷ xs) (suc k) d (suc-le-suc h) = rw (add-suc, ← suc-add) (map_from-at f (suc n) xs k d h)
+  map_from-at f n [] k d h = elim h [ ]
 
   -- what no change alters of an element, all of them together leave
   pub map-map_from : {B : Type 0} (g : A → B) (f : ℕ → A → A) → ((n : ℕ) (x : A) → g (f n x) ≡ g x) → (n : ℕ) (xs : List A)
@@ -166,6 +170,8 @@ module _ {A : Type 0} where
   unfolding all_of
   all_of-at p zero (x ∷ xs) d l h = ((and-eq-true_iff (p x) (all_of p xs)).0 h).0
   all_of-at p (suc k) (x ∷ xs) d (suc-le-suc l) h = all_of-at p k xs d l ((and-eq-true_iff (p x) (all_of p xs)).0 h).1
+  all_of-at p zero [] d l h = elim l [ ]
+  all_of-at p (suc k) [] d l h = elim l [ ]
 
   -- a fact about every element
   abbrev pub Every : (A → Type 0) → List A → Type 0
@@ -185,6 +191,8 @@ module _ {A : Type 0} where
   pub every-at : (P : A → Type 0) (k : ℕ) (xs : List A) (d : A) → k < length xs → Every P xs → P (get_or xs k d)
   every-at P zero (x ∷ xs) d l h = h.0
   every-at P (suc k) (x ∷ xs) d (suc-le-suc l) h = every-at P k xs d l h.1
+  every-at P zero [] d l h = elim l [ ]
+  every-at P (suc k) [] d l h = elim l [ ]
 
   -- one element replaced, as a change of all
   abbrev pub one_at : (A → A) → ℕ → ℕ → A → A
@@ -200,6 +208,8 @@ module _ {A : Type 0} where
   one_from f k n zero (x ∷ xs) d e h = rw (eq-eqb k n (omega arith), past-from f k (suc n) xs (omega arith))
   one_from f k n (suc j) (x ∷ xs) d e (suc-le-suc h) =
       rw (ne_eqb k n (omega arith)) (ap (λ (l : List A). x ∷ l) (one_from f k (suc n) j xs d (omega arith) h))
+  one_from f k n zero [] d e h = elim h [ ]
+  one_from f k n (suc j) [] d e h = elim h [ ]
 
   pub map_from-one : (f : A → A) (k : ℕ) (xs : List A) (d : A) → k < length xs → set xs k (f (get_or xs k d)) ≡ map_from (one_at f k) 0 xs
   map_from-one f k xs d h = one_from f k 0 k xs d (omega arith) h
@@ -247,6 +257,7 @@ module _ {A : Type 0} where
   first_from-one p q e n (x ∷ xs) d (suc k) (suc-le-suc l) h =
       rw (rw add-zero at (h 0 (omega arith) (λ z. omega arith)), add-suc, ← suc-add)
       (first_from-one p q e (suc n) xs d k l (λ i m ne. rw (suc-add, ← add-suc) (h (suc i) (suc-le-suc m) (λ z. ne (suc_inj z)))))
+  first_from-one {B = B} p q e n [] d k l h = elim l [ ]
 
   -- the kth has one, and none before it
   pub first_from-at : {B : Type 0} (p : ℕ → A → Bool) (q : ℕ → A → B) (e : B) (n : ℕ) (xs : List A) (d : A) (k : ℕ) → k < length xs
@@ -257,6 +268,7 @@ module _ {A : Type 0} where
   first_from-at p q e n (x ∷ xs) d (suc k) (suc-le-suc l) f h =
       rw (rw add-zero at (h 0 (omega arith)), add-suc, ← suc-add)
       (first_from-at p q e (suc n) xs d k l (rw (suc-add, ← add-suc) f) (λ i m. rw (suc-add, ← add-suc) (h (suc i) (suc-le-suc m))))
+  first_from-at {B = B} p q e n [] d k l f h = elim l [ ]
 
   -- some element does, as a first value
   any-first : (p : ℕ → A → Bool) (n : ℕ) (xs : List A) → any_from p n xs ≡ first_from p (λ i x. true) false n xs
@@ -282,6 +294,7 @@ module _ {A : Type 0} where
   unfolding any_from
   any_from-some p n (x ∷ xs) d zero l f = rw (rw add-zero at f)
   any_from-some p n (x ∷ xs) d (suc k) (suc-le-suc l) f = rw (any_from-some p (suc n) xs d k l (rw (suc-add, ← add-suc) f)) (or-true (p n x))
+  any_from-some p n [] d k l f = elim l [ ]
 
   pub any_from-no : (p : ℕ → A → Bool) (n : ℕ) (xs : List A) (d : A) → ((i : ℕ) → i < length xs → p (n + i) (get_or xs i d) ≡ false)
       → any_from p n xs ≡ false
@@ -291,3 +304,4 @@ module _ {A : Type 0} where
   pub get_d_any : (xs : List A) (k : ℕ) (d e : A) → k < length xs → get_or xs k d ≡ get_or xs k e
   get_d_any (x ∷ xs) zero d e h = refl
   get_d_any (x ∷ xs) (suc k) d e (suc-le-suc h) = get_d_any xs k d e h
+  get_d_any [] k d e h = elim h [ ]

@@ -24,6 +24,7 @@ get_d-sets-at l i (v ∷ vs) zero d h g =
 get_d-sets-at l i (v ∷ vs) (suc j) d h g =
     ap (λ (n : ℕ). get_or (sets (set l i v) (suc i) vs) n d) (add-suc i j ∙ sym (suc-add i j))
     ∙ get_d-sets-at (set l i v) (suc i) vs j d (omega arith) (rw length-set (omega arith))
+get_d-sets-at l i [] j d h g = elim h [ ]
 
 module _ (w k : ℕ) (l vs : List ℕ) (within : length vs ≤ w) (fits : w * k + w ≤ length l) where
   pub part-laid : part w k (sets l (w * k) vs) ≡ vs ++ drop (length vs) (part w k l)

@@ -121,6 +121,8 @@ module _ {A : Type 0} (w : ℕ) (f : A → List ℕ → List ℕ) where
         let t : take (w + w * k) (P ++ R) ≡ P ++ take (w * k) R = sym (ap (λ (n : ℕ). take (n + w * k) (P ++ R)) p) ∙ take-append-add P R (w * k) in
         let q : drop (w + w * k) (P ++ R) ≡ drop (w * k) R = sym (ap (λ (n : ℕ). drop (n + w * k) (P ++ R)) p) ∙ drop-append-add P R (w * k) in
         rw (e, t, q, append_assoc) (ap (λ (l : List ℕ). P ++ l) (parts_to-suc k xs (drop w m) d l i))
+    parts_to-suc zero [] m d l h = elim l [ ]
+    parts_to-suc (suc k) [] m d l h = elim l [ ]
 
     -- one turn, as the code has it: the part from a to e was lent and came back
     pub parts_to-step : (k a e : ℕ) (xs : List A) (m : List ℕ) (d : A) → a ≡ w * k → e - a ≡ w → k < length xs → w * (k + 1) ≤ length m
@@ -155,3 +157,4 @@ module _ {A : Type 0} (w : ℕ) (f : A → List ℕ → List ℕ) where
     unfolding part
     part-each_part (x ∷ xs) m zero d h = (seam-each_part x xs m).0
     part-each_part (x ∷ xs) m (suc k) d (suc-le-suc h) = ap (part w k) (seam-each_part x xs m).1 ∙ part-each_part xs (drop w m) k d h
+    part-each_part [] m k d h = elim h [ ]

@@ -14,6 +14,10 @@ sets-append l i (a ∷ p) q = sets-append (set l i a) (suc i) p q
 pub all-copied : (all part own : List ℕ) → all ≡ take (length part) part ++ drop (length part) own → length own ≤ length part → all ≡ part
 all-copied all part own e h = e ∙ ap₂ ◌++◌ (take_all (length part) part (omega arith)) (drop_of_length-le own h) ∙ append-nil part
 
+-- the same the other way round: a copy that fills the whole
+pub copied-over : (all part own : List ℕ) → all ≡ part → length own ≤ length part → all ≡ take (length part) part ++ drop (length part) own
+copied-over all part own e h = e ∙ sym (ap₂ ◌++◌ (take_all (length part) part (omega arith)) (drop_of_length-le own h) ∙ append-nil part)
+
 -- bytes copied over a part of a list, from `at` up to `to`, as the code lends it: they are stored one after the other
 pub pasted : (out src part : List ℕ) (at to : ℕ) → to ≡ at + length src → to ≤ length out
     → part ≡ take (length src) src ++ drop (length src) (take (to - at) (drop at out))

@@ -29,7 +29,7 @@ records = 1 ∷ 0 ∷ 0 ∷ 0 ∷ 2 ∷ 0 ∷ 0 ∷ 0xA1 ∷ 3 ∷ 0 ∷ 0 ∷ 1
 -- what is read, and what is written for it
 abbrev table : List (List ℕ × String)
 table =
-    (length ++ form ++ records, "-\n_a\n_d5_a\n_dA5\n-\n")
+    (length ++ form ++ records, "-\nA\nD5A\nDA5\n-\n")
     ∷ (length ++ form, "")
     ∷ (length ++ form ++ take 7 records, "-\nshort\n")
     -- "`R10` alone for a form that is refused, whatever follows": tag 5 for 4

@@ -1,25 +1,26 @@
 // The law's types, as document 01 names them. What each means, and what the bus does with them, stands in specs/, in the document's order.
+#![tactic(auto)]
 ghost use Rattle.std.specs.Prelude.{◌≡◌};
 ghost use Rattle.rules.specs.Fresh.{fresh_sensor, fresh_slot};
 
 // A slot's number, 0 to 7: the select number that it answers to.
-#[derive(Drop)]
+#[derive(Clone, Copy)]
 pub struct SlotNo(pub u8);
 
 // A block's number in its slot, 0 to 3.
-#[derive(Drop)]
+#[derive(Clone, Copy)]
 pub struct BlockNo(pub u8);
 
 // A byte's place in its slot, 0 to 511.
-#[derive(Drop)]
+#[derive(Clone, Copy)]
 pub struct Address(pub u16);
 
 // How many of the latched bytes a power cycle still stores of a running write cycle, 0 to 16.
-#[derive(Drop)]
+#[derive(Clone, Copy)]
 pub struct Cut(pub u8);
 
 // An event as the script's record has it: rubbish is welcome in every field.
-#[derive(Drop)]
+#[derive(Clone, Copy)]
 pub struct Event {
     pub kind: u8,
     pub slot: SlotNo,
@@ -27,7 +28,7 @@ pub struct Event {
 }
 
 // What reaches one slot alone, by the slot's number: one case for each such kind of event, 7, 9 and 10.
-#[derive(Drop)]
+#[derive(Clone, Copy)]
 pub enum Applied {
     // High voltage on SA0, on or off.
     Voltage(bool),
@@ -38,7 +39,7 @@ pub enum Applied {
 }
 
 // What an event that is not refused does: one case for each kind that reaches every slot, 1 to 6 and 8, and one for those that reach one.
-#[derive(Drop)]
+#[derive(Clone, Copy)]
 pub enum Act {
     Start,
     Byte(u8),
@@ -52,7 +53,7 @@ pub enum Act {
 }
 
 // What an act carries over the wires and gets an answer to: a byte from the master, a read, or nothing.
-#[derive(Drop)]
+#[derive(Clone, Copy)]
 pub enum Carried {
     Byte(u8),
     // Whether the master then acknowledges.
@@ -61,7 +62,7 @@ pub enum Carried {
 }
 
 // Why an event, a setup, a plan, a saving or a reading is refused. The paper's number of each: specs/Events.
-#[derive(Drop)]
+#[derive(Clone, Copy)]
 pub enum Refusal {
     MemoryLength,
     UnknownKind,
@@ -80,14 +81,14 @@ pub enum Refusal {
 }
 
 // What an event is taken for.
-#[derive(Drop)]
+#[derive(Clone, Copy)]
 pub enum Ruling {
     Taken(Act),
     Refused(Refusal),
 }
 
 // What the bus shows. The paper's letter and value of each: specs/Events.
-#[derive(Drop)]
+#[derive(Clone, Copy)]
 pub enum Answer {
     Nothing,
     Ack,
@@ -97,7 +98,7 @@ pub enum Answer {
 }
 
 // What a control byte asks for.
-#[derive(Drop)]
+#[derive(Clone, Copy)]
 pub enum Heard {
     Memory { select: SlotNo, read: bool },
     Sensor { select: SlotNo, read: bool },
@@ -112,7 +113,7 @@ pub enum Heard {
 }
 
 // Where a slot stands in an exchange. Nothing but the next event depends on it.
-#[derive(Drop)]
+#[derive(Clone, Copy)]
 pub enum Phase {
     // No exchange: bytes and reads are ignored.
     Idle,
@@ -141,7 +142,7 @@ pub enum Phase {
 }
 
 // What a phase is; specs/Slot has the table.
-#[derive(Drop)]
+#[derive(Clone, Copy)]
 pub struct Traits {
     pub sensor: bool,
     pub command: bool,
@@ -150,7 +151,7 @@ pub struct Traits {
 }
 
 // The registers that can change, and what an exchange with the sensor holds.
-#[derive(Drop)]
+#[derive(Clone, Copy)]
 pub struct Sensor {
     pub pointer: u8,
     pub configuration: u16,
@@ -187,7 +188,7 @@ impl Sensor {
 }
 
 // What an older 2-Kbit module alone has; in a slot of another kind it has no effect.
-#[derive(Drop)]
+#[derive(Clone, Copy)]
 pub struct Older {
     // Its protection is permanent, and will be once the running command has its way; false without one.
     pub permanent: bool,
@@ -196,7 +197,7 @@ pub struct Older {
     pub pin: bool,
 }
 
-#[derive(Drop)]
+#[derive(Clone, Copy)]
 pub struct Slot {
     // 0 absent, 1 memory, 2 memory with sensor, 3 older 2-Kbit memory.
     pub kind: u8,
@@ -255,7 +256,7 @@ impl Slot {
     }
 }
 
-#[derive(Drop)]
+#[derive(Clone, Copy)]
 pub struct Bus {
     pub slots: [Slot; 8],
 }
@@ -266,28 +267,28 @@ impl Bus {
 }
 
 // A slot's setup.
-#[derive(Drop)]
+#[derive(Clone, Copy)]
 pub struct Pair {
     pub kind: u8,
     pub length: u8,
 }
 
 // The EVENT pin of a slot: asserted or not, and the level of the wire, true for high.
-#[derive(Drop)]
+#[derive(Clone, Copy)]
 pub struct Pin {
     pub asserted: bool,
     pub level: bool,
 }
 
 // What looking at a slot's pin gives. The paper's number and values of each: specs/Looked.
-#[derive(Drop)]
+#[derive(Clone, Copy)]
 pub enum Looked {
     Stands(Pin),
     Refused(Refusal),
 }
 
 // What a public entry gives back beside the lent memory.
-#[derive(Drop)]
+#[derive(Clone, Copy)]
 pub struct Outcome {
     pub bus: Bus,
     pub answer: Answer,

@@ -30,9 +30,9 @@ use Rattle.save_rules.specs.Saving.{is_idle, quiet, all_quiet, save_of}
 use Rattle.save_rules.proofs.Places.{length-shares, length_whole, field-there, field-none, length-field, length-form, length-form_of, offset_up, begins-up}
 
 -- any other phase, by its place among the variants, is not idle
-pub not-idle : (p : Phase) → OneOf (1 ∷ 2 ∷ 3 ∷ 4 ∷ 5 ∷ 6 ∷ 7 ∷ 8 ∷ 9 ∷ 10 ∷ 11 ∷ 12 ∷ 13 ∷ 14 ∷ []) (tag_of the_type p) → false ≡ is_idle p
+pub not-idle : (p : Phase) → (p ≡ Idle → ⊥) → false ≡ is_idle p
 unfolding is_idle
-not-idle Idle h = absurd (miss (1 ∷ 2 ∷ 3 ∷ 4 ∷ 5 ∷ 6 ∷ 7 ∷ 8 ∷ 9 ∷ 10 ∷ 11 ∷ 12 ∷ 13 ∷ 14 ∷ []) 0 tt h)
+not-idle Idle h = absurd (h refl)
 not-idle Control h = refl
 not-idle Deaf h = refl
 not-idle MemoryCounter h = refl

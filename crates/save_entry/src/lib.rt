@@ -1,4 +1,6 @@
 // Saving a bench: its form, put into a lent buffer. What a form is, and what holds of it, stands in the crate `save_rules`.
+#![tactic(auto)]
+
 ghost use Rattle.std.specs.Prelude.{◌≡◌, ◌∷◌, ◌+◌, ◌≤◌, ◌<◌, length};
 ghost use Rattle.std.proofs.lemmas.List.Edits.{sets};
 ghost use Rattle.proof_lists.specs.Each.{all_of};

@@ -128,7 +128,7 @@ fn put_memory(s: Slot, memory: &[u8], out: &mut [u8], at: usize) -> usize
     }
     let n = least(memory.len(), own_bytes(s.kind));
     let to = at + n;
-    bytes::copy(&memory[..n], &mut out[at..to]);
+    out[at..to].copy_from_slice(&memory[..n]);
     to
 }
 

@@ -1,13 +1,15 @@
 // How programs begin with a saved form: its length and the form are read, the form is restored to memory as it starts, and what is then put at the
 // front of the output is written. All that decides is said and proved in `begin` and in `save_restore`.
+#![tactic(auto)]
+
 ghost use Rattle.std.specs.Prelude.{◌≡◌, true, false, ◌+◌, ◌*◌, ◌≤◌, length};
 ghost use Rattle.rules.specs.Modelled.{memory_bytes};
 ghost use Rattle.rules.specs.Refusals.{in_range, empty_bus};
 ghost use Rattle.save_opening.specs.Opening.{form_bytes, wanted_bytes, begin_of};
 ghost use Rattle.save_opening.specs.Opened.{Opened};
 
-use libc::{STDIN_FILENO, STDOUT_FILENO};
 use rules::{Answer, Refusal};
+use script_streams::opening::{STDIN_FILENO, STDOUT_FILENO};
 use script_turns::frame::Begun;
 
 // The most bytes that a form's length may say.

@@ -1,4 +1,6 @@
 // Reading a saved form: a bench restored, or the form refused. What a form is, and what holds of it, stands in the crate `save_rules`.
+#![tactic(auto)]
+
 ghost use Rattle.std.specs.Prelude.{◌≡◌, true, ◌+◌, ◌≤◌, ◌<◌, length};
 ghost use Rattle.proof_lists.specs.Same.{stands};
 ghost use Rattle.rules.specs.Modelled.{slot_count, memory_bytes};
@@ -157,7 +159,7 @@ fn store(slots: [Slot; 8], form: &[u8], memory: &mut [u8])
         let from = Slot::BYTES * i;
         let end = at + n;
         let to = from + n;
-        bytes::copy(&form[at..end], &mut memory[from..to]);
+        memory[from..to].copy_from_slice(&form[at..end]);
         at = end;
     }
 }

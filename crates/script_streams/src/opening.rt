@@ -6,8 +6,14 @@ ghost use Rattle.rules.specs.Refusals.{in_range};
 ghost use Rattle.script_streams.specs.Opened.{Opened};
 ghost use Rattle.script_streams.specs.Written.{descriptor_of};
 
-use libc::{STDERR_FILENO, STDIN_FILENO, STDOUT_FILENO};
 use script_turns::frame::Begun;
+
+// The descriptors of standard input, standard output and standard error.
+pub const STDIN_FILENO: i32 = 0;
+
+pub const STDOUT_FILENO: i32 = 1;
+
+pub const STDERR_FILENO: i32 = 2;
 
 // The descriptor of standard output, or of standard error.
 pub fn descriptor(output: bool) -> i32

@@ -6,12 +6,13 @@ ghost use Rattle.rules.specs.Refusals.{in_range};
 ghost use Rattle.script_streams.specs.Reading.{ran_of, Went, Ended, Served};
 
 use super::opening;
-use libc::{STDIN_FILENO, STDOUT_FILENO};
+use super::opening::STDOUT_FILENO;
 use rules::Bus;
+use std::io::{Read, Stdin};
 
 // What goes from one read to the next: the bus, how many bytes of a cut record are held at the front of the buffer, whether the lines that were
 // wanted are written, and whether to go on.
-#[derive(Drop)]
+#[derive(Clone, Copy)]
 pub struct Going {
     pub bus: Bus,
     pub held: usize,
@@ -30,9 +31,23 @@ fn tell(lines: bool, out: &[u8], end: usize) -> bool
     true
 }
 
+// One read: how many bytes came, which are then at the front of the room; none where the input has ended or the read failed.
+fn came(input: &mut Stdin, room: &mut [u8]) -> usize
+    ensures { result ≤ length room.new }
+{
+    input.read(room).unwrap_or(0)
+}
+
 // One read, behind the bytes that are held, a turn over what came, and its lines written where they are wanted. It goes on where something came
 // and the lines are written.
-fn read_on(g: Going, lines: bool, mem: &mut [u8], buf: &mut [u8], out: &mut [u8]) -> Going
+fn read_on(
+    input: &mut Stdin,
+    g: Going,
+    lines: bool,
+    mem: &mut [u8],
+    buf: &mut [u8],
+    out: &mut [u8],
+) -> Going
     requires { (in_range g.bus ≡ true) × (length mem.old ≡ memory_bytes) × (length buf.old ≡ 65536) × (length out.old ≡ 65536)
         × (g.held < 4) }
     ensures { (in_range result.bus ≡ true) × (result.held < 4)
@@ -40,8 +55,7 @@ fn read_on(g: Going, lines: bool, mem: &mut [u8], buf: &mut [u8], out: &mut [u8]
         result mem.new buf.new out.new }
 {
     let held = g.held;
-    let got = libc::read(STDIN_FILENO, &mut buf[held..]);
-    let n = io::count(got, &buf[held..]);
+    let n = came(input, &mut buf[held..]);
     let bus = g.bus;
     let t = script_turns::turns::turn(bus, mem, buf, held, n, out);
     let end = t.end;
@@ -57,7 +71,13 @@ fn read_on(g: Going, lines: bool, mem: &mut [u8], buf: &mut [u8], out: &mut [u8]
 
 // Read after read, until the input ends or a write fails: all records that come are run, and the lines of those that have come are written before
 // more is waited for. A proved loop has to end, so it counts down from a number that no input uses up.
-pub fn run_records(bus: Bus, lines: bool, mem: &mut [u8], out: &mut [u8]) -> Going
+pub fn run_records(
+    input: &mut Stdin,
+    bus: Bus,
+    lines: bool,
+    mem: &mut [u8],
+    out: &mut [u8],
+) -> Going
     requires { (in_range bus ≡ true) × (length mem.old ≡ memory_bytes) × (length out.old ≡ 65536) }
     ensures { Ended lines bus mem.old out.old result mem.new out.new }
 {
@@ -70,7 +90,7 @@ pub fn run_records(bus: Bus, lines: bool, mem: &mut [u8], out: &mut [u8]) -> Goi
     };
     let mut turns = u64::MAX;
     while 0 < turns {
-        g = read_on(g, lines, mem, &mut buf, out);
+        g = read_on(&mut *input, g, lines, mem, &mut buf, out);
         if !g.on {
             return g;
         }
@@ -80,11 +100,11 @@ pub fn run_records(bus: Bus, lines: bool, mem: &mut [u8], out: &mut [u8]) -> Goi
 }
 
 // Records served, a line for each, and at the input's end the last line. After a write that failed nothing more is written.
-pub fn serve(bus: Bus, mem: &mut [u8], out: &mut [u8])
+pub fn serve(input: &mut Stdin, bus: Bus, mem: &mut [u8], out: &mut [u8])
     requires { (in_range bus ≡ true) × (length mem.old ≡ memory_bytes) × (length out.old ≡ 65536) }
     ensures { Served bus mem.old out.old mem.new out.new }
 {
-    let g = run_records(bus, true, mem, out);
+    let g = run_records(input, bus, true, mem, out);
     if g.told {
         let end = script_turns::frame::finish(g.held, out);
         opening::write(STDOUT_FILENO, out, end);

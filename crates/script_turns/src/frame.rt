@@ -29,7 +29,7 @@ pub fn fill(mem: &mut [u8])
 }
 
 // The bus at the beginning, where what is to be written ends, and whether records follow.
-#[derive(Drop)]
+#[derive(Clone, Copy)]
 pub struct Begun {
     pub bus: Bus,
     pub end: usize,

@@ -9,7 +9,7 @@ use super::frame;
 use rules::{Answer, Bus, Outcome};
 
 // The bus after some records, and where their lines end.
-#[derive(Drop)]
+#[derive(Clone, Copy)]
 struct Ran {
     bus: Bus,
     end: usize,
@@ -39,7 +39,7 @@ fn run(bus: Bus, mem: &mut [u8], records: &[u8], out: &mut [u8]) -> Ran
 }
 
 // The bus after a turn, where its lines end, and how many bytes of a cut record are held at the front of the buffer.
-#[derive(Drop)]
+#[derive(Clone, Copy)]
 pub struct Turned {
     pub bus: Bus,
     pub end: usize,

@@ -1,6 +1,8 @@
 // The watch program: a script on standard input; on standard output the script's lines, and with them a line for each slot whose numbers changed.
 // It begins as the script does, by `opening`, and goes on by `watch_streams`: all that decides is said and proved there and in `watch_text`.
-use libc::STDOUT_FILENO;
+#![tactic(auto)]
+
+use script_streams::opening::STDOUT_FILENO;
 
 fn main() {
     let mut mem = [0u8; 4096];

@@ -1,16 +1,18 @@
 // A bench watched, for the programs `watch` and `show`: all its slots are told, and then record by record the script's line and each slot whose
 // numbers changed. What a record puts is said and proved here, and what a slot's line is in `watch_text`.
+#![tactic(auto)]
+
 ghost use Rattle.std.specs.Prelude.{◌≡◌, true, ◌≤◌, length};
 ghost use Rattle.rules.specs.Modelled.{memory_bytes};
 ghost use Rattle.rules.specs.Refusals.{in_range};
 ghost use Rattle.watch_streams.specs.Steps.{step_of};
 ghost use Rattle.watch_streams.specs.Reading.{Went, Watched};
 
-use libc::{STDIN_FILENO, STDOUT_FILENO};
 use rules::Bus;
+use script_streams::opening::{STDIN_FILENO, STDOUT_FILENO};
 
 // The bus after a step, and where what it put ends.
-#[derive(Drop)]
+#[derive(Clone, Copy)]
 pub struct Stepped {
     pub bus: Bus,
     pub end: usize,
@@ -39,7 +41,7 @@ fn step(bus: Bus, mem: &mut [u8], bytes: &[u8], out: &mut [u8]) -> Stepped
 }
 
 // What goes from one read to the next: the bus, whether what was put is written, and whether to go on.
-#[derive(Drop)]
+#[derive(Clone, Copy)]
 pub struct Going {
     pub bus: Bus,
     pub told: bool,

@@ -16,10 +16,10 @@ use Rattle.rules.specs.Sensor.{bits_of}
 
 -- a number that fits is the number of its bits; `.ok` of a call's result has this bound
 pub back : (z : ℤ) → mag z < 32768 → to_z w16 (of_z w16 z) ≡ z
-back z h = to_z-of_z (record { sfits = h })
+back z h = to_z-of_z {w = w16} (record { sfits = h })
 
 pub wide_back : (z : ℤ) → mag z < 2147483648 → to_z w32 (of_z w32 z) ≡ z
-wide_back z h = to_z-of_z (record { sfits = h })
+wide_back z h = to_z-of_z {w = w32} (record { sfits = h })
 
 -- a - b for two naturals, a below b
 pub under : (a b : ℕ) → a < b → sub_ℕ a b ≡ negsuc (b - suc a)

@@ -22,9 +22,9 @@ unfolding closed
 closed-whole left v e h = rw (e, eq-eqb left 0 h)
 
 -- every other verdict, by its place among the variants
-pub closed-other : (left : ℕ) (v : Verdict) → OneOf (1 ∷ 2 ∷ 3 ∷ []) (tag_of the_type v) → v ≡ closed left v
+pub closed-other : (left : ℕ) (v : Verdict) → (v ≡ Accepted → ⊥) → v ≡ closed left v
 unfolding closed
-closed-other left Accepted h = absurd (miss (1 ∷ 2 ∷ 3 ∷ []) 0 tt h)
+closed-other left Accepted h = absurd (h refl)
 closed-other left (Differs k a s) h = refl
 closed-other left Short h = refl
 closed-other left (Refused r) h = refl
@@ -34,9 +34,9 @@ pub accepted-is : (v : Verdict) → v ≡ Accepted → true ≡ is_accepted v
 unfolding is_accepted
 accepted-is v e = rw e
 
-pub accepted-other : (v : Verdict) → OneOf (1 ∷ 2 ∷ 3 ∷ []) (tag_of the_type v) → false ≡ is_accepted v
+pub accepted-other : (v : Verdict) → (v ≡ Accepted → ⊥) → false ≡ is_accepted v
 unfolding is_accepted
-accepted-other Accepted h = absurd (miss (1 ∷ 2 ∷ 3 ∷ []) 0 tt h)
+accepted-other Accepted h = absurd (h refl)
 accepted-other (Differs k a s) h = refl
 accepted-other Short h = refl
 accepted-other (Refused r) h = refl

@@ -7,9 +7,9 @@ use Rattle.list.proofs.Laws.{answer-many, answer-no-number, answer-short, answer
 use Rattle.list.proofs.answer.Statement.{statement}
 use Rattle.list.proofs.answer.Tie as tie
 
-pub answer-spec : {M : Type 1} → statement M
+pub answer_spec : {M : Type 1} → statement M
 unfolding number_in
-answer-spec =
+answer_spec =
     tie.close
     (tie.spec
     (λ c κs. search rules)

@@ -5,5 +5,5 @@ use Rattle.list.proofs.Laws.{put-by}
 use Rattle.list.proofs.given.Statement.{statement}
 use Rattle.list.proofs.given.Tie as tie
 
-pub given-spec : {M : Type 1} → statement M
-given-spec = tie.close (tie.spec (λ c κs. search rules) (λ c κs. search rules) (λ c. search rules) (λ c. search rules) (λ c. search put-by))
+pub given_spec : {M : Type 1} → statement M
+given_spec = tie.close (tie.spec (λ c κs. search rules) (λ c κs. search rules) (λ c. search rules) (λ c. search rules) (λ c. search put-by))

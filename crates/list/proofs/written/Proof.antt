@@ -9,8 +9,8 @@ use Rattle.list.proofs.Whole.{in_order, records-most, stopped, answered}
 use Rattle.list.proofs.written.Statement.{statement}
 use Rattle.list.proofs.written.Tie as tie
 
-pub written-spec : {M : Type 1} → statement M
-written-spec =
+pub written_spec : {M : Type 1} → statement M
+written_spec =
     tie.close
     (tie.spec
     (λ c κs. search rules)

@@ -3,7 +3,7 @@
 use Prim.Native.Nat.{ℕ}
 use mathlib.Core.Path.{◌≡◌, refl}
 use mathlib.Core.List.{List, [], ◌∷◌, ◌++◌}
-use lib.IntN.{ℤ, pos}
+use lib.IntN.{pos}
 use lib.ListN.{set, replicate}
 use Rattle.rules.specs.declared.Bus.{Bus}
 use Rattle.rules.specs.declared.Event.{Event}
@@ -32,7 +32,7 @@ events = event 1 0 ∷ event 2 0xA0 ∷ event 2 0x00 ∷ event 2 0x5A ∷ event 
 
 -- with two places more than events, and with one too few
 pub given : given_of bus memory events (replicate 9 blank) (replicate 22 0xEE)
-    ≡ (record { bus = (after events (record { bus = bus; memory = memory })).bus; end = 19 }, set memory 0 0x5A, quoted "-\n_a\n_a\n_a\n_r2\n-\n-\n.\n.\n" ++ replicate 3 0xEE)
+    ≡ (record { bus = (after events (record { bus = bus; memory = memory })).bus; end = 19 }, set memory 0 0x5A, quoted "-\nA\nA\nA\nR2\n-\n-\n.\n.\n" ++ replicate 3 0xEE)
 unfolding open-all open-text too_few taken listed events_of is_setups is_blank place_line place_lines list_text told_of given_of
 given = refl
 

@@ -45,7 +45,7 @@ pub places : map place_line (answers ++ refusals)
 unfolding open-text is_setups is_blank place_line
 places = refl
 
-pub lines : (place_lines (answers ++ blank ∷ blank ∷ []) ≡ quoted "-\n_a\n_n\n_d5_a\n.\n.\n") × (answer_lines answers ++ dot_lines 2 ≡ quoted "-\n_a\n_n\n_d5_a\n.\n.\n")
+pub lines : (place_lines (answers ++ blank ∷ blank ∷ []) ≡ quoted "-\nA\nN\nD5A\n.\n.\n") × (answer_lines answers ++ dot_lines 2 ≡ quoted "-\nA\nN\nD5A\n.\n.\n")
 unfolding open-text is_setups is_blank place_line place_lines answer_lines dot_lines
 lines = (refl, refl)
 

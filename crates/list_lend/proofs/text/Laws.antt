@@ -1,6 +1,7 @@
 -- Laws of the places' lines: which places are blank, how long a line is, lines put one after another, and each branch of the code in the definition's words.
 -- Assumes nothing.
 use mathlib.Core.Path.{◌≡◌, refl, sym, ◌∙◌, ap}
+use Rattle.std.proofs.Common.{◌≢◌}
 use mathlib.Core.Bool.{true, false}
 use mathlib.Core.List.{List, [], ◌∷◌, ◌++◌, append-nil, append_assoc}
 use Prim.Native.Nat.{ℕ, ◌+◌, ◌*◌, ◌≤◌, ◌<◌}
@@ -8,11 +9,7 @@ use native.Mathlib.Numerals.{add-one}
 use native.Mathlib.Omega.{arith}
 use lib.ListN.{length, get_or, take, length-append}
 use lib.Seq.{sets, take-suc}
-use denote.Enum.Declared.{tag_of}
-use types.Run.{OneOf, miss}
 use Rattle.proof_lists.specs.Tests.{cond_cases}
-use Rattle.rules.specs.contracts.Answer as answer
-use Rattle.rules.specs.contracts.Refusal as refusal
 use Rattle.rules.specs.declared.Answer.{Answer}
 use Rattle.rules.specs.declared.Answer.TheVariants.{Nothing, Ack, Nack, Data, Refused}
 use Rattle.rules.specs.declared.Outcome.{Outcome}
@@ -22,14 +19,14 @@ use Rattle.script_text.specs.Letters.{line_of}
 use Rattle.script_text.proofs.letters.Laws.{Put, put_on, at_front, line-length}
 use Rattle.list_lend.specs.Listed.{is_setups, is_blank, place_line, place_lines, list_text, told_of}
 
--- any refusal but a setup's, by its place among the variants
-pub other-refusal : (r : Refusal) → OneOf (0 ∷ 1 ∷ 2 ∷ 3 ∷ 5 ∷ 6 ∷ 7 ∷ 8 ∷ 9 ∷ []) (tag_of refusal.the_type r) → false ≡ is_setups r
+-- any refusal but a setup's
+pub other-refusal : (r : Refusal) → r ≢ WrongSetup → false ≡ is_setups r
 unfolding is_setups
 other-refusal MemoryLength h = refl
 other-refusal UnknownKind h = refl
 other-refusal WrongSlot h = refl
 other-refusal WrongValue h = refl
-other-refusal WrongSetup h = absurd (miss (0 ∷ 1 ∷ 2 ∷ 3 ∷ 5 ∷ 6 ∷ 7 ∷ 8 ∷ 9 ∷ []) 4 tt h)
+other-refusal WrongSetup h = absurd (h refl)
 other-refusal WrongState h = refl
 other-refusal ProtectedPage h = refl
 other-refusal Busy h = refl
@@ -37,13 +34,13 @@ other-refusal TooShort h = refl
 other-refusal WrongForm h = refl
 
 -- any answer but a refusal
-pub other-blank : (a : Answer) → OneOf (0 ∷ 1 ∷ 2 ∷ 3 ∷ []) (tag_of answer.the_type a) → false ≡ is_blank a
+pub other-blank : (a : Answer) → ((r : Refusal) → a ≢ Refused r) → false ≡ is_blank a
 unfolding is_blank
 other-blank Nothing h = refl
 other-blank Ack h = refl
 other-blank Nack h = refl
 other-blank (Data b) h = refl
-other-blank (Refused r) h = absurd (miss (0 ∷ 1 ∷ 2 ∷ 3 ∷ []) 4 tt h)
+other-blank (Refused r) h = absurd (h r refl)
 
 -- a place's line is at most four bytes
 place-length : (a : Answer) → length (place_line a) ≤ 4
@@ -86,13 +83,13 @@ refused-text : (a : Answer) (r : Refusal) (places : List Answer) → a ≡ Refus
 unfolding list_text
 refused-text a r places e = rw e
 
-other_text : (a : Answer) (places : List Answer) → OneOf (0 ∷ 1 ∷ 2 ∷ 3 ∷ []) (tag_of answer.the_type a) → list_text a places ≡ place_lines places
+other_text : (a : Answer) (places : List Answer) → ((r : Refusal) → a ≢ Refused r) → list_text a places ≡ place_lines places
 unfolding list_text
 other_text Nothing places h = refl
 other_text Ack places h = refl
 other_text Nack places h = refl
 other_text (Data b) places h = refl
-other_text (Refused r) places h = absurd (miss (0 ∷ 1 ∷ 2 ∷ 3 ∷ []) 4 tt h)
+other_text (Refused r) places h = absurd (h r refl)
 
 pub refused-by : (d : Outcome) (r : Refusal) (places : List Answer) (out o : List ℕ) (end : ℕ) → d.answer ≡ Refused r → Put out 0 (line_of d.answer) end o
     → told_of d places out ≡ (record { bus = d.bus; end = end }, o)
@@ -101,7 +98,7 @@ refused-by d r places out o end e p =
     let q = at_front out o end (line_of d.answer) p in
     rw (refused-text d.answer r places e, q.0, q.1)
 
-pub taken-by : (d : Outcome) (places : List Answer) (out o : List ℕ) (end : ℕ) → OneOf (0 ∷ 1 ∷ 2 ∷ 3 ∷ []) (tag_of answer.the_type d.answer)
+pub taken-by : (d : Outcome) (places : List Answer) (out o : List ℕ) (end : ℕ) → ((r : Refusal) → d.answer ≢ Refused r)
     → (end ≡ length (place_lines places)) × (o ≡ sets out 0 (place_lines places)) → told_of d places out ≡ (record { bus = d.bus; end = end }, o)
 unfolding told_of
 taken-by d places out o end h p =

@@ -54,11 +54,11 @@ reached-none q = record { reads = []; turned = refl }
 
 pub reached-more : (q r s : Ran) (a : Reached q r) (p : Read) → turns_leave r (p ∷ []) ≡ s → Reached q s
 unfolding turns_leave
-reached-more q r s a p e = record { reads = a.reads ++ p ∷ []; turned = more q a.reads p ∙ ap (λ (z : Ran). turns_leave z (p ∷ [])) a.turned ∙ e }
+reached-more q r s a p e = record { reads = a.reads ++ p ∷ []; turned = more a.reads q p ∙ ap (λ (z : Ran). turns_leave z (p ∷ [])) a.turned ∙ e }
   where
-    more : (q : Ran) (rs : List Read) (r : Read) → turns_leave q (rs ++ r ∷ []) ≡ turns_leave (turns_leave q rs) (r ∷ [])
-    more q [] r = refl
-    more q (p ∷ rs) r = more _ rs r
+    more : (rs : List Read) (q : Ran) (r : Read) → turns_leave q (rs ++ r ∷ []) ≡ turns_leave (turns_leave q rs) (r ∷ [])
+    more [] q r = refl
+    more (p ∷ rs) q r = more rs _ r
 
 -- reads that all brought something, and one more
 unfoldable pub Each : List Read → Type 0

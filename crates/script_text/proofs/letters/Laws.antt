@@ -106,10 +106,10 @@ refusal-by a r end out o e p =
     rw q (at_front out o end (line_of a) p)
 
 -- any other answer, by its place among the variants, has none
-pub other-line : (a : Answer) → OneOf (0 ∷ 1 ∷ 2 ∷ 3 ∷ []) (tag_of the_type a) → refusal_line a ≡ []
+pub other-line : (a : Answer) → ((r : Refusal) → a ≡ Refused r → ⊥) → refusal_line a ≡ []
 unfolding refusal_line
 other-line Nothing h = refl
 other-line Ack h = refl
 other-line Nack h = refl
 other-line (Data b) h = refl
-other-line (Refused r) h = absurd (miss (0 ∷ 1 ∷ 2 ∷ 3 ∷ []) 4 tt h)
+other-line (Refused r) h = absurd (h r refl)

@@ -43,20 +43,20 @@ whole_case = start ++ byte 0xA0 ++ byte 0x00 ++ byte 0x5A ++ stop ++ start ++ by
 abbrev table : List (List ℕ × String)
 table =
     -- "Whole case"
-    (memory ++ whole_case, "-\n_a\n_a\n_a\n-\n-\n_n\n-\n-\n_a\n")
+    (memory ++ whole_case, "-\nA\nA\nA\n-\n-\nN\n-\n-\nA\n")
     -- and then the byte that was written, and the next one: "Memory starts as FFh"
-    ∷ (memory ++ whole_case ++ byte 0x00 ++ start ++ byte 0xA1 ++ more ++ last ++ last ++ stop, "-\n_a\n_a\n_a\n-\n-\n_n\n-\n-\n_a\n_a\n-\n_a\n_d5_a\n_dFF\n_dFF\n-\n")
+    ∷ (memory ++ whole_case ++ byte 0x00 ++ start ++ byte 0xA1 ++ more ++ last ++ last ++ stop, "-\nA\nA\nA\n-\n-\nN\n-\n-\nA\nA\n-\nA\nD5A\nDFF\nDFF\n-\n")
     -- the last byte of all: slot 7, half 1, counter FFh
-    ∷ (replicate 14 0 ++ 1 ∷ 5 ∷ start ++ byte 0x6E ++ start ++ byte 0xAE ++ byte 0xFF ++ start ++ byte 0xAF ++ last, "-\n_a\n-\n_a\n_a\n-\n_a\n_dFF\n")
+    ∷ (replicate 14 0 ++ 1 ∷ 5 ∷ start ++ byte 0x6E ++ start ++ byte 0xAE ++ byte 0xFF ++ start ++ byte 0xAF ++ last, "-\nA\n-\nA\nA\n-\nA\nDFF\n")
     -- `R` and the number: kinds 0 and 11; slot 2, which is absent, and slot 0, which has no sensor; a byte of 256, and -641, 2001 and the two ends
-    ∷ (with_sensor ++ (0 ∷ 0 ∷ 0 ∷ 0 ∷ []) ++ (11 ∷ 0 ∷ 0 ∷ 0 ∷ []), "R2\n_r2\n")
-    ∷ (with_sensor ++ (7 ∷ 2 ∷ 0 ∷ 1 ∷ []) ++ (9 ∷ 0 ∷ 0 ∷ 0 ∷ []) ++ (7 ∷ 1 ∷ 0 ∷ 1 ∷ []), "R3\n_r3\n-\n")
-    ∷ (with_sensor ++ (2 ∷ 0 ∷ 1 ∷ 0 ∷ []) ++ (9 ∷ 1 ∷ 0xFD ∷ 0x7F ∷ []) ++ (9 ∷ 1 ∷ 0x07 ∷ 0xD1 ∷ []) ++ (9 ∷ 1 ∷ 0xFD ∷ 0x80 ∷ []) ++ (9 ∷ 1 ∷ 0x07 ∷ 0xD0 ∷ []), "R4\n_r4\n_r4\n-\n-\n")
+    ∷ (with_sensor ++ (0 ∷ 0 ∷ 0 ∷ 0 ∷ []) ++ (11 ∷ 0 ∷ 0 ∷ 0 ∷ []), "R2\nR2\n")
+    ∷ (with_sensor ++ (7 ∷ 2 ∷ 0 ∷ 1 ∷ []) ++ (9 ∷ 0 ∷ 0 ∷ 0 ∷ []) ++ (7 ∷ 1 ∷ 0 ∷ 1 ∷ []), "R3\nR3\n-\n")
+    ∷ (with_sensor ++ (2 ∷ 0 ∷ 1 ∷ 0 ∷ []) ++ (9 ∷ 1 ∷ 0xFD ∷ 0x7F ∷ []) ++ (9 ∷ 1 ∷ 0x07 ∷ 0xD1 ∷ []) ++ (9 ∷ 1 ∷ 0xFD ∷ 0x80 ∷ []) ++ (9 ∷ 1 ∷ 0x07 ∷ 0xD0 ∷ []), "R4\nR4\nR4\n-\n-\n")
     -- P9: the write-protect pin of slot 1, which has none, and of an older module in slot 0: 2, 1, and then a byte that it refuses
-    ∷ (3 ∷ 1 ∷ 2 ∷ 5 ∷ replicate 12 0 ++ (10 ∷ 1 ∷ 0 ∷ 1 ∷ []) ++ (10 ∷ 0 ∷ 0 ∷ 2 ∷ []) ++ (10 ∷ 0 ∷ 0 ∷ 1 ∷ []) ++ start ++ byte 0xA0 ++ byte 0x00 ++ byte 0x5A, "R3\n_r4\n-\n-\n_a\n_a\n_n\n")
+    ∷ (3 ∷ 1 ∷ 2 ∷ 5 ∷ replicate 12 0 ++ (10 ∷ 1 ∷ 0 ∷ 1 ∷ []) ++ (10 ∷ 0 ∷ 0 ∷ 2 ∷ []) ++ (10 ∷ 0 ∷ 0 ∷ 1 ∷ []) ++ start ++ byte 0xA0 ++ byte 0x00 ++ byte 0x5A, "R3\nR4\n-\n-\nA\nA\nN\n")
     -- no record, and "An incomplete setup or record gives the last line `short`."
     ∷ (memory, "")
-    ∷ (memory ++ start ++ byte 0xA0 ++ 4 ∷ 0 ∷ 0 ∷ [], "-\n_a\nshort\n")
+    ∷ (memory ++ start ++ byte 0xA0 ++ 4 ∷ 0 ∷ 0 ∷ [], "-\nA\nshort\n")
     ∷ (memory ++ 4 ∷ [], "short\n")
     ∷ ([], "short\n")
     ∷ (replicate 15 9, "short\n")

@@ -12,8 +12,8 @@ invariant-loop words n at₀ i₀ at i = (i ≤ n) × (at ≤ length words)
 abbrev decreases-loop : tie.decreases-loop
 decreases-loop words n at₀ i₀ at i = n - i
 
-pub nth-spec : {M : Type 1} → statement M
-nth-spec =
+pub nth_spec : {M : Type 1} → statement M
+nth_spec =
     tie.close
     (tie.spec
     invariant-loop

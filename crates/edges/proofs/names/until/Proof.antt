@@ -12,8 +12,8 @@ invariant-loop text at blank i₀ i = (at ≤ i) × (i ≤ length text)
 abbrev decreases-loop : tie.decreases-loop
 decreases-loop text at blank i₀ i = length text - i
 
-pub until-spec : {M : Type 1} → statement M
-until-spec =
+pub until_spec : {M : Type 1} → statement M
+until_spec =
     tie.close
     (tie.spec
     invariant-loop

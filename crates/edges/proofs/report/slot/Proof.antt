@@ -11,8 +11,8 @@ invariant-loop n s k₀ k = k ≤ 62
 abbrev decreases-loop : tie.decreases-loop
 decreases-loop n s k₀ k = 62 - k
 
-pub slot-spec : {M : Type 1} → statement M
-slot-spec =
+pub slot_spec : {M : Type 1} → statement M
+slot_spec =
     tie.close
     (tie.spec
     invariant-loop

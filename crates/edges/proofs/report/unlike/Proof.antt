@@ -11,8 +11,8 @@ invariant-loop was now none₀ i₀ none i = i ≤ 8
 abbrev decreases-loop : tie.decreases-loop
 decreases-loop was now none₀ i₀ none i = 8 - i
 
-pub unlike-spec : {M : Type 1} → statement M
-unlike-spec =
+pub unlike_spec : {M : Type 1} → statement M
+unlike_spec =
     tie.close
     (tie.spec
     invariant-loop

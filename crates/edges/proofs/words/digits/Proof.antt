@@ -13,8 +13,8 @@ invariant-loop text hex n₀ i₀ i-end n i = (n ≤ 70536) × (i ≤ i-end) × 
 abbrev decreases-loop : tie.decreases-loop
 decreases-loop text hex n₀ i₀ i-end n i = i-end - i
 
-pub digits-spec : {M : Type 1} → statement M
-digits-spec =
+pub digits_spec : {M : Type 1} → statement M
+digits_spec =
     tie.close
     (tie.spec
     invariant-loop

@@ -14,8 +14,8 @@ invariant-loop line size text all₀ at₀ list₀ i₀ all at list i = (i ≤ 3
 abbrev decreases-loop : tie.decreases-loop
 decreases-loop line size text all₀ at₀ list₀ i₀ all at list i = 38 - i
 
-pub tokens-spec : {M : Type 1} → statement M
-tokens-spec =
+pub tokens_spec : {M : Type 1} → statement M
+tokens_spec =
     tie.close
     (tie.spec
     invariant-loop

@@ -1,0 +1,14 @@
+-- Slot by slot: the kind of slot n, once it has been passed.
+use borrow.Author.Rules.{rules}
+use mathlib.Core.Path.{◌≡◌, sym, ◌∙◌}
+use Prim.Native.Nat.{◌≤◌, ◌-◌}
+use native.Mathlib.Omega.{arith}
+use lib.ListN.{length}
+use Rattle.bus_refusals.proofs.ruling.Laws.{kind_up_to, kind-none, kind-step, kind-full}
+use Rattle.bus_refusals.proofs.ruling.kind_at.Given as goal
+
+abbrev pub invariant-loop-i : goal.invariant-loop-i
+invariant-loop-i l = (l.i ≤ 8) × (length l.slots ≡ 8) × (l.kind ≡ kind_up_to l.slots l.n l.i)
+
+abbrev pub decreases-loop-i : goal.decreases-loop-i
+decreases-loop-i l = 8 - l.i

@@ -1,0 +1,13 @@
+-- `temperature::low_flag`: the three tests are the definition's, once the signed numbers are read back from their bits.
+use borrow.Author.Rules.{rules}
+use Rattle.rules.specs.Sensor.{lowered_of, low_flag}
+use Rattle.bus_sensor.proofs.temperature.Signed.{wide_back}
+use Rattle.bus_sensor.proofs.temperature.low_flag.Goals as goal
+
+pub returns : goal.returns
+unfolding lowered_of low_flag
+returns c =
+    let a = c.lowered in
+    let b = c.sixteenths in
+    let s = c in
+    rw (c.flag.ensures, wide_back s.args.t s.ranges.t.sfits, wide_back a.result a.type_inv, wide_back b.result b.type_inv, a.ensures, b.ensures)

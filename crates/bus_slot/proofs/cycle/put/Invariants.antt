@@ -1,0 +1,17 @@
+-- The part is as after the turns so far.
+use mathlib.Core.Path.{refl, ◌≡◌}
+use mathlib.Core.Logic.{⊎_elim}
+use Prim.Native.Nat.{◌≤◌, ◌-◌}
+use native.Mathlib.Omega.{arith}
+use borrow.Author.Rules.{rules}
+use lib.ListN.{length, length-set}
+use Rattle.proof_lists.specs.Parts.{part}
+use Rattle.rules.specs.Memory.{put_up_to}
+use Rattle.bus_slot.proofs.cycle.Laws.{put-none, put_step}
+use Rattle.bus_slot.proofs.cycle.put.Given as goal
+
+abbrev pub invariant-loop-i : goal.invariant-loop-i
+invariant-loop-i l = (l.i ≤ 16) × (l.part ≡ put_up_to l.latch l.marks l.at l.i l.initial.part) × (length l.part ≡ length l.initial.part)
+
+abbrev pub decreases-loop-i : goal.decreases-loop-i
+decreases-loop-i l = 16 - l.i

@@ -1,0 +1,6 @@
+-- The exchange is over.
+use borrow.Author.Rules.{rules}
+use Rattle.bus_slot.proofs.drive.low_byte.Goals as goal
+
+pub returns : goal.returns
+returns c = rw c.lost-slot.ensures

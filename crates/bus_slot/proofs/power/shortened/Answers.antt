@@ -1,0 +1,9 @@
+-- The first so many are left.
+use borrow.Author.Rules.{rules}
+use Rattle.rules.specs.Fields.{latched}
+use Rattle.rules.specs.Power.{cut}
+use Rattle.bus_slot.proofs.power.shortened.Goals as goal
+
+pub returns : goal.returns
+unfolding cut latched
+returns c = rw c.first_of-first.ensures

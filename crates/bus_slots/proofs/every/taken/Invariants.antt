@@ -1,0 +1,21 @@
+use borrow.Author.Rules.{rules}
+use mathlib.Core.Path.{◌≡◌, refl, ◌∙◌, ap}
+use mathlib.Core.Bool.{true}
+use mathlib.Core.Logic.{⊎_elim}
+use Prim.Native.Nat.{◌≤◌, ◌<◌, ◌-◌, ◌+◌, ◌*◌}
+use native.Mathlib.Omega.{arith}
+use lib.ListN.{length, length-take, length-drop}
+use Rattle.proof_lists.specs.Each.{all_of, all_of-at}
+use Rattle.rules.specs.Refusals.{slot_in_range}
+use Rattle.rules.specs.Events.{carried}
+use Rattle.bus_slots.specs.Foreseen.{heard_in, carrying}
+use Rattle.rules.proofs.Past.{no_slot}
+use Rattle.bus_slots.proofs.every.Laws.{Turned, turned_none, turned-all, turn-nothing, turn-to, turn_more, old}
+use Rattle.bus_slots.proofs.every.taken.Given as goal
+
+abbrev pub invariant-loop-i : goal.invariant-loop-i
+invariant-loop-i l = (l.i ≤ 8) × (length l.initial.all ≡ 8) × (length l.initial.mem ≡ 4096) × (length l.mem ≡ 4096) × (all_of slot_in_range l.initial.all ≡ true) × (l.h ≡ heard_in (carried l.a)) × (l.carries ≡ carrying (carried l.a))
+    × (l.c ≡ carried l.a) × Turned l.a l.initial.all l.initial.mem l.i l.all l.mem l.shown.ack l.shown.driven l.shown.byte
+
+abbrev pub decreases-loop-i : goal.decreases-loop-i
+decreases-loop-i l = 8 - l.i

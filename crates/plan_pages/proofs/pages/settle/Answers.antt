@@ -1,0 +1,29 @@
+-- The ticks that are left give what all five give.
+use mathlib.Core.Path.{◌≡◌, refl}
+use mathlib.Core.Bool.{true}
+use Prim.Native.Nat.{◌-◌, ◌≤◌, ◌<◌}
+use native.Mathlib.Omega.{arith}
+use borrow.Author.Rules.{rules}
+use lib.ListN.{length, replicate}
+use Rattle.rules.specs.declared.Act.TheVariants.{Tick}
+use Rattle.rules.specs.Modelled.{slot_bytes}
+use Rattle.rules.specs.Refusals.{slot_in_range}
+use Rattle.rules.specs.Runs.{slot_after, part_after}
+use Rattle.plan_pages.proofs.pages.Laws.{tick-kept, slot_step, part_step, slot-last, part-last}
+use Rattle.plan_pages.proofs.pages.settle.Goals as goal
+
+pub loop-init : goal.loop-init
+loop-init c = (omega arith, c.requires.0, c.requires.1, refl, refl)
+
+pub tick-next-requires : goal.tick-next-requires
+tick-next-requires c = let l = c.loop in (l.invariant.1, l.invariant.2)
+
+pub loop-preserved : goal.loop-preserved
+loop-preserved c =
+    let l = c.loop in
+    let e = c.tick-next.ensures in
+    let h : l.counter < 5 = omega arith in
+    (omega arith, tick-kept _ _ l.invariant.1 e.0, omega arith, slot_step _ _ _ _ h e.0 l.invariant.3, part_step _ _ _ _ _ _ h e.0 e.1 l.invariant.4)
+
+pub returns : goal.returns
+returns c = let l = c.loop in let h : 5 ≤ l.counter = omega arith in (slot-last _ _ _ h l.invariant.3, part-last _ _ _ _ h l.invariant.4)

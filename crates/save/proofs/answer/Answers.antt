@@ -1,0 +1,13 @@
+-- A record that is cut, a form, and a refusal.
+use borrow.Author.Rules.{rules}
+use Rattle.save.proofs.Laws.{answer-short, answer-form, answer-refused}
+use Rattle.save.proofs.answer.Goals as goal
+
+pub returns-then-left-ne0 : goal.returns-then-left-ne0
+returns-then-left-ne0 c = search answer-short
+
+pub returns-in-Form : goal.returns-in-Form
+returns-in-Form c = search answer-form
+
+pub returns-in-Refused : goal.returns-in-Refused
+returns-in-Refused c = search answer-refused

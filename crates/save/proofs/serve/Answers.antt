@@ -1,0 +1,20 @@
+-- What is written lies in the output.
+use native.Mathlib.Omega.{arith}
+use borrow.Author.Rules.{rules}
+use Rattle.save.proofs.Laws.{answer-onward}
+use Rattle.save.proofs.serve.Goals as goal
+
+pub returns : goal.returns
+returns c =
+    let a = c.answer in
+    let ran = c.run_records-ran in (
+    omega (arith, answer-onward _ _ _ _ _ a.ensures (omega (arith, answer-requires c a.lifetimes))),
+    record {
+        lines = _;
+        going = ran.result;
+        stored = ran.new.1.1.0;
+        left = ran.new.1.1.1.0;
+        ended = ran.ensures;
+        answered = a.ensures;
+    },
+    )

@@ -1,0 +1,16 @@
+-- After each turn one register more is put.
+use mathlib.Core.Path.{◌≡◌, refl, ap}
+use Prim.Native.Nat.{◌+◌, ◌-◌, ◌≤◌}
+use native.Mathlib.Omega.{arith}
+use borrow.Author.Rules.{rules}
+use lib.ListN.{length}
+use lib.Seq.{sets, length-sets}
+use Rattle.save_rules.specs.Form.{word_of, registers_to}
+use Rattle.save_fields.proofs.shares.Laws.{none-put, registers-step, length-registers, registers-none}
+use Rattle.save_fields.proofs.shares.put_registers.Given as goal
+
+abbrev pub invariant-loop-i : goal.invariant-loop-i
+invariant-loop-i l = (l.i ≤ 7) × (l.at + 14 ≤ length l.initial.out) × (length l.out ≡ length l.initial.out) × (l.end ≡ l.at + length (registers_to l.i l.x)) × (l.out ≡ sets l.initial.out l.at (registers_to l.i l.x))
+
+abbrev pub decreases-loop-i : goal.decreases-loop-i
+decreases-loop-i l = 7 - l.i

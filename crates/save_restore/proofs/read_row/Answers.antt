@@ -1,0 +1,6 @@
+-- The slots, read.
+use borrow.Author.Rules.{rules}
+use Rattle.save_restore.proofs.read_row.Goals as goal
+
+pub returns : goal.returns
+returns c = cc

@@ -1,0 +1,14 @@
+-- One byte more at each turn.
+use mathlib.Core.Path.{◌≡◌, refl, sym, ◌∙◌}
+use Prim.Native.Nat.{◌+◌, ◌-◌, ◌≤◌}
+use native.Mathlib.Omega.{arith}
+use borrow.Author.Rules.{rules}
+use lib.ListN.{length, take, drop}
+use Rattle.proof_lists.specs.Same.{same, stands-step, stands-start, stands-end}
+use Rattle.save_restore.proofs.stands.Given as goal
+
+abbrev pub invariant-loop-i : goal.invariant-loop-i
+invariant-loop-i l = (l.i ≤ l.i-end) × (l.i-end ≡ length l.bytes) × (l.at + length l.bytes ≤ length l.form) × (l.ok ≡ same (take l.i l.bytes) (take l.i (drop l.at l.form)))
+
+abbrev pub decreases-loop-i : goal.decreases-loop-i
+decreases-loop-i l = l.i-end - l.i

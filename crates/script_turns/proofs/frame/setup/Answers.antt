@@ -1,0 +1,6 @@
+-- The pairs of the bytes, set up.
+use borrow.Author.Rules.{rules}
+use Rattle.script_turns.proofs.frame.setup.Goals as goal
+
+pub returns : goal.returns
+returns c = rw (c.setup.ensures, c.pairs.ensures)

@@ -1,0 +1,7 @@
+-- The slots of a bus, where there was none.
+use borrow.Author.Rules.{rules}
+use Rattle.watch_text.proofs.lines.Laws.{bench-by}
+use Rattle.watch_text.proofs.lines.put_bench.Goals as goal
+
+pub returns : goal.returns
+returns c = bench-by _ _ _ _ _ c.empty_bus-none.ensures c.put_changes.ensures
