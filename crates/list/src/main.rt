@@ -2,12 +2,13 @@
 // place on standard output, or what stands in the way. Its input is bounded: so it is one read, one function, `written`, whose contract says all
 // that is written for what came, and one write. The status that a result has, the script `run` gives it (the file status).
 #![tactic(auto)]
+
 ghost use Rattle.std.specs.Prelude.{◌≡◌, cond, ◌≤◌, ltb, length};
 ghost use Rattle.list_lend.specs.Listed.{number_in};
 ghost use Rattle.list.specs.Asked.{answer_of, fronted, put_for, written_for};
 
-use script_streams::opening::STDIN_FILENO;
 use rules::Bus;
+use script_streams::opening::STDIN_FILENO;
 
 // Bytes of one record more than a list may have; and of setup, number of places and so many records, which is all that is ever looked at.
 const TOO_MANY: usize = 16388;

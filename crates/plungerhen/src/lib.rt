@@ -1,6 +1,7 @@
 // The library's face: every public entry and its types under one name. What each entry promises stands in docs/PROMISES.md, how it is called in
 // docs/manual/library.md.
 #![tactic(auto)]
+
 pub use bus_block::block;
 pub use bus_event::{event, event_in_range};
 pub use bus_pin::pin;

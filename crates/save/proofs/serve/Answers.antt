@@ -8,12 +8,12 @@ pub returns : goal.returns
 returns c =
     let a = c.answer in
     let ran = c.run_records-ran in (
-    omega (arith, answer-onward _ _ _ _ _ a.ensures (omega (arith, answer-requires c a.lifetimes))),
+    omega (arith, answer-onward _ _ _ _ _ a.ensures (omega arith)),
     record {
         lines = _;
         going = ran.result;
-        stored = ran.new.1.1.0;
-        left = ran.new.1.1.1.0;
+        stored = ran.new.mem;
+        left = ran.new.out;
         ended = ran.ensures;
         answered = a.ensures;
     },
