@@ -1,6 +1,7 @@
 // A bench for what no script can reach: it reads tries, hands in the states and memories that they ask for, and writes each command with what
 // came of it. `stdin` says what a line may hold, and `stdout` has what document 01 asks for.
 #![tactic(auto)]
+
 ghost use Rattle.std.specs.Prelude.{◌≤◌, length};
 
 mod names; // the words of the tries
@@ -9,9 +10,9 @@ mod report; // what is told of the tries
 mod state; // what they hand in: a memory, and numbers of a slot
 mod words; // the tries as commands, read word by word
 
-use libc::STDOUT_FILENO;
 use list_lend::text::Told;
 use plan_rules::Planned;
+use report::STDOUT_FILENO;
 use rules::{Answer, BlockNo, Bus, Event, Pair, SlotNo};
 use save_rules::Saved;
 

@@ -2,8 +2,10 @@
 ghost use Rattle.std.specs.Prelude.{◌<◌};
 
 use super::{names, parts, state};
-use libc::STDOUT_FILENO;
 use rules::{Answer, Bus, Looked, Pin, Slot};
+
+// The descriptor of standard output.
+pub const STDOUT_FILENO: i32 = 1;
 
 // A byte, and the word of a number behind a space.
 pub fn sign(b: u8) {

@@ -2,7 +2,9 @@
 ghost use Rattle.std.specs.Prelude.{◌≤◌, length};
 
 use super::{names, parts, report};
-use libc::STDIN_FILENO;
+
+// The descriptor of standard input.
+const STDIN_FILENO: i32 = 0;
 
 // What a word stands for among those from a place on.
 fn index_of(words: &[u8], from: usize, text: &[u8]) -> u32
@@ -19,12 +21,23 @@ fn index_of(words: &[u8], from: usize, text: &[u8]) -> u32
     names::UNKNOWN
 }
 
+// What a digit is worth, or 16 of a byte that is none.
+fn worth(b: u8) -> u32
+    ensures { result ≤ 16 }
+{
+    match b {
+        b'0'..=b'9' => (b - b'0') as u32,
+        b'A'..=b'F' => (b - b'A') as u32 + 10,
+        _ => 16,
+    }
+}
+
 // A number with one more digit, decimal or hexadecimal; what is above 65535, and with what is no digit, is none.
 fn longer(n: u32, hex: bool, b: u8) -> u32
     requires { n ≤ 70536 }
     ensures { result ≤ 70536 }
 {
-    let d = bytes::scan::find(b"0123456789ABCDEF", 0, 16, b) as u32;
+    let d = worth(b);
     let m = if hex { 16 * n + d } else { 10 * n + d };
     if (15 < d) | (!hex & (9 < d)) {
         return names::UNKNOWN;
