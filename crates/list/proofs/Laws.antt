@@ -20,7 +20,6 @@ use Rattle.list_lend.specs.declared.text.Told.{Told}
 use Rattle.list_lend.specs.Listed.{number_in, events_in, blank, list_text, told_of, too_many_text}
 use Rattle.list_lend.proofs.text.Places.{taken-lines, taken-most}
 use Rattle.list_lend.specs.Given.{given_of}
-use Rattle.list.specs.declared.Answered.{Answered}
 use Rattle.list.specs.Asked.{lines_for, too_many, is_cut, list_for, put_for, answered_by, answer_of}
 
 -- the text of a call on so many blank places

@@ -1,10 +1,10 @@
 -- Request P1, of the program: what it prints for whatever it reads, and that running what it prints leaves the image. The bench comes from any setup and
 -- any records, so it has what the planner's promise asks of the program's types: eight slots, arrays of sixteen, bytes.
 -- Assumes nothing.
-use mathlib.Core.Path.{◌≡◌, refl, sym, ◌∙◌, ap, ap₂, subst}
+use mathlib.Core.Path.{◌≡◌, refl, sym, ◌∙◌, ap, subst}
 use mathlib.Core.Bool.{true, false, false≢true}
 use mathlib.Core.List.{List, [], ◌∷◌, ◌++◌}
-use Prim.Native.Nat.{ℕ, zero, suc, ◌+◌, ◌*◌, ◌%◌, ◌<◌, ◌≤◌}
+use Prim.Native.Nat.{ℕ, zero, suc, ◌*◌, ◌%◌, ◌<◌, ◌≤◌}
 use native.Mathlib.Omega.{arith}
 use borrow.Author.Tests.{ltb-false, eq-eqb}
 use lib.Dec.{eqb, ltb}
@@ -18,7 +18,7 @@ use Rattle.rules.specs.declared.SlotNo.{SlotNo}
 use Rattle.rules.specs.Modelled.{slot_count, memory_bytes}
 use Rattle.rules.specs.Fresh.{absent_slot}
 use Rattle.rules.specs.Events.{refusal_number}
-use Rattle.rules.specs.Refusals.{wrong_length, in_range, good_pair, setup_of}
+use Rattle.rules.specs.Refusals.{wrong_length, in_range, good_pair}
 use Rattle.rules.specs.Runs.{Bench, next, after}
 use Rattle.rules.proofs.Memory.Protection.{number-after}
 use Rattle.rules.proofs.Memory.Stored.{memory-length-after}
@@ -33,7 +33,7 @@ use Rattle.script_text.proofs.records.Laws.{length_pairs}
 use Rattle.script_turns.specs.Frame.{bad_setup_line}
 use Rattle.script_turns.specs.Script.{bench_to, records_in}
 use Rattle.plan_rules.specs.declared.Planned.{Planned}
-use Rattle.plan_rules.specs.declared.Planned.TheVariants.{Records, Refused}
+use Rattle.plan_rules.specs.declared.Planned.TheVariants.{Records}
 use Rattle.plan_rules.specs.Records.{laid, events_in}
 use Rattle.plan_rules.specs.Effect.{Typed}
 use Rattle.plan_rules.specs.Plan.{bytes_at, buffer_bytes, no_such_slot, wrong_lengths, forbidden, plan_events, plan_of}

@@ -1,16 +1,16 @@
 -- What the halves that a plan selects leave of another slot: what holds of it, and is held by a half and by cancelling, holds of it then.
 -- Assumes nothing.
 use Prim.Native.Nat.{ℕ, zero, suc}
-use mathlib.Core.Path.{◌≡◌, refl, ◌∙◌}
-use mathlib.Core.Bool.{true, false, not, ◌&&◌}
+use mathlib.Core.Path.{◌≡◌, refl}
+use mathlib.Core.Bool.{false, not, ◌&&◌}
 use mathlib.Core.List.{List}
 use lib.Dec.{eqb}
-use Rattle.proof_lists.specs.Tests.{by-test, cond_cases, or_left_false, or_right_false}
+use Rattle.proof_lists.specs.Tests.{cond_cases, or_left_false, or_right_false}
 use Rattle.rules.specs.declared.Phase.TheVariants.{Idle}
 use Rattle.rules.specs.declared.Slot.{Slot}
 use Rattle.rules.specs.Modelled.{older}
 use Rattle.rules.specs.Open.{open-fields, open-memory}
-use Rattle.rules.specs.Fields.{in_half, in_phase}
+use Rattle.rules.specs.Fields.{in_half}
 use Rattle.rules.specs.Memory.{cancelled}
 use Rattle.plan_rules.specs.Plan.{page_half, differs, half_before}
 use Rattle.plan_rules.specs.Effect.{touched, opens, feels, felt_before}

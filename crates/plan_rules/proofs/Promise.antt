@@ -7,7 +7,6 @@ use mathlib.Core.Bool.{true, false, not}
 use mathlib.Core.List.{List}
 use lib.ListN.{length, drop}
 use borrow.Author.Tests.{eq-eqb, not-true, not-false}
-use Rattle.proof_lists.specs.Each.{Every}
 use Rattle.proof_lists.specs.Tests.{cond_cases}
 use Rattle.rules.specs.declared.Bus.{Bus}
 use Rattle.rules.specs.declared.Event.{Event}

@@ -24,7 +24,7 @@ use Rattle.runs.specs.Exchanges.{kept_by, acts_of, went}
 use Rattle.rules.proofs.Memory.Protection.{kind-next, length-next, still-present, kinds-after, number-after}
 use Rattle.rules.proofs.Memory.Stored.{memory-length-after}
 use Rattle.rules.proofs.Range.Kept.{facts, after-in-range}
-use Rattle.rules.proofs.Run.Cases.{present-next, next-cases}
+use Rattle.rules.proofs.Run.Cases.{present-next}
 use Rattle.runs.proofs.FromSetup.Arrays.{Sixteen, slot-sixteen}
 use Rattle.runs.proofs.TwoClerks.Alone.{slot-went, part-went}
 use Rattle.runs.proofs.TwoClerks.Foreign.{absent-after}

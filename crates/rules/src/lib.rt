@@ -1,5 +1,6 @@
 // The law's types, as document 01 names them. What each means, and what the bus does with them, stands in specs/, in the document's order.
 #![tactic(auto)]
+
 ghost use Rattle.std.specs.Prelude.{◌≡◌};
 ghost use Rattle.rules.specs.Fresh.{fresh_sensor, fresh_slot};
 

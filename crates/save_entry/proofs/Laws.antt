@@ -7,8 +7,6 @@ use Prim.Native.Nat.{ℕ, suc, ◌+◌, ◌*◌, ◌≤◌, ◌<◌}
 use native.Mathlib.Numerals.{add-one}
 use native.Mathlib.Omega.{arith}
 use borrow.Author.Tests.{eq-eqb, ne_eqb, lt-ltb, le-ltb}
-use denote.Enum.Declared.{tag_of}
-use types.Run.{OneOf, miss}
 use lib.ListN.{length, get_or, take, drop, length-append}
 use lib.Seq.{sets, sets-eq}
 use Rattle.proof_lists.specs.Each.{all_of, get_d_any}
@@ -22,7 +20,6 @@ use Rattle.rules.specs.declared.Slot.{Slot}
 use Rattle.rules.specs.Modelled.{slot_count, slot_bytes, memory_bytes}
 use Rattle.rules.specs.Fresh.{absent_slot}
 use Rattle.rules.specs.Refusals.{wrong_length, slot_in_range, in_range}
-use Rattle.rules.specs.contracts.Phase.{the_type}
 use Rattle.save_rules.specs.declared.Saved.TheVariants.{Form, Refused}
 use Rattle.save_rules.specs.Form.{word_of, field_count, field_at, share_of, shares, whole_field, is_there, field_bytes, form_to, form_of}
 use Rattle.save_rules.specs.Reading.{offset, span, begins}

@@ -1,9 +1,9 @@
 -- Request P5: "What was saved reads back the same, the rest as fresh, absent slots' bytes untouched"; and P9's upper 256 bytes of an older slot.
 -- Assumes nothing.
-use Prim.Native.Nat.{ℕ, zero, suc, ◌+◌, ◌≤◌, ◌<◌}
+use Prim.Native.Nat.{ℕ, zero, suc, ◌≤◌, ◌<◌}
 use native.Mathlib.Omega.{arith}
 use mathlib.Core.Path.{◌≡◌, refl, sym, ◌∙◌, ap, ap₂}
-use mathlib.Core.Bool.{Bool, true, false, cond}
+use mathlib.Core.Bool.{true, false, cond}
 use mathlib.Core.List.{List, map, ◌++◌}
 use lib.Dec.{eqb}
 use lib.ListN.{length, get_or, take, drop, length-take, get_or-replicate, length-map, get_or-map}

@@ -1,6 +1,5 @@
 use Rattle.rules.specs.Refusals.{wrong_length, kinds_of, in_range}
 use Rattle.rules.specs.Reader.{no_block}
-use borrow.Author.Rules.{rules}
 use Rattle.bus_block.proofs.no_block.Goals as goal
 
 pub returns : goal.returns

@@ -1,5 +1,4 @@
 -- The table is the law's: its rows stand in the law's order, so that what is found in it computes, row by row, to what the law says of any byte.
-use borrow.Author.Rules.{rules}
 use Rattle.proof_lists.specs.Each.{first_from}
 use Rattle.rules.specs.Control.{command_of}
 use Rattle.bus_control.specs.Rows.{found_in}

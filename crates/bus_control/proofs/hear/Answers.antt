@@ -1,7 +1,6 @@
 -- Each range is a family; what stands between the ranges is none.
 use mathlib.Core.Path.{sym, ◌∙◌}
 use native.Mathlib.Omega.{arith}
-use borrow.Author.Rules.{rules}
 use Rattle.rules.specs.Control.{select_of, is_read}
 use Rattle.bus_control.proofs.Families.{memory, sensor, commands, other}
 use Rattle.bus_control.proofs.hear.Goals as goal

@@ -1,5 +1,4 @@
 -- The definition's own test.
-use borrow.Author.Rules.{rules}
 use Rattle.rules.specs.Control.{heard_by}
 use Rattle.rules.specs.Modelled.{older}
 use Rattle.bus_control.proofs.heard_by.Goals as goal

@@ -1,11 +1,8 @@
 -- No row passed has the byte: what is found in those to come is what is found in all.
-use mathlib.Core.Path.{◌≡◌, refl, ◌∙◌}
-use Prim.Native.Nat.{◌≤◌, ◌-◌}
+use mathlib.Core.Path.{refl, ◌∙◌}
 use native.Mathlib.Omega.{arith}
-use borrow.Author.Rules.{rules}
-use lib.ListN.{length}
 use Rattle.bus_control.specs.Rows.{found_in}
-use Rattle.bus_control.proofs.Search.{onward, here, passed, none}
+use Rattle.bus_control.proofs.Search.{here, passed, none}
 use Rattle.bus_control.proofs.look_up.Goals as goal
 
 pub loop-i-init : goal.loop-i-init

@@ -1,11 +1,9 @@
 -- No row passed has the byte: what is found in those to come is what is found in all.
-use mathlib.Core.Path.{◌≡◌, refl, ◌∙◌}
+use mathlib.Core.Path.{◌≡◌}
 use Prim.Native.Nat.{◌≤◌, ◌-◌}
-use native.Mathlib.Omega.{arith}
-use borrow.Author.Rules.{rules}
 use lib.ListN.{length}
 use Rattle.bus_control.specs.Rows.{found_in}
-use Rattle.bus_control.proofs.Search.{onward, here, passed, none}
+use Rattle.bus_control.proofs.Search.{onward}
 use Rattle.bus_control.proofs.look_up.Given as goal
 
 abbrev pub invariant-loop-i : goal.invariant-loop-i

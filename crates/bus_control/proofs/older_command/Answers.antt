@@ -1,5 +1,4 @@
 -- The three cases of the definition, by the permanent protection and the voltage.
-use borrow.Author.Rules.{rules}
 use Rattle.rules.specs.Control.{older_command}
 use Rattle.bus_control.proofs.older_command.Goals as goal
 

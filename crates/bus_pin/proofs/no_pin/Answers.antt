@@ -1,5 +1,4 @@
 -- The two tests of the definition.
-use borrow.Author.Rules.{rules}
 use Rattle.rules.specs.Looked.{no_pin}
 use Rattle.rules.specs.Refusals.{kinds_of}
 use Rattle.bus_pin.proofs.no_pin.Goals as goal

@@ -1,7 +1,6 @@
 -- Row 6, then row 3, then the pin of a slot that is there.
 use native.Mathlib.Omega.{arith}
 use mathlib.Core.Path.{sym, ◌∙◌, ap}
-use borrow.Author.Rules.{rules}
 use Rattle.proof_lists.specs.Each.{get_d_any}
 use Rattle.rules.specs.declared.Looked.TheVariants.{Stands}
 use Rattle.rules.specs.declared.Slot.{Slot}

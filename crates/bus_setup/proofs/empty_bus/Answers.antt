@@ -1,5 +1,4 @@
 -- The slots of eight absent pairs are eight absent slots.
-use borrow.Author.Rules.{rules}
 use Rattle.rules.specs.Fresh.{setup_slot, absent_slot}
 use Rattle.rules.specs.Refusals.{empty_bus}
 use Rattle.bus_setup.proofs.empty_bus.Goals as goal

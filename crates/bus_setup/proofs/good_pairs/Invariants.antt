@@ -1,11 +1,8 @@
 -- Every pair passed is good, and those to come.
 use Prim.Native.Nat.{◌-◌}
-use native.Mathlib.Omega.{arith}
-use borrow.Author.Rules.{rules}
-use Rattle.proof_lists.specs.Each.{AllTo, all_to-none, all_to-step, all_to-full}
+use Rattle.proof_lists.specs.Each.{AllTo}
 use Rattle.rules.specs.Modelled.{slot_count}
 use Rattle.rules.specs.Refusals.{good_pair}
-use Rattle.rules.proofs.Past.{no_pair}
 use Rattle.bus_setup.proofs.good_pairs.Given as goal
 
 abbrev pub invariant-loop-i : goal.invariant-loop-i

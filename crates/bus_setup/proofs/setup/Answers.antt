@@ -1,5 +1,4 @@
 -- Good pairs make their slots, others none.
-use borrow.Author.Rules.{rules}
 use Rattle.rules.specs.Refusals.{setup_of}
 use Rattle.bus_setup.proofs.setup.Goals as goal
 

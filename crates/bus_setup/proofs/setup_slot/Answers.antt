@@ -1,5 +1,4 @@
 -- The two cases of the definition, by the kind.
-use borrow.Author.Rules.{rules}
 use borrow.Author.Tests.{eq-eqb, ne_eqb}
 use Rattle.rules.specs.Fresh.{setup_slot}
 use Rattle.bus_setup.proofs.setup_slot.Goals as goal

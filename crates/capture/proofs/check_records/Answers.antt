@@ -1,13 +1,8 @@
 -- From piece to piece the bus is in range, the buffers keep their lengths, the records and the pieces to come make up one number, and the pieces so far led here.
-use mathlib.Core.Path.{◌≡◌, refl, sym, ◌∙◌}
-use mathlib.Core.Bool.{true, false≢true}
-use Prim.Native.Nat.{◌+◌, ◌*◌}
+use mathlib.Core.Path.{refl, sym, ◌∙◌}
+use mathlib.Core.Bool.{false≢true}
 use native.Mathlib.Omega.{arith}
-use borrow.Author.Rules.{rules}
 use borrow.Author.Tests.{not-true, not-false}
-use lib.ListN.{length}
-use Rattle.rules.specs.Refusals.{in_range}
-use Rattle.capture.specs.Program.{most_records, begun, Reached}
 use Rattle.capture.proofs.Onward.{reached-none, reached-more, came-full}
 use Rattle.capture.proofs.check_records.Goals as goal
 

@@ -1,6 +1,5 @@
 -- What came is the piece that was checked.
 use native.Mathlib.Omega.{arith}
-use borrow.Author.Rules.{rules}
 use Rattle.capture_pieces.proofs.pieces.Onward.{piece-onward}
 use Rattle.capture.proofs.Onward.{came-by}
 use Rattle.capture.proofs.read_on.Goals as goal

@@ -1,6 +1,5 @@
 -- A memory that is cut, or the records' verdict.
 use native.Mathlib.Omega.{arith}
-use borrow.Author.Rules.{rules}
 use Rattle.capture.proofs.Onward.{served-short, served-whole}
 use Rattle.capture.proofs.serve.Goals as goal
 

@@ -1,8 +1,6 @@
 -- Row 1, row 5, and the records on a copy of the memory.
 use mathlib.Core.Path.{sym, ◌∙◌, ap}
 use native.Mathlib.Omega.{arith}
-use borrow.Author.Rules.{rules}
-use Rattle.proof_lists.specs.Stores.{all-copied}
 use Rattle.rules.specs.declared.Outcome.{Outcome}
 use Rattle.rules.specs.Refusals.{in_range}
 use Rattle.rules.proofs.Range.Kept.{setup-in-range}

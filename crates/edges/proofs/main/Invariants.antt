@@ -1,5 +1,4 @@
 -- The turns fall to 0.
-use borrow.Author.Rules.{rules}
 use Rattle.edges.proofs.main.Given as goal
 
 abbrev pub invariant-loop-turns : goal.invariant-loop-turns

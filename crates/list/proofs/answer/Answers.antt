@@ -1,6 +1,5 @@
 -- Too many records, a cut, and a list.
 use native.Mathlib.Omega.{arith}
-use borrow.Author.Rules.{rules}
 use Rattle.list_lend.specs.Listed.{number_in}
 use Rattle.list.proofs.Laws.{answer-many, answer-no-number, answer-short, answer-list}
 use Rattle.list.proofs.answer.Goals as goal

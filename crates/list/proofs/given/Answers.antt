@@ -1,5 +1,4 @@
 -- The records and the places, given.
-use borrow.Author.Rules.{rules}
 use Rattle.list.proofs.Laws.{put-by}
 use Rattle.list.proofs.given.Goals as goal
 

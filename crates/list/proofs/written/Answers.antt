@@ -1,6 +1,5 @@
 -- What came is cut where the setup and the number of places end, and what each way puts is what is written for it.
 use native.Mathlib.Omega.{arith}
-use borrow.Author.Rules.{rules}
 use borrow.Author.Tests.{not-true, not-false}
 use mathlib.Core.Path.{sym}
 use lib.Seq.{length-take-le}

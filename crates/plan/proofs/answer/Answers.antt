@@ -1,6 +1,5 @@
 -- An input that is cut, and a plan.
 use native.Mathlib.Omega.{arith}
-use borrow.Author.Rules.{rules}
 use Rattle.plan.proofs.Fits.{plan-fits}
 use Rattle.plan.proofs.Laws.{answer-cut, answer-short, answer-plan}
 use Rattle.plan.proofs.answer.Goals as goal

@@ -1,6 +1,5 @@
 -- What is written lies in the output.
 use native.Mathlib.Omega.{arith}
-use borrow.Author.Rules.{rules}
 use Rattle.plan.proofs.Laws.{answer-onward}
 use Rattle.plan.proofs.serve.Goals as goal
 
@@ -12,8 +11,8 @@ returns c =
     let m = c.read_full-bytes in
     let k = c.read_full-number in
     let w = c.read_full-wanted in (
-    omega (arith, answer-onward _ _ _ _ _ _ _ _ a.ensures (omega arith)),
-    record {
+      omega (arith, answer-onward _ _ _ _ _ _ _ _ a.ensures (omega arith)),
+      record {
         memory = m.new.buf;
         slot = k.new.buf;
         image = w.new.buf;
@@ -27,5 +26,5 @@ returns c =
         left = ran.new.out;
         ended = ran.ensures;
         answered = a.ensures;
-    },
+      },
     )

@@ -15,7 +15,6 @@ use Rattle.rules.specs.declared.Phase.TheVariants.{Idle, Control, Deaf}
 use Rattle.rules.specs.declared.Slot.{Slot}
 use Rattle.rules.specs.Modelled.{absent, sensing}
 use Rattle.rules.specs.Open.{open-fields}
-use Rattle.rules.specs.Fields as Fields
 use Rattle.rules.specs.Fields.{in_phase}
 use Rattle.rules.specs.Fresh.{fresh_slot, powered}
 use Rattle.rules.specs.Memory.{emptied, ended, ticked}

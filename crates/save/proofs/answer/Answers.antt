@@ -1,5 +1,4 @@
 -- A record that is cut, a form, and a refusal.
-use borrow.Author.Rules.{rules}
 use Rattle.save.proofs.Laws.{answer-short, answer-form, answer-refused}
 use Rattle.save.proofs.answer.Goals as goal
 

@@ -1,5 +1,4 @@
 -- Idle, or any other phase.
-use borrow.Author.Rules.{rules}
 use Rattle.save_rules.specs.Saving.{is_idle}
 use Rattle.save_entry.proofs.Laws.{not-idle}
 use Rattle.save_entry.proofs.is_idle.Goals as goal

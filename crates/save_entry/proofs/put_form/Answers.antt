@@ -1,12 +1,10 @@
 -- One field more at each turn.
 use mathlib.Core.Path.{◌≡◌, refl, ◌∙◌, ap}
-use Prim.Native.Nat.{◌+◌, ◌-◌, ◌≤◌}
+use Prim.Native.Nat.{◌+◌}
 use native.Mathlib.Omega.{arith}
-use borrow.Author.Rules.{rules}
 use lib.ListN.{length}
-use lib.Seq.{sets, length-sets}
+use lib.Seq.{length-sets}
 use Rattle.script_text.proofs.letters.Laws.{at_front}
-use Rattle.rules.specs.Modelled.{memory_bytes}
 use Rattle.save_rules.specs.Form.{field_count, form_to}
 use Rattle.save_entry.proofs.Laws.{form-none, form-step, form-room}
 use Rattle.save_entry.proofs.put_form.Goals as goal

@@ -1,11 +1,11 @@
 -- One share more at each turn.
 use mathlib.Core.Path.{◌≡◌, refl, ◌∙◌, ap}
-use Prim.Native.Nat.{◌+◌, ◌-◌, ◌*◌, ◌≤◌}
+use Prim.Native.Nat.{◌+◌, ◌-◌, ◌*◌}
 use native.Mathlib.Omega.{arith}
 use borrow.Author.Rules.{rules}
 use lib.ListN.{length}
-use lib.Seq.{sets, length-sets}
-use Rattle.rules.specs.Modelled.{slot_count, memory_bytes}
+use lib.Seq.{length-sets}
+use Rattle.rules.specs.Modelled.{slot_count}
 use Rattle.rules.proofs.Past.{no_slot}
 use Rattle.save_rules.specs.Form.{shares}
 use Rattle.save_entry.proofs.Laws.{shares-none, shares-step, share-room}

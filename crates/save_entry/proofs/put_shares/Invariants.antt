@@ -1,14 +1,10 @@
 -- One share more at each turn.
-use mathlib.Core.Path.{◌≡◌, refl, ◌∙◌, ap}
-use Prim.Native.Nat.{◌+◌, ◌-◌, ◌*◌, ◌≤◌}
-use native.Mathlib.Omega.{arith}
-use borrow.Author.Rules.{rules}
+use mathlib.Core.Path.{◌≡◌}
+use Prim.Native.Nat.{◌+◌, ◌-◌, ◌≤◌}
 use lib.ListN.{length}
-use lib.Seq.{sets, length-sets}
+use lib.Seq.{sets}
 use Rattle.rules.specs.Modelled.{slot_count, memory_bytes}
-use Rattle.rules.proofs.Past.{no_slot}
 use Rattle.save_rules.specs.Form.{shares}
-use Rattle.save_entry.proofs.Laws.{shares-none, shares-step, share-room}
 use Rattle.save_entry.proofs.put_shares.Given as goal
 
 abbrev pub invariant-loop-i : goal.invariant-loop-i

@@ -1,6 +1,5 @@
 -- Tag, length and shares, one behind the other.
 use native.Mathlib.Omega.{arith}
-use borrow.Author.Rules.{rules}
 use Rattle.save_rules.specs.Form.{word_of}
 use Rattle.save_fields.proofs.offsets.Laws.{offset-small}
 use Rattle.save_entry.proofs.Laws.{field_put, field_room}

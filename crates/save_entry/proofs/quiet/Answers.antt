@@ -1,5 +1,4 @@
 -- The three tests.
-use borrow.Author.Rules.{rules}
 use Rattle.rules.specs.Modelled.{absent}
 use Rattle.save_rules.specs.Saving.{quiet}
 use Rattle.save_entry.proofs.quiet.Goals as goal

@@ -1,5 +1,4 @@
 -- A length that is cut, one that is too large, a form that is cut, and one that was read.
-use borrow.Author.Rules.{rules}
 use Rattle.save_opening.proofs.Laws.{begin-cut, begin-long, begin-short, begin-form}
 use Rattle.save_opening.proofs.begin.Goals as goal
 

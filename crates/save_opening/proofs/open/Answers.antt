@@ -2,7 +2,6 @@
 use mathlib.Core.Path.{sym}
 use Prim.Native.Nat.{◌≤◌}
 use native.Mathlib.Omega.{arith}
-use borrow.Author.Rules.{rules}
 use lib.ListN.{length-append, length-take}
 use Rattle.save_opening.proofs.Onward.{begin-onward}
 use Rattle.save_opening.proofs.open.Goals as goal
@@ -26,11 +25,11 @@ returns c =
     let came = c.read_full-came in
     let w = c.wanted-size in
     let k : came.result ≤ w.result = omega (arith, came.ensures, simp length-take at came.auto.buf) in (
-    (begin-onward _ _ _ _ _ _ b.ensures (omega (arith, c.requires.1))).0,
-    record {
+      (begin-onward _ _ _ _ _ _ b.ensures (omega (arith, c.requires.1))).0,
+      record {
         head = _;
         form = _;
         fits = (simp length-take (omega (arith, first.ensures, first.auto.buf)), rw (sym w.ensures.0) (simp length-take (omega arith)));
         begun = b.ensures;
-    },
+      },
     )

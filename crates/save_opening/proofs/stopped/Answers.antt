@@ -1,5 +1,4 @@
 -- The bus is the empty one.
-use borrow.Author.Rules.{rules}
 use Rattle.save_opening.proofs.stopped.Goals as goal
 
 pub returns : goal.returns

@@ -1,5 +1,4 @@
 -- A length that is cut, one that is too large, and any other.
-use borrow.Author.Rules.{rules}
 use Rattle.save_opening.proofs.Laws.{wanted-cut, wanted-none, wanted-all}
 use Rattle.save_opening.proofs.wanted.Goals as goal
 

@@ -1,6 +1,5 @@
 -- There, or not.
 use mathlib.Core.Path.{sym, ◌∙◌}
-use borrow.Author.Rules.{rules}
 use Rattle.save_restore.proofs.Laws.{field-there, field-none}
 use Rattle.save_restore.proofs.field_tallies.Goals as goal
 

@@ -1,6 +1,5 @@
 -- Tag and length, put into a room and compared.
 use native.Mathlib.Omega.{arith}
-use borrow.Author.Rules.{rules}
 use Rattle.save_rules.specs.Form.{word_of}
 use Rattle.save_fields.proofs.offsets.Laws.{offset-small}
 use Rattle.save_restore.proofs.Laws.{head-fits, head-by}

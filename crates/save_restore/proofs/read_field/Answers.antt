@@ -1,5 +1,4 @@
 -- Read, or left.
-use borrow.Author.Rules.{rules}
 use Rattle.save_restore.proofs.Laws.{read-it, leave-it}
 use Rattle.save_restore.proofs.read_field.Goals as goal
 

@@ -1,9 +1,8 @@
 -- One field more at each turn.
 use mathlib.Core.Path.{◌≡◌, ◌∙◌, ap}
-use Prim.Native.Nat.{ℕ, ◌-◌, ◌≤◌}
+use Prim.Native.Nat.{ℕ}
 use native.Mathlib.Numerals.{add-one}
 use native.Mathlib.Omega.{arith}
-use borrow.Author.Rules.{rules}
 use Rattle.rules.specs.declared.Bus.{Bus}
 use Rattle.rules.specs.Refusals.{empty_bus}
 use Rattle.save_rules.specs.Reading.{read_field, read_to, bus_in}

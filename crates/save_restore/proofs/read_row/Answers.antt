@@ -1,5 +1,4 @@
 -- The slots, read.
-use borrow.Author.Rules.{rules}
 use Rattle.save_restore.proofs.read_row.Goals as goal
 
 pub returns : goal.returns

@@ -1,15 +1,10 @@
 -- One slot more at each turn.
-use mathlib.Core.Path.{◌≡◌, ◌∙◌, ap}
-use Prim.Native.Nat.{ℕ, ◌+◌, ◌-◌, ◌≤◌, ◌<◌}
-use native.Mathlib.Omega.{arith}
-use borrow.Author.Rules.{rules}
-use lib.ListN.{length, get_or, length-set}
-use Rattle.proof_lists.specs.Each.{map_to, map_to-none, map_to-full}
-use Rattle.rules.proofs.Past.{no_slot}
-use Rattle.save_rules.specs.Form.{field_at}
-use Rattle.save_rules.specs.Reading.{place, read_shares}
-use Rattle.save_fields.proofs.offsets.Laws.{begins-small, size_fits}
-use Rattle.save_restore.proofs.Laws.{read_by, place-first, place-step, place-small, read_step}
+use mathlib.Core.Path.{◌≡◌}
+use Prim.Native.Nat.{◌-◌, ◌≤◌, ◌<◌}
+use lib.ListN.{length}
+use Rattle.proof_lists.specs.Each.{map_to}
+use Rattle.save_rules.specs.Reading.{place}
+use Rattle.save_restore.proofs.Laws.{read_by}
 use Rattle.save_restore.proofs.read_shares.Given as goal
 
 abbrev pub invariant-loop-i : goal.invariant-loop-i

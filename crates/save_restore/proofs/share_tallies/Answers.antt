@@ -1,6 +1,5 @@
 -- Memory, or the share put into a room and compared.
 use native.Mathlib.Omega.{arith}
-use borrow.Author.Rules.{rules}
 use borrow.Author.Tests.{eq-eqb}
 use Rattle.save_restore.specs.Tallied.{share_tallies}
 use Rattle.save_restore.proofs.Laws.{share-short, room-sized, taken-sized, share-by}

@@ -1,16 +1,11 @@
 -- One share more at each turn.
-use mathlib.Core.Path.{◌≡◌, refl, ◌∙◌, ap}
+use mathlib.Core.Path.{◌≡◌}
 use mathlib.Core.Bool.{true}
-use Prim.Native.Nat.{ℕ, ◌+◌, ◌-◌, ◌≤◌, ◌<◌}
-use native.Mathlib.Omega.{arith}
-use borrow.Author.Rules.{rules}
+use Prim.Native.Nat.{◌-◌, ◌≤◌, ◌<◌}
 use lib.ListN.{length}
-use Rattle.rules.proofs.Past.{no_slot}
 use Rattle.save_rules.specs.Form.{field_count, is_there}
-use Rattle.save_rules.specs.Reading.{size_in, begins, place}
-use Rattle.save_fields.proofs.offsets.Laws.{begins-small, size_fits}
+use Rattle.save_rules.specs.Reading.{begins, place}
 use Rattle.save_restore.specs.Tallied.{shares_tally}
-use Rattle.save_restore.proofs.Laws.{place-first, place-step, place-small, share-inside, tally-none, tally-step}
 use Rattle.save_restore.proofs.shares_tally.Given as goal
 
 abbrev pub invariant-loop-i : goal.invariant-loop-i

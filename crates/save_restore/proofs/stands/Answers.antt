@@ -1,10 +1,7 @@
 -- One byte more at each turn.
-use mathlib.Core.Path.{◌≡◌, refl, sym, ◌∙◌}
-use Prim.Native.Nat.{◌+◌, ◌-◌, ◌≤◌}
+use mathlib.Core.Path.{refl, sym, ◌∙◌}
 use native.Mathlib.Omega.{arith}
-use borrow.Author.Rules.{rules}
-use lib.ListN.{length, take, drop}
-use Rattle.proof_lists.specs.Same.{same, stands-step, stands-start, stands-end}
+use Rattle.proof_lists.specs.Same.{stands-step, stands-start, stands-end}
 use Rattle.save_restore.proofs.stands.Goals as goal
 
 pub loop-i-init : goal.loop-i-init

@@ -1,10 +1,8 @@
 -- One byte more at each turn.
-use mathlib.Core.Path.{◌≡◌, refl, sym, ◌∙◌}
+use mathlib.Core.Path.{◌≡◌}
 use Prim.Native.Nat.{◌+◌, ◌-◌, ◌≤◌}
-use native.Mathlib.Omega.{arith}
-use borrow.Author.Rules.{rules}
 use lib.ListN.{length, take, drop}
-use Rattle.proof_lists.specs.Same.{same, stands-step, stands-start, stands-end}
+use Rattle.proof_lists.specs.Same.{same}
 use Rattle.save_restore.proofs.stands.Given as goal
 
 abbrev pub invariant-loop-i : goal.invariant-loop-i

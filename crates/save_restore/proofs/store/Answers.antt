@@ -1,14 +1,12 @@
 -- One slot more at each turn.
 use mathlib.Core.Path.{◌≡◌, sym, ◌∙◌, ap}
-use Prim.Native.Nat.{ℕ, ◌+◌, ◌*◌, ◌-◌, ◌≤◌, ◌<◌}
+use Prim.Native.Nat.{ℕ, ◌+◌, ◌*◌, ◌-◌, ◌<◌}
 use native.Mathlib.Omega.{arith}
 use borrow.Author.Rules.{rules}
 use lib.ListN.{length, take, drop, length-take, length-drop}
 use Rattle.proof_lists.specs.Stores.{copied-over}
-use Rattle.rules.specs.Modelled.{memory_bytes, slot_bytes}
+use Rattle.rules.specs.Modelled.{slot_bytes}
 use Rattle.rules.proofs.Past.{no_slot}
-use Rattle.save_rules.specs.Form.{field_count}
-use Rattle.save_rules.specs.Reading.{begins, place, memory_row, stored_to}
 use Rattle.save_rules.proofs.Bytes.{length-stored}
 use Rattle.save_rules.proofs.Places.{fixed-there}
 use Rattle.save_fields.proofs.offsets.Laws.{begins-small, size_fits}
@@ -51,8 +49,8 @@ loop-i-preserved c =
     let h : l.i < length a.slots = omega arith in
     let size = c.size-n.ensures in
     let p = stored-turn l.i l.at _ a.form.now a.slots a.memory.now l.memory _ no_slot (omega arith) l.invariant.1 l.invariant.2 l.invariant.4 l.invariant.5 size l.invariant.6
-        (copied-over _ _ (take (slot_bytes * l.i + c.size-n.result - slot_bytes * l.i) (drop (slot_bytes * l.i) l.memory)) c.copy_from_slice.ensures.after
-        (omega (arith, c.copy_from_slice.ensures.len, ap length c.copy_from_slice.ensures.after))) in
+    (copied-over _ _ (take (slot_bytes * l.i + c.size-n.result - slot_bytes * l.i) (drop (slot_bytes * l.i) l.memory)) c.copy_from_slice.ensures.after
+    (omega (arith, c.copy_from_slice.ensures.len, ap length c.copy_from_slice.ensures.after))) in
     (omega arith, l.invariant.1, l.invariant.2, l.invariant.3, ap length p ∙ length-stored a.form.now a.slots a.memory.now (l.i + 1) ∙ l.invariant.3, place-step 1 l.i _ _ a.slots no_slot h l.invariant.5 size, p)
 
 pub shape_of-memory : goal.shape_of-memory

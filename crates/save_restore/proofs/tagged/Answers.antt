@@ -1,5 +1,4 @@
 -- The byte where it would begin, and its tag.
-use borrow.Author.Rules.{rules}
 use Rattle.save_restore.proofs.Laws.{tagged-by}
 use Rattle.save_restore.proofs.tagged.Goals as goal
 

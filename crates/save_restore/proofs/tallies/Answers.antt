@@ -1,12 +1,6 @@
 -- The length, then one field more at each turn.
 use mathlib.Core.Path.{◌≡◌, refl}
-use Prim.Native.Nat.{◌-◌, ◌≤◌}
 use native.Mathlib.Omega.{arith}
-use borrow.Author.Rules.{rules}
-use lib.ListN.{length}
-use Rattle.save_rules.specs.Form.{field_count}
-use Rattle.save_rules.specs.Reading.{begins}
-use Rattle.save_restore.specs.Tallied.{fields_tally}
 use Rattle.save_restore.proofs.Laws.{fields-none, fields-step, tallies-not, tallies-all}
 use Rattle.save_restore.proofs.tallies.Goals as goal
 

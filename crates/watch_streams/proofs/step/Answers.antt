@@ -1,6 +1,5 @@
 -- The input's end; or the record's line, and behind it those of the slots.
 use native.Mathlib.Omega.{arith}
-use borrow.Author.Rules.{rules}
 use Rattle.script_text.proofs.letters.Laws.{line-length}
 use Rattle.watch_streams.proofs.Laws.{cut_by, step_by}
 use Rattle.watch_streams.proofs.step.Goals as goal
@@ -20,6 +19,6 @@ returns c =
     let l = c.put_line-line.ensures in
     let p = c.put_changes-end.ensures in
     let x = c.event_in_range-x in (
-    step_by _ _ _ c.args.out.now _ _ _ c.record_at-e.ensures x.ensures _ _ _ _ (omega arith) l (p.0, p.1),
-    omega (arith, l.0, p.2, line-length x.result.answer),
+      step_by _ _ _ c.args.out.now _ _ _ c.record_at-e.ensures x.ensures _ _ _ _ (omega arith) l (p.0, p.1),
+      omega (arith, l.0, p.2, line-length x.result.answer),
     )

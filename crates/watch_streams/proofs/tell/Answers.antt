@@ -1,6 +1,5 @@
 -- The front lies in the output.
 use native.Mathlib.Omega.{arith}
-use borrow.Author.Rules.{rules}
 use lib.ListN.{length-take}
 use Rattle.watch_streams.proofs.tell.Goals as goal
 

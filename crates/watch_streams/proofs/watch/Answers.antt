@@ -1,14 +1,10 @@
 -- From read to read the bus is in range, the buffers keep their lengths, and the reads so far led here.
-use mathlib.Core.Path.{◌≡◌}
-use mathlib.Core.Bool.{true}
 use Prim.Native.Nat.{◌<◌}
 use native.Mathlib.Omega.{arith}
 use borrow.Author.Tests.{ltb-true}
 use lib.Dec.{ltb}
-use lib.ListN.{length}
-use Rattle.rules.specs.Refusals.{in_range}
 use Rattle.proof_lists.specs.Tests.{and_left, and_right}
-use Rattle.watch_streams.proofs.Laws.{Ongoing, ongoing-none, ongoing-more, watched-by}
+use Rattle.watch_streams.proofs.Laws.{ongoing-none, ongoing-more, watched-by}
 use Rattle.watch_streams.proofs.watch.Goals as goal
 
 pub put_bench-end-requires : goal.put_bench-end-requires

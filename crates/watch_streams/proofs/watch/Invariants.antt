@@ -1,14 +1,9 @@
 -- From read to read the bus is in range, the buffers keep their lengths, and the reads so far led here.
 use mathlib.Core.Path.{◌≡◌}
 use mathlib.Core.Bool.{true}
-use Prim.Native.Nat.{◌<◌}
-use native.Mathlib.Omega.{arith}
-use borrow.Author.Tests.{ltb-true}
-use lib.Dec.{ltb}
 use lib.ListN.{length}
 use Rattle.rules.specs.Refusals.{in_range}
-use Rattle.proof_lists.specs.Tests.{and_left, and_right}
-use Rattle.watch_streams.proofs.Laws.{Ongoing, ongoing-none, ongoing-more, watched-by}
+use Rattle.watch_streams.proofs.Laws.{Ongoing}
 use Rattle.watch_streams.proofs.watch.Given as goal
 
 abbrev pub invariant-loop-g : goal.invariant-loop-g

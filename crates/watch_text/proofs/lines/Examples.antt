@@ -8,7 +8,6 @@ use native.Mathlib.Omega.{arith}
 use borrow.Author.Tests.{ne_eqb}
 use lib.Dec.{eqb}
 use lib.ListN.{replicate}
-use Rattle.proof_lists.specs.Same.{same}
 use Rattle.rules.specs.declared.Phase.TheVariants.{SensorReadHigh}
 use Rattle.rules.specs.declared.Older.{Older}
 use Rattle.rules.specs.declared.Slot.{Slot}

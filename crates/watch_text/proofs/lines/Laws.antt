@@ -8,7 +8,7 @@ use Prim.Native.String.{String}
 use native.Mathlib.Nat.{add-zero, zero-add}
 use native.Mathlib.Numerals.{add-one}
 use native.Mathlib.Omega.{arith}
-use borrow.Author.Tests.{eqb-true, eq-eqb, ne_eqb}
+use borrow.Author.Tests.{eq-eqb, ne_eqb}
 use lib.Dec.{eqb}
 use lib.ListN.{length, get_or, drop, length-append, get_or-append}
 use lib.Seq.{sets, drop-cons, drop-drop, get_or-drop, get_or-append-add}

@@ -1,10 +1,7 @@
 -- Every slot passed is in range, and those to come.
-use Prim.Native.Nat.{◌-◌}
 use native.Mathlib.Omega.{arith}
 use borrow.Author.Rules.{rules}
-use Rattle.proof_lists.specs.Each.{AllTo, all_to-none, all_to-step, all_to-full}
-use Rattle.rules.specs.Modelled.{slot_count}
-use Rattle.rules.specs.Refusals.{slot_in_range}
+use Rattle.proof_lists.specs.Each.{all_to-none, all_to-step, all_to-full}
 use Rattle.rules.proofs.Past.{no_slot}
 use Rattle.bus_refusals.proofs.ranges.in_range.Goals as goal
 

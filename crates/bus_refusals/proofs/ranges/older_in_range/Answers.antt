@@ -1,6 +1,5 @@
 -- Test by test, in the order of the definition.
 use mathlib.Core.Path.{refl}
-use borrow.Author.Rules.{rules}
 use Rattle.rules.specs.Modelled.{older}
 use Rattle.rules.specs.Refusals.{older_in_range}
 use Rattle.bus_refusals.proofs.ranges.older_in_range.Goals as goal

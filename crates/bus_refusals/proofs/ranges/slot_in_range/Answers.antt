@@ -1,5 +1,4 @@
 -- Test by test, in the order of the definition.
-use borrow.Author.Rules.{rules}
 use Rattle.rules.specs.Refusals.{kind_in_range, slot_in_range}
 use Rattle.bus_refusals.proofs.ranges.slot_in_range.Goals as goal
 

@@ -1,10 +1,8 @@
 -- Slot by slot: the kind of slot n, once it has been passed.
 use borrow.Author.Rules.{rules}
-use mathlib.Core.Path.{◌≡◌, sym, ◌∙◌}
-use Prim.Native.Nat.{◌≤◌, ◌-◌}
+use mathlib.Core.Path.{sym, ◌∙◌}
 use native.Mathlib.Omega.{arith}
-use lib.ListN.{length}
-use Rattle.bus_refusals.proofs.ruling.Laws.{kind_up_to, kind-none, kind-step, kind-full}
+use Rattle.bus_refusals.proofs.ruling.Laws.{kind-none, kind-step, kind-full}
 use Rattle.bus_refusals.proofs.ruling.kind_at.Goals as goal
 
 pub loop-i-init : goal.loop-i-init

@@ -1,10 +1,8 @@
 -- Slot by slot: the kind of slot n, once it has been passed.
-use borrow.Author.Rules.{rules}
-use mathlib.Core.Path.{◌≡◌, sym, ◌∙◌}
+use mathlib.Core.Path.{◌≡◌}
 use Prim.Native.Nat.{◌≤◌, ◌-◌}
-use native.Mathlib.Omega.{arith}
 use lib.ListN.{length}
-use Rattle.bus_refusals.proofs.ruling.Laws.{kind_up_to, kind-none, kind-step, kind-full}
+use Rattle.bus_refusals.proofs.ruling.Laws.{kind_up_to}
 use Rattle.bus_refusals.proofs.ruling.kind_at.Given as goal
 
 abbrev pub invariant-loop-i : goal.invariant-loop-i

@@ -1,6 +1,5 @@
 -- The rows in their order.
 use mathlib.Core.Path.{sym, ◌∙◌}
-use borrow.Author.Rules.{rules}
 use Rattle.rules.specs.Refusals.{unknown_kind, ruled_for}
 use Rattle.bus_refusals.proofs.ruling.ruled.Goals as goal
 

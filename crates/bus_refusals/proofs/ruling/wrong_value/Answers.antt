@@ -1,7 +1,6 @@
 -- By the kind, as the definition goes.
 use mathlib.Core.Logic.{inl, inr, ⊎_elim}
 use native.Mathlib.Omega.{arith}
-use borrow.Author.Rules.{rules}
 use borrow.Author.Tests.{ne_eqb}
 use Rattle.rules.specs.Refusals.{wrong_value}
 use Rattle.bus_sensor.proofs.temperature.Signed.{back}

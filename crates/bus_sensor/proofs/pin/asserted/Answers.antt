@@ -1,5 +1,4 @@
 -- By the mode, if the pin is enabled.
-use borrow.Author.Rules.{rules}
 use Rattle.rules.specs.Pin.{pin_enabled, interrupting, critical_set, asserted}
 use Rattle.bus_sensor.proofs.pin.asserted.Goals as goal
 

@@ -1,8 +1,6 @@
 -- The conversion, and what it leaves pending.
-use borrow.Author.Rules.{rules}
 use Rattle.rules.specs.Fields.{with_pending}
 use Rattle.rules.specs.Pin.{converted_with_pin}
-use Rattle.rules.specs.Sensor.{converted}
 use Rattle.bus_sensor.proofs.temperature.Signed.{back}
 use Rattle.bus_sensor.proofs.pin.converted.Goals as goal
 

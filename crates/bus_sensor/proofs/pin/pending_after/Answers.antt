@@ -1,5 +1,4 @@
 -- A write to 01h, or to another register.
-use borrow.Author.Rules.{rules}
 use Rattle.rules.specs.Pin.{clearing, pending_after}
 use Rattle.bus_sensor.proofs.pin.pending_after.Goals as goal
 

@@ -1,5 +1,4 @@
 -- Asserted it is at the active level, else at the other.
-use borrow.Author.Rules.{rules}
 use Rattle.rules.specs.Pin.{active_high, level_of, pin_of}
 use Rattle.bus_sensor.proofs.pin.pin.Goals as goal
 

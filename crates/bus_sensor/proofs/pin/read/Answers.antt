@@ -1,5 +1,4 @@
 -- Bit 4 where it is 01h and the pin is asserted, else the register.
-use borrow.Author.Rules.{rules}
 use Rattle.rules.specs.Pin.{read_of}
 use Rattle.bus_sensor.proofs.pin.read.Goals as goal
 

@@ -1,5 +1,4 @@
 -- The write, and what it leaves pending.
-use borrow.Author.Rules.{rules}
 use Rattle.rules.specs.Fields.{with_pending}
 use Rattle.rules.specs.Pin.{written_with_pin}
 use Rattle.bus_sensor.proofs.pin.written.Goals as goal

@@ -1,5 +1,4 @@
 -- `registers::configuration_after`: the two tests, folded to the definition's, choose the same branch.
-use borrow.Author.Rules.{rules}
 use Rattle.rules.specs.Sensor.{locked_write, configured}
 use Rattle.bus_sensor.proofs.registers.configuration_after.Goals as goal
 

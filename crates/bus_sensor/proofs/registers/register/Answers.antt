@@ -1,5 +1,4 @@
 -- `registers::register`: each arm at its key, and the last where no key fits.
-use borrow.Author.Rules.{rules}
 use borrow.Author.Tests.{ne_eqb}
 use Rattle.rules.specs.Sensor.{register_of}
 use Rattle.bus_sensor.proofs.registers.register.Goals as goal

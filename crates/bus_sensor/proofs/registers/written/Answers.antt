@@ -1,6 +1,5 @@
 -- `registers::written`: each arm at its key, under its lock or not, and the last where no key fits.
 use Prim.Native.Nat.{ℕ}
-use borrow.Author.Rules.{rules}
 use borrow.Author.Tests.{ne_eqb}
 use lib.Bits.{bit_and}
 use mir.Facts.{Fits-mask}

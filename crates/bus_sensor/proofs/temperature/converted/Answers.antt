@@ -1,5 +1,4 @@
 -- `temperature::converted`: shut down, the sensor as it was; else the reading of the stepped number in its place.
-use borrow.Author.Rules.{rules}
 use borrow.Author.Tests.{eq-eqb, ne_eqb}
 use Rattle.rules.specs.Fields.{with_temperature}
 use Rattle.rules.specs.Sensor.{shut_down, stepped_of, converted}

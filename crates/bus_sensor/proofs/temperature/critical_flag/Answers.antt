@@ -1,5 +1,4 @@
 -- `temperature::critical_flag`: the three tests are the definition's, once the signed numbers are read back from their bits.
-use borrow.Author.Rules.{rules}
 use Rattle.rules.specs.Sensor.{lowered_of, critical_flag}
 use Rattle.bus_sensor.proofs.temperature.Signed.{wide_back}
 use Rattle.bus_sensor.proofs.temperature.critical_flag.Goals as goal

@@ -1,5 +1,4 @@
 -- `temperature::high_flag`: the three tests are the definition's, once the signed numbers are read back from their bits.
-use borrow.Author.Rules.{rules}
 use Rattle.rules.specs.Sensor.{lowered_of, high_flag}
 use Rattle.bus_sensor.proofs.temperature.Signed.{wide_back}
 use Rattle.bus_sensor.proofs.temperature.high_flag.Goals as goal

@@ -2,7 +2,6 @@
 use Prim.Native.Nat.{ℕ, ◌+◌, ◌≤◌}
 use native.Mathlib.Omega.{arith}
 use mathlib.Core.Bool.{Bool, true, false, cond}
-use borrow.Author.Rules.{rules}
 use mir.Facts.{Fits-le}
 use Rattle.rules.specs.Sensor.{reading}
 use Rattle.bus_sensor.proofs.temperature.Signed.{wide_back, bits-lt}

@@ -1,6 +1,5 @@
 -- The sum of the definition.
 use mathlib.Core.Path.{refl}
-use borrow.Author.Rules.{rules}
 use Rattle.rules.specs.Modelled.{address_of}
 use Rattle.bus_slot.proofs.blocks.address_of.Goals as goal
 

@@ -1,5 +1,4 @@
 -- The array of the slot.
-use borrow.Author.Rules.{rules}
 use Rattle.rules.specs.Control.{protects}
 use Rattle.bus_slot.proofs.blocks.protects.Goals as goal
 

@@ -1,11 +1,11 @@
 -- Some mark of those passed, or of those to come.
-use mathlib.Core.Path.{refl, sym, ◌∙◌, ◌≡◌}
-use mathlib.Core.Bool.{Bool, false, ◌||◌}
-use Prim.Native.Nat.{ℕ, ◌≤◌, ◌<◌, ◌-◌}
+use mathlib.Core.Path.{refl, sym, ◌∙◌}
+use mathlib.Core.Bool.{false}
+use Prim.Native.Nat.{◌<◌}
 use native.Mathlib.Omega.{arith}
 use borrow.Author.Rules.{rules}
-use lib.ListN.{length, drop}
-use Rattle.proof_lists.specs.Each.{any_from, any_from-step, any_from-none}
+use lib.ListN.{length}
+use Rattle.proof_lists.specs.Each.{any_from-step, any_from-none}
 use Rattle.rules.specs.Memory.{any_mark}
 use Rattle.bus_slot.proofs.cycle.any_mark.Invariants.{each}
 use Rattle.bus_slot.proofs.cycle.any_mark.Goals as goal

@@ -1,12 +1,9 @@
 -- Some mark of those passed, or of those to come.
-use mathlib.Core.Path.{refl, sym, ◌∙◌, ◌≡◌}
-use mathlib.Core.Bool.{Bool, false, ◌||◌}
-use Prim.Native.Nat.{ℕ, ◌≤◌, ◌<◌, ◌-◌}
-use native.Mathlib.Omega.{arith}
-use borrow.Author.Rules.{rules}
+use mathlib.Core.Path.{◌≡◌}
+use mathlib.Core.Bool.{Bool, ◌||◌}
+use Prim.Native.Nat.{ℕ, ◌≤◌, ◌-◌}
 use lib.ListN.{length, drop}
-use Rattle.proof_lists.specs.Each.{any_from, any_from-step, any_from-none}
-use Rattle.rules.specs.Memory.{any_mark}
+use Rattle.proof_lists.specs.Each.{any_from}
 use Rattle.bus_slot.proofs.cycle.any_mark.Given as goal
 
 abbrev pub each : ℕ → Bool → Bool

@@ -1,5 +1,4 @@
 -- The two cases of the definition, by the kind.
-use borrow.Author.Rules.{rules}
 use borrow.Author.Tests.{eq-eqb, ne_eqb}
 use Rattle.rules.specs.Modelled.{older}
 use Rattle.rules.specs.Memory.{permanent_then, brought}

@@ -1,5 +1,4 @@
 -- The two cases of the definition, by the pin.
-use borrow.Author.Rules.{rules}
 use Rattle.rules.specs.Memory.{command_stop}
 use Rattle.bus_slot.proofs.cycle.command_stop.Goals as goal
 

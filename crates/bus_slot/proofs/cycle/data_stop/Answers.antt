@@ -1,5 +1,4 @@
 -- The two cases of the definition, by the marks.
-use borrow.Author.Rules.{rules}
 use Rattle.rules.specs.Memory.{data_stop}
 use Rattle.bus_slot.proofs.cycle.data_stop.Goals as goal
 

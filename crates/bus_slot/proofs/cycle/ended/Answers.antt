@@ -1,7 +1,6 @@
 -- The marked bytes are put where the address's page begins.
 use mathlib.Core.Path.{ap}
 use native.Mathlib.Omega.{arith}
-use borrow.Author.Rules.{rules}
 use Rattle.rules.specs.declared.Address.{Address}
 use Rattle.rules.specs.Memory.{emptied, permanent_then, ended}
 use Rattle.rules.specs.Modelled.{address_of}

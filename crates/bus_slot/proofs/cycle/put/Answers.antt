@@ -1,11 +1,7 @@
 -- The part is as after the turns so far.
 use mathlib.Core.Path.{refl, ◌≡◌}
-use Prim.Native.Nat.{◌≤◌, ◌-◌}
 use native.Mathlib.Omega.{arith}
-use borrow.Author.Rules.{rules}
-use lib.ListN.{length, length-set}
-use Rattle.proof_lists.specs.Parts.{part}
-use Rattle.rules.specs.Memory.{put_up_to}
+use lib.ListN.{length-set}
 use Rattle.bus_slot.proofs.cycle.Laws.{put-none, put_step}
 use Rattle.bus_slot.proofs.cycle.put.Goals as goal
 use Rattle.bus_slot.proofs.cycle.put.Goals.{then-marks-i, else-marks-i}
@@ -17,7 +13,7 @@ pub loop-i-preserved : goal.loop-i-preserved
 loop-i-preserved c =
     let inv = c.loop-i.invariant in
     elim c.if-marks-i.branch [
-        then-marks-i w ↦ (omega arith, simp (put_step, w.if-marks-i.true, w.part-is, inv.1), simp (w.part-is, length-set) inv.2)
+      | then-marks-i w ↦ (omega arith, simp (put_step, w.if-marks-i.true, w.part-is, inv.1), simp (w.part-is, length-set) inv.2)
       | else-marks-i w ↦ (omega arith, simp (put_step, w.if-marks-i.false, w.part-is, inv.1), simp w.part-is inv.2)
     ]
 

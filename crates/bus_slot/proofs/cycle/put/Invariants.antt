@@ -1,13 +1,8 @@
 -- The part is as after the turns so far.
-use mathlib.Core.Path.{refl, ◌≡◌}
-use mathlib.Core.Logic.{⊎_elim}
+use mathlib.Core.Path.{◌≡◌}
 use Prim.Native.Nat.{◌≤◌, ◌-◌}
-use native.Mathlib.Omega.{arith}
-use borrow.Author.Rules.{rules}
-use lib.ListN.{length, length-set}
-use Rattle.proof_lists.specs.Parts.{part}
+use lib.ListN.{length}
 use Rattle.rules.specs.Memory.{put_up_to}
-use Rattle.bus_slot.proofs.cycle.Laws.{put-none, put_step}
 use Rattle.bus_slot.proofs.cycle.put.Given as goal
 
 abbrev pub invariant-loop-i : goal.invariant-loop-i

@@ -1,7 +1,5 @@
 -- The slot is absent, its cycle ends, none runs, or it goes on.
 use mathlib.Core.Path.{refl}
-use borrow.Author.Rules.{rules}
-use Rattle.rules.specs.Memory.{ended}
 use Rattle.rules.specs.Fields.{with_left}
 use Rattle.bus_slot.proofs.cycle.Laws.{tick-absent, tick-ends, tick-waits, tick-rests}
 use Rattle.bus_slot.proofs.cycle.tick.Goals as goal

@@ -1,5 +1,4 @@
 -- The two cases of the definition, by the master's answer.
-use borrow.Author.Rules.{rules}
 use Rattle.rules.specs.Slot.{read_in}
 use Rattle.bus_slot.proofs.drive.high_byte.Goals as goal
 

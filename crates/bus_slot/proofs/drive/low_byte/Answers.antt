@@ -1,5 +1,4 @@
 -- The exchange is over.
-use borrow.Author.Rules.{rules}
 use Rattle.bus_slot.proofs.drive.low_byte.Goals as goal
 
 pub returns : goal.returns

@@ -1,5 +1,4 @@
 -- The byte and the counter, each by its own function.
-use borrow.Author.Rules.{rules}
 use Rattle.bus_slot.proofs.drive.memory_byte.Goals as goal
 
 pub returns : goal.returns

@@ -2,7 +2,6 @@
 use mathlib.Core.Bool.{false}
 use mathlib.Core.List.{[], ◌∷◌}
 use mathlib.Core.Path.{refl}
-use borrow.Author.Rules.{rules}
 use Rattle.rules.specs.declared.Phase.TheVariants.{Idle, Deaf, MemoryCounter, MemoryData, HalfSelected, CommandAddress, CommandData, CommandStop, SensorPointer, SensorHigh, SensorLow}
 use Rattle.rules.specs.Slot.{lost, read_in, driven_in}
 use Rattle.bus_slot.proofs.drive.Laws.{read_by, read-among}

@@ -1,6 +1,5 @@
 -- The four cases of the definition, by the phase's traits.
 use mathlib.Core.Path.{refl}
-use borrow.Author.Rules.{rules}
 use Rattle.rules.specs.Fields.{holding, with_sensor, with_word}
 use Rattle.bus_slot.proofs.leaving.Laws.{lets-word, lets-command, lets-bytes, lets-nothing}
 use Rattle.bus_slot.proofs.leaving.let_go.Goals as goal

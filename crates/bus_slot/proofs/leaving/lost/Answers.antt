@@ -1,5 +1,4 @@
 -- What is let go, in another phase.
-use borrow.Author.Rules.{rules}
 use Rattle.rules.specs.Slot.{lost}
 use Rattle.bus_slot.proofs.leaving.lost.Goals as goal
 

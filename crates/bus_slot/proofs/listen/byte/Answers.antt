@@ -2,7 +2,6 @@
 use mathlib.Core.Bool.{false}
 use mathlib.Core.List.{[], ◌∷◌}
 use mathlib.Core.Path.{refl}
-use borrow.Author.Rules.{rules}
 use Rattle.rules.specs.declared.Phase.TheVariants.{Idle, Deaf, MemoryRead, CommandStop, SensorReadHigh, SensorReadLow}
 use Rattle.rules.specs.Control.{acks_control, controlled}
 use Rattle.rules.specs.Slot.{lost, byte_in, acks_in}

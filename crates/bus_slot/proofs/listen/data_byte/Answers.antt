@@ -1,5 +1,4 @@
 -- The two cases of the definition, by the protection.
-use borrow.Author.Rules.{rules}
 use Rattle.rules.specs.Memory.{data_byte}
 use Rattle.bus_slot.proofs.listen.data_byte.Goals as goal
 

@@ -1,5 +1,4 @@
 -- The byte is held, and then the phase.
-use borrow.Author.Rules.{rules}
 use Rattle.rules.specs.Fields.{holding, with_sensor, with_word}
 use Rattle.rules.specs.Slot.{first_byte}
 use Rattle.bus_slot.proofs.listen.first_byte.Goals as goal

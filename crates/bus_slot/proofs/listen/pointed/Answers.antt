@@ -1,5 +1,4 @@
 -- The two cases of the definition, by the pointer.
-use borrow.Author.Rules.{rules}
 use borrow.Author.Tests.{le-leb, lt-leb}
 use Rattle.rules.specs.Fields.{with_sensor, pointing}
 use Rattle.rules.specs.Slot.{pointer}

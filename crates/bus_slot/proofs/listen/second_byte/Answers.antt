@@ -1,5 +1,4 @@
 -- The register is written, and the exchange is over.
-use borrow.Author.Rules.{rules}
 use Rattle.rules.specs.Fields.{with_sensor}
 use Rattle.rules.specs.Slot.{second_byte}
 use Rattle.bus_slot.proofs.listen.second_byte.Goals as goal

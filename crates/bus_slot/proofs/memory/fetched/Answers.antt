@@ -1,5 +1,4 @@
 -- The counter goes on, and the phase follows the master.
-use borrow.Author.Rules.{rules}
 use Rattle.rules.specs.Fields.{at_counter}
 use Rattle.rules.specs.Memory.{fetched}
 use Rattle.bus_slot.proofs.memory.fetched.Goals as goal

@@ -1,6 +1,5 @@
 -- The slot of the definition, field by field.
 use mathlib.Core.Path.{refl}
-use borrow.Author.Rules.{rules}
 use Rattle.rules.specs.Memory.{up_in_page, latching}
 use Rattle.rules.specs.Fields.{at_counter, placed, latched}
 use Rattle.bus_slot.proofs.memory.latching.Goals as goal

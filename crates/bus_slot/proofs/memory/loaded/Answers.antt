@@ -1,5 +1,4 @@
 -- The counter and the place, and then the phase.
-use borrow.Author.Rules.{rules}
 use Rattle.rules.specs.Fields.{at_counter, placed}
 use Rattle.rules.specs.Memory.{loaded}
 use Rattle.bus_slot.proofs.memory.loaded.Goals as goal

@@ -1,5 +1,4 @@
 -- The two tests of the definition.
-use borrow.Author.Rules.{rules}
 use Rattle.bus_slot.proofs.obey.acks_control.Goals as goal
 
 pub returns : goal.returns

@@ -1,5 +1,4 @@
 -- Each case of what is heard: the definition computes at it.
-use borrow.Author.Rules.{rules}
 use Rattle.rules.specs.Control.{acks_heard}
 use Rattle.rules.specs.Modelled.{sensing}
 use Rattle.bus_slot.proofs.obey.acks_heard.Goals as goal

@@ -1,5 +1,4 @@
 -- Acknowledged or deaf, as the definition has it.
-use borrow.Author.Rules.{rules}
 use Rattle.bus_slot.proofs.obey.controlled.Goals as goal
 
 pub returns-then-acks_control : goal.returns-then-acks_control

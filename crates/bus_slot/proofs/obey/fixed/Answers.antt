@@ -1,5 +1,4 @@
 -- The register at the pointer is held.
-use borrow.Author.Rules.{rules}
 use Rattle.rules.specs.Fields.{holding, with_sensor, with_word}
 use Rattle.bus_slot.proofs.obey.fixed.Goals as goal
 

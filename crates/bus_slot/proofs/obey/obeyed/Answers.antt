@@ -1,5 +1,4 @@
 -- Each case of what is heard: the definition computes at it.
-use borrow.Author.Rules.{rules}
 use Rattle.rules.specs.Control.{obeyed}
 use Rattle.rules.specs.Fields.{in_half, to_come, expecting, to_last}
 use Rattle.bus_slot.proofs.obey.obeyed.Goals as goal

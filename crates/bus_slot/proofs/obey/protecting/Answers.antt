@@ -1,5 +1,4 @@
 -- The protection with one block more is to come.
-use borrow.Author.Rules.{rules}
 use Rattle.rules.specs.Fields.{to_come, to_last}
 use Rattle.bus_slot.proofs.obey.protecting.Goals as goal
 

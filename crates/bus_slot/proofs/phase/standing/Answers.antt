@@ -1,6 +1,5 @@
 -- The test is the definition's own.
 use mathlib.Core.Path.{refl}
-use borrow.Author.Rules.{rules}
 use Rattle.bus_slot.proofs.phase.Laws.{standing_by}
 use Rattle.bus_slot.proofs.phase.standing.Goals as goal
 

@@ -1,6 +1,5 @@
 -- A slot that is there has applied to it what the definition says.
 use native.Mathlib.Omega.{arith}
-use borrow.Author.Rules.{rules}
 use borrow.Author.Tests.{eq-eqb, ne_eqb}
 use Rattle.rules.specs.Modelled.{absent}
 use Rattle.rules.specs.Slot.{applied}

@@ -1,5 +1,4 @@
 -- A slot with a sensor has it converted.
-use borrow.Author.Rules.{rules}
 use mathlib.Core.Path.{refl, ◌∙◌, ap}
 use lib.IntN.{ℤ}
 use borrow.Author.Tests.{ne_eqb}

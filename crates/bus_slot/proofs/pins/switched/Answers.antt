@@ -1,6 +1,5 @@
 -- The voltage is set; a command is cancelled where it goes off.
 use mathlib.Core.Path.{refl}
-use borrow.Author.Rules.{rules}
 use Rattle.rules.specs.Fields.{with_voltage}
 use Rattle.bus_slot.proofs.pins.Laws.{switched-by}
 use Rattle.bus_slot.proofs.pins.switched.Goals as goal

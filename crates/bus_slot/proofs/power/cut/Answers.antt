@@ -1,6 +1,5 @@
 -- The slot is absent, no cycle runs or it is dropped, or one is cut short.
 use mathlib.Core.Path.{refl}
-use borrow.Author.Rules.{rules}
 use Rattle.bus_slot.proofs.power.Laws.{cut-in-range, power-absent, power-rests, power-cuts}
 use Rattle.bus_slot.proofs.power.cut.Goals as goal
 

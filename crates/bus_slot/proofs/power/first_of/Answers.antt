@@ -1,10 +1,8 @@
 -- The places so far are chosen, and the latched ones among them counted.
 use mathlib.Core.Path.{◌∙◌}
-use Prim.Native.Nat.{◌≤◌, ◌-◌}
 use native.Mathlib.Omega.{arith}
-use borrow.Author.Rules.{rules}
 use Rattle.rules.proofs.Memory.First.{below-at-most}
-use Rattle.bus_slot.proofs.power.Laws.{Chosen, chosen_none, turn-latched, turn-empty, chosen-all}
+use Rattle.bus_slot.proofs.power.Laws.{chosen_none, turn-latched, turn-empty, chosen-all}
 use Rattle.bus_slot.proofs.power.first_of.Goals as goal
 use Rattle.bus_slot.proofs.power.first_of.Goals.{then-marks-i, else-marks-i}
 
@@ -22,7 +20,7 @@ loop-i-preserved c =
     let l = c.loop-i in
     let a = c.args in
     elim c.if-marks-i.branch [
-        then-marks-i w ↦ (let t = turn-latched a.k a.marks l.i l.first l.below (omega arith) l.invariant.1 w.if-marks-i.true in (omega arith, (w.first-is ∙ t.0, w.below-is ∙ t.1)))
+      | then-marks-i w ↦ (let t = turn-latched a.k a.marks l.i l.first l.below (omega arith) l.invariant.1 w.if-marks-i.true in (omega arith, (w.first-is ∙ t.0, w.below-is ∙ t.1)))
       | else-marks-i w ↦ (let t = turn-empty a.k a.marks l.i l.first l.below (omega arith) l.invariant.1 w.if-marks-i.false in (omega arith, (w.first-is ∙ t.0, w.below-is ∙ t.1)))
     ]
 

@@ -1,5 +1,4 @@
 -- A fresh slot with the protection, the voltage and the pin.
-use borrow.Author.Rules.{rules}
 use Rattle.rules.specs.Fresh.{fresh_older, fresh_slot, powered}
 use Rattle.rules.specs.Open.{open-fields}
 use Rattle.bus_slot.proofs.power.powered.Goals as goal

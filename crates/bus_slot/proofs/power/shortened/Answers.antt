@@ -1,5 +1,4 @@
 -- The first so many are left.
-use borrow.Author.Rules.{rules}
 use Rattle.rules.specs.Fields.{latched}
 use Rattle.rules.specs.Power.{cut}
 use Rattle.bus_slot.proofs.power.shortened.Goals as goal

@@ -1,5 +1,4 @@
 -- A slot that is there does what the signal says.
-use borrow.Author.Rules.{rules}
 use borrow.Author.Tests.{eq-eqb, ne_eqb}
 use Rattle.rules.specs.Modelled.{absent}
 use Rattle.rules.specs.Slot.{present_next, slot_next}

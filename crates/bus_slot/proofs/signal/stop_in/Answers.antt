@@ -1,7 +1,6 @@
 -- Each phase's arm gives what the definition gives in that phase.
 use mathlib.Core.List.{[], ◌∷◌}
 use mathlib.Core.Path.{refl, ◌∙◌}
-use borrow.Author.Rules.{rules}
 use Rattle.bus_slot.proofs.phase.Arms.{arm}
 use Rattle.rules.specs.declared.Phase.TheVariants.{Idle, Control, Deaf, MemoryCounter, MemoryRead, HalfSelected, CommandAddress, CommandData, SensorPointer, SensorHigh, SensorLow, SensorReadHigh, SensorReadLow}
 use Rattle.rules.specs.Memory.{cancelled}

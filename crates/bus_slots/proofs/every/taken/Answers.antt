@@ -1,15 +1,13 @@
 use borrow.Author.Rules.{rules}
-use mathlib.Core.Path.{◌≡◌, refl, ◌∙◌, ap}
-use mathlib.Core.Bool.{true}
-use Prim.Native.Nat.{◌≤◌, ◌<◌, ◌-◌, ◌+◌, ◌*◌}
+use mathlib.Core.Path.{refl, ◌∙◌, ap}
+use Prim.Native.Nat.{◌≤◌, ◌<◌, ◌+◌, ◌*◌}
 use native.Mathlib.Omega.{arith}
 use lib.ListN.{length, length-take, length-drop}
-use Rattle.proof_lists.specs.Each.{all_of, all_of-at}
+use Rattle.proof_lists.specs.Each.{all_of-at}
 use Rattle.rules.specs.Refusals.{slot_in_range}
-use Rattle.rules.specs.Events.{carried}
 use Rattle.bus_slots.specs.Foreseen.{heard_in, carrying}
 use Rattle.rules.proofs.Past.{no_slot}
-use Rattle.bus_slots.proofs.every.Laws.{Turned, turned_none, turned-all, turn-nothing, turn-to, turn_more, old}
+use Rattle.bus_slots.proofs.every.Laws.{turned_none, turned-all, turn-nothing, turn-to, turn_more, old}
 use Rattle.bus_slots.proofs.every.taken.Goals as goal
 use Rattle.bus_slots.proofs.every.taken.Goals.{in-Nothing, in-To, in-More}
 
@@ -36,7 +34,7 @@ loop-i-preserved c =
     let h : l.i < length g.slots = omega arith in
     let r : 512 * (l.i + 1) ≤ length g.mem.now = omega arith in
     elim c.match-change.branch [
-        in-Nothing w ↦ (omega arith, l.invariant.1, l.invariant.2, rw w.mem-is l.invariant.3, l.invariant.4, l.invariant.5, l.invariant.6, l.invariant.7, rw (w.mem-is, w.all-is, w.shown-is) (turn-nothing g.a g.slots g.mem.now l.i h r l.all l.mem l.shown.ack l.shown.driven l.shown.byte l.invariant.8 f.glance-change.result f.glance-change.ensures w.in-Nothing.is))
+      | in-Nothing w ↦ (omega arith, l.invariant.1, l.invariant.2, rw w.mem-is l.invariant.3, l.invariant.4, l.invariant.5, l.invariant.6, l.invariant.7, rw (w.mem-is, w.all-is, w.shown-is) (turn-nothing g.a g.slots g.mem.now l.i h r l.all l.mem l.shown.ack l.shown.driven l.shown.byte l.invariant.8 f.glance-change.result f.glance-change.ensures w.in-Nothing.is))
       | in-To w ↦ (omega arith, l.invariant.1, l.invariant.2, rw w.mem-is l.invariant.3, l.invariant.4, l.invariant.5, l.invariant.6, l.invariant.7, rw (w.mem-is, w.all-is, w.shown-is) (turn-to g.a g.slots g.mem.now l.i h r l.all l.mem l.shown.ack l.shown.driven l.shown.byte l.invariant.8 f.glance-change.result _ w.in_phase.result f.glance-change.ensures w.in-To.is w.in_phase.ensures))
       | in-More w ↦ (omega arith, l.invariant.1, l.invariant.2, rw w.mem-is (omega arith), l.invariant.4, l.invariant.5, l.invariant.6, l.invariant.7, rw (w.mem-is, w.all-is, w.shown-is, w.joined-shown.ensures) (turn_more g.a g.slots g.mem.now l.i h r l.all l.mem l.shown.ack l.shown.driven l.shown.byte l.invariant.8 (512 * l.i) (512 * l.i + 512) w.next-x.result _ refl (omega arith) w.next-x.ensures.0 w.next-x.ensures.1))
     ]

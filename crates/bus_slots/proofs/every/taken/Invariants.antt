@@ -1,16 +1,12 @@
-use borrow.Author.Rules.{rules}
-use mathlib.Core.Path.{◌≡◌, refl, ◌∙◌, ap}
+use mathlib.Core.Path.{◌≡◌}
 use mathlib.Core.Bool.{true}
-use mathlib.Core.Logic.{⊎_elim}
-use Prim.Native.Nat.{◌≤◌, ◌<◌, ◌-◌, ◌+◌, ◌*◌}
-use native.Mathlib.Omega.{arith}
-use lib.ListN.{length, length-take, length-drop}
-use Rattle.proof_lists.specs.Each.{all_of, all_of-at}
+use Prim.Native.Nat.{◌≤◌, ◌-◌}
+use lib.ListN.{length}
+use Rattle.proof_lists.specs.Each.{all_of}
 use Rattle.rules.specs.Refusals.{slot_in_range}
 use Rattle.rules.specs.Events.{carried}
 use Rattle.bus_slots.specs.Foreseen.{heard_in, carrying}
-use Rattle.rules.proofs.Past.{no_slot}
-use Rattle.bus_slots.proofs.every.Laws.{Turned, turned_none, turned-all, turn-nothing, turn-to, turn_more, old}
+use Rattle.bus_slots.proofs.every.Laws.{Turned}
 use Rattle.bus_slots.proofs.every.taken.Given as goal
 
 abbrev pub invariant-loop-i : goal.invariant-loop-i

@@ -1,5 +1,4 @@
 use Rattle.bus_slots.proofs.foreseen.Laws.{byte-control, more}
-use borrow.Author.Rules.{rules}
 use Rattle.bus_slots.proofs.foreseen.at_control.Goals as goal
 
 pub returns-then-acks_control : goal.returns-then-acks_control

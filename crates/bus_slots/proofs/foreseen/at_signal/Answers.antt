@@ -1,7 +1,6 @@
 use borrow.Author.Tests.{eq-eqb}
 use Rattle.rules.specs.Modelled.{absent}
 use Rattle.bus_slots.proofs.foreseen.Laws.{passes}
-use borrow.Author.Rules.{rules}
 use Rattle.bus_slots.proofs.foreseen.at_signal.Goals as goal
 
 pub returns-then-s-eq0 : goal.returns-then-s-eq0

@@ -1,5 +1,4 @@
 -- A byte and a read are carried, and nothing else.
-use borrow.Author.Rules.{rules}
 use Rattle.bus_slots.proofs.foreseen.carried.Goals as goal
 
 pub returns-in-Byte : goal.returns-in-Byte

@@ -1,6 +1,5 @@
 -- What each kind of act is known to do beforehand; a byte or read passes by a slot that is idle or deaf.
 use Rattle.bus_slots.proofs.foreseen.Laws.{by-act, both_rest, at-start, at-stop, at-timeout, applied-other, heard-byte, more}
-use borrow.Author.Rules.{rules}
 use Rattle.bus_slots.proofs.foreseen.glance.Goals as goal
 
 pub returns-then-carries-unheard : goal.returns-then-carries-unheard

@@ -1,5 +1,4 @@
 -- Only a byte asks for something.
-use borrow.Author.Rules.{rules}
 use Rattle.bus_slots.proofs.foreseen.heard_in.Goals as goal
 
 pub returns-in-Byte : goal.returns-in-Byte

@@ -1,5 +1,4 @@
 use Rattle.bus_slots.proofs.foreseen.Laws.{is-idle, is-deaf, is-neither}
-use borrow.Author.Rules.{rules}
 use Rattle.bus_slots.proofs.foreseen.unheard.Goals as goal
 
 pub returns-in-Idle : goal.returns-in-Idle

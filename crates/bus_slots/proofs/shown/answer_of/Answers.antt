@@ -1,5 +1,4 @@
 -- A byte is acknowledged or not, a read gives a byte, and all else nothing.
-use borrow.Author.Rules.{rules}
 use Rattle.bus_slots.proofs.shown.answer_of.Goals as goal
 
 pub returns-in-Byte : goal.returns-in-Byte

@@ -1,7 +1,6 @@
 use borrow.Author.Tests.{eq-eqb, ne_eqb}
 use Rattle.proof_lists.specs.Tests.{cond_same}
 use Rattle.rules.specs.Slot.{present_next, slot_next}
-use borrow.Author.Rules.{rules}
 use Rattle.bus_slots.proofs.step.applied.Goals as goal
 
 pub returns-then-k-n : goal.returns-then-k-n

@@ -1,5 +1,4 @@
 use Rattle.bus_slot.specs.ReadOut.{read_out}
-use borrow.Author.Rules.{rules}
 use Rattle.bus_slots.proofs.step.driving.Goals as goal
 
 pub returns : goal.returns

@@ -1,5 +1,4 @@
 use Rattle.bus_slot.specs.Heeded.{heeded}
-use borrow.Author.Rules.{rules}
 use Rattle.bus_slots.proofs.step.heeding.Goals as goal
 
 pub returns : goal.returns

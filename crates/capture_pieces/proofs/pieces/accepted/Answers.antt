@@ -1,5 +1,4 @@
 -- Accepted, or another verdict.
-use borrow.Author.Rules.{rules}
 use Rattle.capture_pieces.proofs.pieces.Laws.{accepted-is, accepted-other}
 use Rattle.capture_pieces.proofs.pieces.accepted.Goals as goal
 

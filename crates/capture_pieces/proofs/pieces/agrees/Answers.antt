@@ -1,5 +1,4 @@
 -- Case by case.
-use borrow.Author.Rules.{rules}
 use Rattle.capture_rules.specs.Capture.{agrees}
 use Rattle.capture_pieces.proofs.pieces.agrees.Goals as goal
 

@@ -1,5 +1,4 @@
 -- Accepted with bytes left over, without, and every other verdict.
-use borrow.Author.Rules.{rules}
 use Rattle.capture_pieces.proofs.pieces.Laws.{closed-left, closed-whole, closed-other}
 use Rattle.capture_pieces.proofs.pieces.closed.Goals as goal
 

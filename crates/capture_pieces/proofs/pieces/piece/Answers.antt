@@ -1,12 +1,8 @@
 -- After each turn one record more has been run, and has agreed.
-use mathlib.Core.Path.{◌≡◌, refl, sym, ◌∙◌}
-use Prim.Native.Nat.{◌+◌, ◌≤◌, ◌/◌, ◌-◌}
+use mathlib.Core.Path.{refl, sym, ◌∙◌}
 use native.Mathlib.Omega.{arith}
-use borrow.Author.Rules.{rules}
-use borrow.Author.Tests.{not-true, not-false}
-use lib.ListN.{length}
 use Rattle.capture_rules.specs.Capture.{captured_at}
-use Rattle.capture_pieces.proofs.pieces.Going.{Going, going-none, going_on, going-differs, going-ended}
+use Rattle.capture_pieces.proofs.pieces.Going.{going-none, going_on, going-differs, going-ended}
 use Rattle.capture_pieces.proofs.pieces.piece.Goals as goal
 
 pub loop-i-init : goal.loop-i-init

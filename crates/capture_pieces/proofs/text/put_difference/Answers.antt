@@ -1,6 +1,5 @@
 -- Each part behind the one before it.
 use native.Mathlib.Omega.{arith}
-use borrow.Author.Rules.{rules}
 use Rattle.script_text.proofs.letters.Laws.{answer-length}
 use Rattle.capture_pieces.proofs.text.Laws.{usize-digits, seen-length, difference-most, difference-by}
 use Rattle.capture_pieces.proofs.text.put_difference.Goals as goal

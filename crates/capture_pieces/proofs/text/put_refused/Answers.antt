@@ -1,6 +1,5 @@
 -- The letter, and the number behind it.
 use native.Mathlib.Omega.{arith}
-use borrow.Author.Rules.{rules}
 use Rattle.capture_pieces.proofs.text.Laws.{byte-digits, refused-by}
 use Rattle.capture_pieces.proofs.text.put_refused.Goals as goal
 

@@ -1,5 +1,4 @@
 -- Each code, and any other.
-use borrow.Author.Rules.{rules}
 use Rattle.capture_pieces.proofs.text.Laws.{seen_nothing, seen-ack, seen-nack, seen-data, seen-refused, seen_other}
 use Rattle.capture_pieces.proofs.text.put_seen.Goals as goal
 

@@ -1,6 +1,5 @@
 -- Each verdict.
 use native.Mathlib.Omega.{arith}
-use borrow.Author.Rules.{rules}
 use Rattle.capture_pieces.specs.Line.{verdict_line}
 use Rattle.capture_pieces.proofs.text.Laws.{not-checked-by}
 use Rattle.capture_pieces.proofs.text.put_verdict.Goals as goal

@@ -1,6 +1,5 @@
 -- Each word lies within the words.
 use Prim.Native.Nat.{◌≤◌, ◌-◌}
-use borrow.Author.Rules.{rules}
 use lib.ListN.{length}
 use Rattle.edges.proofs.names.nth.Given as goal
 

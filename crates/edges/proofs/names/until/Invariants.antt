@@ -1,6 +1,5 @@
 -- From one place to the next, within the text.
 use Prim.Native.Nat.{◌≤◌, ◌-◌}
-use borrow.Author.Rules.{rules}
 use lib.ListN.{length}
 use Rattle.edges.proofs.names.until.Given as goal
 

@@ -1,7 +1,6 @@
 -- From one byte to the next, up to the end.
 use Prim.Native.Nat.{◌≤◌, ◌-◌}
 use lib.ListN.{length}
-use borrow.Author.Rules.{rules}
 use Rattle.edges.proofs.report.lines_of.Given as goal
 
 abbrev pub invariant-loop-i : goal.invariant-loop-i

@@ -1,6 +1,5 @@
 -- The numbers are counted up to 62.
 use Prim.Native.Nat.{◌≤◌, ◌-◌}
-use borrow.Author.Rules.{rules}
 use Rattle.edges.proofs.report.slot.Given as goal
 
 abbrev pub invariant-loop-k : goal.invariant-loop-k

@@ -1,6 +1,5 @@
 -- The slots are counted up to eight.
 use Prim.Native.Nat.{◌≤◌, ◌-◌}
-use borrow.Author.Rules.{rules}
 use Rattle.edges.proofs.report.unlike.Given as goal
 
 abbrev pub invariant-loop-i : goal.invariant-loop-i

@@ -1,6 +1,5 @@
 -- The places are counted up to 8192.
 use Prim.Native.Nat.{◌≤◌, ◌-◌}
-use borrow.Author.Rules.{rules}
 use Rattle.edges.proofs.state.fill.Given as goal
 
 abbrev pub invariant-loop-i : goal.invariant-loop-i

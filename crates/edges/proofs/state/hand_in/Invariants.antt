@@ -1,6 +1,5 @@
 -- The words are counted up to 38.
 use Prim.Native.Nat.{◌≤◌, ◌-◌}
-use borrow.Author.Rules.{rules}
 use Rattle.edges.proofs.state.hand_in.Given as goal
 
 abbrev pub invariant-loop-i : goal.invariant-loop-i

@@ -1,6 +1,5 @@
 -- The bytes are counted up to 37.
 use Prim.Native.Nat.{◌≤◌, ◌-◌}
-use borrow.Author.Rules.{rules}
 use Rattle.edges.proofs.words.bytes_of.Given as goal
 
 abbrev pub invariant-loop-i : goal.invariant-loop-i

@@ -1,7 +1,6 @@
 -- Each word lies within the words.
 use Prim.Native.Nat.{◌≤◌, ◌-◌}
 use lib.ListN.{length}
-use borrow.Author.Rules.{rules}
 use Rattle.edges.proofs.words.index_of.Given as goal
 
 abbrev pub invariant-loop-n : goal.invariant-loop-n

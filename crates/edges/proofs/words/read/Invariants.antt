@@ -1,6 +1,5 @@
 -- What was read is at most 150 long.
 use Prim.Native.Nat.{◌≤◌}
-use borrow.Author.Rules.{rules}
 use Rattle.edges.proofs.words.read.Given as goal
 
 abbrev pub invariant-loop-turns : goal.invariant-loop-turns

@@ -1,9 +1,6 @@
 -- Each word lies within the text.
 use Prim.Native.Nat.{◌≤◌, ◌-◌}
 use lib.ListN.{length}
-use native.Mathlib.Omega.{arith}
-use lib.ListN.{length-take}
-use borrow.Author.Rules.{rules}
 use Rattle.edges.proofs.words.tokens.Given as goal
 
 abbrev pub invariant-loop-i : goal.invariant-loop-i

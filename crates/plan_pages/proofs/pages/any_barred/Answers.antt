@@ -1,10 +1,6 @@
 -- After each turn one page more is judged.
 use mathlib.Core.Path.{◌≡◌, ◌∙◌, ap}
-use Prim.Native.Nat.{◌-◌, ◌≤◌}
 use native.Mathlib.Omega.{arith}
-use borrow.Author.Rules.{rules}
-use lib.ListN.{length}
-use Rattle.rules.specs.Modelled.{slot_bytes}
 use Rattle.plan_rules.specs.Plan.{page_block, barred_before}
 use Rattle.plan_pages.proofs.pages.Laws.{barred-none, barred-step}
 use Rattle.plan_pages.proofs.pages.any_barred.Goals as goal

@@ -1,12 +1,9 @@
 -- After each turn one page more is judged.
-use mathlib.Core.Path.{◌≡◌, ◌∙◌, ap}
+use mathlib.Core.Path.{◌≡◌}
 use Prim.Native.Nat.{◌-◌, ◌≤◌}
-use native.Mathlib.Omega.{arith}
-use borrow.Author.Rules.{rules}
 use lib.ListN.{length}
 use Rattle.rules.specs.Modelled.{slot_bytes}
-use Rattle.plan_rules.specs.Plan.{page_block, barred_before}
-use Rattle.plan_pages.proofs.pages.Laws.{barred-none, barred-step}
+use Rattle.plan_rules.specs.Plan.{barred_before}
 use Rattle.plan_pages.proofs.pages.any_barred.Given as goal
 
 abbrev pub invariant-loop-p : goal.invariant-loop-p

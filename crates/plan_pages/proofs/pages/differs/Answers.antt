@@ -2,7 +2,6 @@
 use mathlib.Core.Path.{◌≡◌}
 use Prim.Native.Nat.{◌+◌, ◌-◌, ◌*◌}
 use native.Mathlib.Omega.{arith}
-use borrow.Author.Rules.{rules}
 use Rattle.plan_pages.proofs.pages.Laws.{page-cut, differs-by}
 use Rattle.plan_pages.proofs.pages.differs.Goals as goal
 

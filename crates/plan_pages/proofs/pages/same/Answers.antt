@@ -1,11 +1,6 @@
 -- The bytes passed are the same, or not.
-use mathlib.Core.Path.{◌≡◌, refl}
-use mathlib.Core.Bool.{◌&&◌}
-use Prim.Native.Nat.{◌-◌, ◌≤◌}
+use mathlib.Core.Path.{refl}
 use native.Mathlib.Omega.{arith}
-use borrow.Author.Rules.{rules}
-use lib.ListN.{length, drop}
-use Rattle.plan_rules.specs.Plan.{same}
 use Rattle.plan_pages.proofs.pages.Laws.{same_step, same-last}
 use Rattle.plan_pages.proofs.pages.same.Goals as goal
 

@@ -1,12 +1,9 @@
 -- The bytes passed are the same, or not.
-use mathlib.Core.Path.{◌≡◌, refl}
+use mathlib.Core.Path.{◌≡◌}
 use mathlib.Core.Bool.{◌&&◌}
 use Prim.Native.Nat.{◌-◌, ◌≤◌}
-use native.Mathlib.Omega.{arith}
-use borrow.Author.Rules.{rules}
 use lib.ListN.{length, drop}
 use Rattle.plan_rules.specs.Plan.{same}
-use Rattle.plan_pages.proofs.pages.Laws.{same_step, same-last}
 use Rattle.plan_pages.proofs.pages.same.Given as goal
 
 abbrev pub invariant-loop-i : goal.invariant-loop-i

@@ -1,14 +1,7 @@
 -- The ticks that are left give what all five give.
-use mathlib.Core.Path.{◌≡◌, refl}
-use mathlib.Core.Bool.{true}
-use Prim.Native.Nat.{◌-◌, ◌≤◌, ◌<◌}
+use mathlib.Core.Path.{refl}
+use Prim.Native.Nat.{◌≤◌, ◌<◌}
 use native.Mathlib.Omega.{arith}
-use borrow.Author.Rules.{rules}
-use lib.ListN.{length, replicate}
-use Rattle.rules.specs.declared.Act.TheVariants.{Tick}
-use Rattle.rules.specs.Modelled.{slot_bytes}
-use Rattle.rules.specs.Refusals.{slot_in_range}
-use Rattle.rules.specs.Runs.{slot_after, part_after}
 use Rattle.plan_pages.proofs.pages.Laws.{tick-kept, slot_step, part_step, slot-last, part-last}
 use Rattle.plan_pages.proofs.pages.settle.Goals as goal
 

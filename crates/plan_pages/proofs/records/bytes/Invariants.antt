@@ -1,14 +1,10 @@
 -- After each turn one byte more is laid.
-use mathlib.Core.Path.{◌≡◌, refl, ◌∙◌, ap, sym}
-use mathlib.Core.List.{List, map}
-use Prim.Native.Nat.{ℕ, ◌+◌, ◌-◌, ◌*◌, ◌≤◌, ◌<◌}
-use native.Mathlib.Omega.{arith}
-use borrow.Author.Rules.{rules}
+use mathlib.Core.Path.{◌≡◌}
+use mathlib.Core.List.{map}
+use Prim.Native.Nat.{◌+◌, ◌-◌, ◌*◌, ◌≤◌}
 use lib.ListN.{length, take}
-use lib.Seq.{take_all}
 use Rattle.plan_rules.specs.Plan.{byte}
 use Rattle.plan_pages.specs.Laid.{laid_at}
-use Rattle.plan_pages.proofs.records.Laws.{laid_none, bytes-step, laid-count}
 use Rattle.plan_pages.proofs.records.bytes.Given as goal
 
 abbrev pub invariant-loop-i : goal.invariant-loop-i

@@ -1,6 +1,5 @@
 -- Its parts, one behind the other.
 use native.Mathlib.Omega.{arith}
-use borrow.Author.Rules.{rules}
 use lib.ListN.{length-map}
 use Rattle.plan_rules.specs.Plan.{byte}
 use Rattle.plan_pages.proofs.records.Laws.{laid-count, exchange-by}

@@ -1,5 +1,4 @@
 -- The half stands already, or it is selected.
-use borrow.Author.Rules.{rules}
 use Rattle.plan_pages.proofs.records.Laws.{selecting-none, selecting-other}
 use Rattle.plan_pages.proofs.records.selecting.Goals as goal
 

@@ -1,9 +1,8 @@
 -- After each turn one tick more is laid.
-use mathlib.Core.Path.{◌≡◌, refl, ◌∙◌, ap, sym}
-use Prim.Native.Nat.{ℕ, ◌+◌, ◌-◌, ◌*◌, ◌≤◌}
+use mathlib.Core.Path.{refl, ◌∙◌, ap, sym}
+use Prim.Native.Nat.{ℕ}
 use native.Mathlib.Omega.{arith}
 use borrow.Author.Rules.{rules}
-use lib.ListN.{length}
 use Rattle.plan_rules.specs.Plan.{ticks}
 use Rattle.plan_pages.specs.Laid.{laid_at}
 use Rattle.plan_pages.proofs.records.Laws.{ticks-none, ticks-step, laid-count}

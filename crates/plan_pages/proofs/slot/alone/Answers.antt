@@ -1,7 +1,6 @@
 -- The slot settled; then refused, or laid.
 use mathlib.Core.Path.{◌∙◌, ap}
 use native.Mathlib.Omega.{arith}
-use borrow.Author.Rules.{rules}
 use lib.ListN.{replicate}
 use Rattle.rules.specs.declared.Act.TheVariants.{Tick}
 use Rattle.rules.specs.Refusals.{slot_in_range}

@@ -1,6 +1,5 @@
 -- The number, and the line's end behind it.
 use native.Mathlib.Omega.{arith}
-use borrow.Author.Rules.{rules}
 use Rattle.plan_pages.proofs.text.Laws.{count_by, count_room}
 use Rattle.plan_pages.proofs.text.put_count.Goals as goal
 

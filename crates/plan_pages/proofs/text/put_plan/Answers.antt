@@ -1,5 +1,4 @@
 -- A plan, or a refusal.
-use borrow.Author.Rules.{rules}
 use Rattle.plan_rules.specs.Plan.{plan_value}
 use Rattle.plan_pages.proofs.text.Laws.{refused-by}
 use Rattle.plan_pages.proofs.text.put_plan.Goals as goal

@@ -1,7 +1,6 @@
 -- Four bytes and the line end, one after another.
 use mathlib.Core.Path.{refl}
 use native.Mathlib.Omega.{arith}
-use borrow.Author.Rules.{rules}
 use lib.ListN.{length-set}
 use Rattle.plan_pages.proofs.text.Laws.{record-by}
 use Rattle.plan_pages.proofs.text.put_record.Goals as goal

@@ -1,12 +1,9 @@
 -- The records passed have their lines.
-use mathlib.Core.Path.{refl, ◌≡◌}
+use mathlib.Core.Path.{◌≡◌}
 use Prim.Native.Nat.{◌+◌, ◌*◌, ◌-◌, ◌≤◌}
-use native.Mathlib.Omega.{arith}
-use borrow.Author.Rules.{rules}
 use lib.ListN.{length}
 use lib.Seq.{sets}
 use Rattle.plan_pages.specs.Listing.{record_lines}
-use Rattle.plan_pages.proofs.text.Laws.{lines_none, lines-on, lines-nine}
 use Rattle.plan_pages.proofs.text.put_records.Given as goal
 
 abbrev pub invariant-loop-i : goal.invariant-loop-i

@@ -1,10 +1,8 @@
 -- After each turn one page more is laid, if it differs.
 use mathlib.Core.Path.{◌≡◌, refl, ◌∙◌, ap, sym}
-use Prim.Native.Nat.{ℕ, ◌+◌, ◌*◌, ◌-◌, ◌≤◌, ◌<◌}
+use Prim.Native.Nat.{ℕ, ◌<◌}
 use native.Mathlib.Omega.{arith}
-use borrow.Author.Rules.{rules}
-use lib.ListN.{length}
-use Rattle.plan_rules.specs.Plan.{page_half, half_before, pages_before}
+use Rattle.plan_rules.specs.Plan.{page_half, pages_before}
 use Rattle.plan_pages.specs.Laid.{laid_at}
 use Rattle.plan_pages.proofs.records.Laws.{laid-length, laid_as}
 use Rattle.plan_rules.proofs.Settled.{short-cycle}
@@ -36,7 +34,7 @@ loop-p-preserved c =
     let d = c.differs.ensures in
     let h : l.p < 32 = omega arith in
     elim c.if-differs.branch [
-        then-differs w ↦ (
+      | then-differs w ↦ (
           let e = laid_as _ _ _ _ _ _ _ (pages-more a.old.now a.image.now a.s a.k.0 l.p _ d _ _ _ _ _ _ _ w.if-differs.true l.invariant.3 l.invariant.4 w.page-end.ensures) w.end-is w.buffer-is in
           let f = most-page a.n _ _ _ _ _ _ _ l.p _ _ _ h g.requires.3 (short-cycle a.s g.requires.0) l.invariant.2 w.page-end.ensures in
           (omega arith, laid-length _ _ _ _ _ e, omega (arith, f, w.end-is), w.half-is ∙ half-more a.old.now a.image.now a.s l.p _ d w.if-differs.true, e))

@@ -1,15 +1,9 @@
 -- After each turn one page more is laid, if it differs.
-use mathlib.Core.Path.{◌≡◌, refl, ◌∙◌, ap, sym}
-use mathlib.Core.Logic.{⊎_elim}
-use Prim.Native.Nat.{ℕ, ◌+◌, ◌*◌, ◌-◌, ◌≤◌, ◌<◌}
-use native.Mathlib.Omega.{arith}
-use borrow.Author.Rules.{rules}
+use mathlib.Core.Path.{◌≡◌}
+use Prim.Native.Nat.{◌+◌, ◌*◌, ◌-◌, ◌≤◌}
 use lib.ListN.{length}
-use Rattle.plan_rules.specs.Plan.{page_half, half_before, pages_before}
+use Rattle.plan_rules.specs.Plan.{half_before, pages_before}
 use Rattle.plan_pages.specs.Laid.{laid_at}
-use Rattle.plan_pages.proofs.records.Laws.{laid-length, laid_as}
-use Rattle.plan_rules.proofs.Settled.{short-cycle}
-use Rattle.plan_pages.proofs.writes.Laws.{most-page, pages-none, half-none, pages-more, half-more, pages-same, half-same}
 use Rattle.plan_pages.proofs.writes.all_pages.Given as goal
 
 abbrev pub invariant-loop-p : goal.invariant-loop-p

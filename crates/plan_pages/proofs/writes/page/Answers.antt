@@ -1,6 +1,5 @@
 -- The half, the write and the ticks, one behind the other.
 use native.Mathlib.Omega.{arith}
-use borrow.Author.Rules.{rules}
 use Rattle.plan_rules.specs.Plan.{page_half, page_counter}
 use Rattle.plan_pages.proofs.writes.Laws.{sent-length, most-selected, count-written, page-by}
 use Rattle.plan_pages.proofs.writes.page.Goals as goal

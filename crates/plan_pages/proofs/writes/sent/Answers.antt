@@ -1,7 +1,6 @@
 -- The counter, and behind it the page.
 use Prim.Native.Nat.{◌+◌, ◌-◌, ◌*◌}
 use native.Mathlib.Omega.{arith}
-use borrow.Author.Rules.{rules}
 use Rattle.proof_lists.specs.Stores.{copied-over}
 use lib.ListN.{replicate}
 use Rattle.plan_pages.proofs.pages.Laws.{page-cut}

@@ -1,9 +1,6 @@
 -- One field more at each turn.
 use mathlib.Core.Path.{◌≡◌}
-use Prim.Native.Nat.{◌-◌, ◌≤◌}
 use native.Mathlib.Omega.{arith}
-use borrow.Author.Rules.{rules}
-use Rattle.save_rules.specs.Reading.{begins}
 use Rattle.save_fields.proofs.offsets.Laws.{span_small, begins-small, begins-none, begins-step}
 use Rattle.save_fields.proofs.offsets.begins.Goals as goal
 

@@ -1,12 +1,7 @@
 -- One slot more at each turn.
-use mathlib.Core.Path.{◌≡◌}
-use Prim.Native.Nat.{◌-◌, ◌≤◌}
 use native.Mathlib.Omega.{arith}
 use borrow.Author.Rules.{rules}
-use lib.ListN.{length}
-use Rattle.rules.specs.Modelled.{slot_count}
 use Rattle.rules.proofs.Past.{no_slot}
-use Rattle.save_rules.specs.Form.{needed_to}
 use Rattle.save_fields.proofs.offsets.Laws.{needed-none, needed-step, needed-all}
 use Rattle.save_fields.proofs.offsets.is_there.Goals as goal
 

@@ -1,10 +1,8 @@
 -- One slot more at each turn.
 use mathlib.Core.Path.{◌≡◌}
-use Prim.Native.Nat.{◌-◌, ◌≤◌}
 use native.Mathlib.Omega.{arith}
 use borrow.Author.Rules.{rules}
 use Rattle.rules.proofs.Past.{no_slot}
-use Rattle.save_rules.specs.Reading.{offset}
 use Rattle.save_fields.proofs.offsets.Laws.{size_fits, offset-small, offset-none, offset_step}
 use Rattle.save_fields.proofs.offsets.offset.Goals as goal
 

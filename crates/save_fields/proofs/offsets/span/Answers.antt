@@ -1,6 +1,5 @@
 -- There, or not.
 use native.Mathlib.Omega.{arith}
-use borrow.Author.Rules.{rules}
 use Rattle.save_fields.proofs.offsets.Laws.{offset-small, spans, spans-none}
 use Rattle.save_fields.proofs.offsets.span.Goals as goal
 

@@ -1,7 +1,6 @@
 -- Before the end, or behind it.
 use mathlib.Core.Path.{sym}
 use native.Mathlib.Omega.{arith}
-use borrow.Author.Rules.{rules}
 use lib.ListN.{get_or-eq_default}
 use Rattle.save_fields.proofs.shares.byte_at.Goals as goal
 

@@ -1,6 +1,4 @@
 -- Two bits of a byte.
-use native.Mathlib.Omega.{arith}
-use borrow.Author.Rules.{rules}
 use Rattle.save_fields.proofs.shares.Laws.{older-bits}
 use Rattle.save_fields.proofs.shares.older_byte.Goals as goal
 

@@ -1,5 +1,4 @@
 -- 256 of an older slot, and all 512 of another.
-use borrow.Author.Rules.{rules}
 use Rattle.rules.specs.Modelled.{bytes_of}
 use Rattle.save_fields.proofs.shares.own_bytes.Goals as goal
 

@@ -1,5 +1,4 @@
 -- Row by row.
-use borrow.Author.Rules.{rules}
 use Rattle.save_fields.proofs.shares.Laws.{put_as, room_as, share-row, share-first}
 use Rattle.save_fields.proofs.shares.put.Goals as goal
 

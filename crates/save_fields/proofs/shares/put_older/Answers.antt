@@ -1,6 +1,5 @@
 -- No byte, or one.
 use native.Mathlib.Omega.{arith}
-use borrow.Author.Rules.{rules}
 use Rattle.save_fields.proofs.shares.Laws.{no-older, older-share, none-put, room_as, older-put}
 use Rattle.save_fields.proofs.shares.put_older.Goals as goal
 

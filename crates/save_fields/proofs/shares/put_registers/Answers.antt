@@ -1,10 +1,9 @@
 -- After each turn one register more is put.
 use mathlib.Core.Path.{◌≡◌, refl, ap}
-use Prim.Native.Nat.{◌+◌, ◌-◌, ◌≤◌}
+use Prim.Native.Nat.{◌+◌}
 use native.Mathlib.Omega.{arith}
-use borrow.Author.Rules.{rules}
 use lib.ListN.{length}
-use lib.Seq.{sets, length-sets}
+use lib.Seq.{length-sets}
 use Rattle.save_rules.specs.Form.{word_of, registers_to}
 use Rattle.save_fields.proofs.shares.Laws.{none-put, registers-step, length-registers, registers-none}
 use Rattle.save_fields.proofs.shares.put_registers.Goals as goal

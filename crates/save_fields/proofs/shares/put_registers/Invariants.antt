@@ -1,12 +1,9 @@
 -- After each turn one register more is put.
-use mathlib.Core.Path.{◌≡◌, refl, ap}
+use mathlib.Core.Path.{◌≡◌}
 use Prim.Native.Nat.{◌+◌, ◌-◌, ◌≤◌}
-use native.Mathlib.Omega.{arith}
-use borrow.Author.Rules.{rules}
 use lib.ListN.{length}
-use lib.Seq.{sets, length-sets}
-use Rattle.save_rules.specs.Form.{word_of, registers_to}
-use Rattle.save_fields.proofs.shares.Laws.{none-put, registers-step, length-registers, registers-none}
+use lib.Seq.{sets}
+use Rattle.save_rules.specs.Form.{registers_to}
 use Rattle.save_fields.proofs.shares.put_registers.Given as goal
 
 abbrev pub invariant-loop-i : goal.invariant-loop-i

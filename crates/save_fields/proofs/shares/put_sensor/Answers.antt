@@ -1,6 +1,5 @@
 -- No bytes, or the pointer and the registers.
 use native.Mathlib.Omega.{arith}
-use borrow.Author.Rules.{rules}
 use Rattle.save_fields.proofs.shares.Laws.{no-sensor, sensor-room, none-put, sensor-put}
 use Rattle.save_fields.proofs.shares.put_sensor.Goals as goal
 

@@ -1,6 +1,5 @@
 -- No bytes, or four of them.
 use native.Mathlib.Omega.{arith}
-use borrow.Author.Rules.{rules}
 use Rattle.save_fields.proofs.shares.Laws.{no-state, state-share, none-put, room_as, state-put}
 use Rattle.save_fields.proofs.shares.put_state.Goals as goal
 

@@ -1,5 +1,4 @@
 -- An older slot, or another.
-use borrow.Author.Rules.{rules}
 use borrow.Author.Tests.{ne_eqb}
 use Rattle.rules.specs.Modelled.{older}
 use Rattle.rules.specs.Open.{open-fields}

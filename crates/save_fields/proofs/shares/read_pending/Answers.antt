@@ -1,5 +1,4 @@
 -- With a sensor, or without.
-use borrow.Author.Rules.{rules}
 use borrow.Author.Tests.{ne_eqb}
 use Rattle.rules.specs.Modelled.{sensing}
 use Rattle.rules.specs.Open.{open-fields}

@@ -1,5 +1,4 @@
 -- A pair, and the slot that setup makes of it.
-use borrow.Author.Rules.{rules}
 use Rattle.script_text.specs.Records.{pair_at}
 use Rattle.save_fields.proofs.shares.read_setup.Goals as goal
 

@@ -1,5 +1,4 @@
 -- Absent, or with what the bytes say.
-use borrow.Author.Rules.{rules}
 use borrow.Author.Tests.{eq-eqb}
 use Rattle.rules.specs.Modelled.{absent}
 use Rattle.rules.specs.Open.{open-fields}

@@ -1,5 +1,4 @@
 -- Byte by byte.
-use borrow.Author.Rules.{rules}
 use Rattle.save_rules.specs.Form.{sensor_from}
 use Rattle.save_fields.proofs.shares.sensor_at.Goals as goal
 

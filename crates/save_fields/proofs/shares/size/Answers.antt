@@ -1,5 +1,4 @@
 -- Row by row.
-use borrow.Author.Rules.{rules}
 use Rattle.save_rules.specs.Form.{setup_field, memory_field, state_field, sensor_field, pending_field, older_field}
 use Rattle.save_fields.proofs.shares.Laws.{row-0, row-1, row-2, row-3, row-4, row-5}
 use Rattle.save_fields.proofs.shares.size.Goals as goal

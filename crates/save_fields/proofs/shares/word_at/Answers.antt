@@ -1,5 +1,4 @@
 -- Its two bytes.
-use borrow.Author.Rules.{rules}
 use Rattle.save_rules.specs.Form.{word_at}
 use Rattle.save_fields.proofs.shares.word_at.Goals as goal
 

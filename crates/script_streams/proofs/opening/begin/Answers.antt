@@ -1,6 +1,5 @@
 -- What came is what it begins with, and what is written lies in the output.
 use native.Mathlib.Omega.{arith}
-use borrow.Author.Rules.{rules}
 use lib.ListN.{length-take}
 use Rattle.script_turns.proofs.frame.Onward.{begin-onward}
 use Rattle.script_streams.proofs.opening.begin.Goals as goal

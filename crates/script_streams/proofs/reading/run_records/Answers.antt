@@ -1,14 +1,7 @@
 -- From read to read the bus is in range, the buffers keep their lengths, at most three bytes are held, and the reads so far led here.
-use mathlib.Core.Path.{◌≡◌}
-use mathlib.Core.Bool.{true}
-use Prim.Native.Nat.{◌<◌}
 use native.Mathlib.Omega.{arith}
-use borrow.Author.Rules.{rules}
-use lib.ListN.{length}
-use Rattle.rules.specs.Refusals.{in_range}
 use borrow.Author.Tests.{not-true, not-false}
-use Rattle.script_streams.specs.Reading.{begun}
-use Rattle.script_streams.proofs.reading.Onward.{Ongoing, ongoing-none, ongoing-more, ended_by, ended-over}
+use Rattle.script_streams.proofs.reading.Onward.{ongoing-none, ongoing-more, ended_by, ended-over}
 use Rattle.script_streams.proofs.reading.run_records.Goals as goal
 
 pub loop-turns-init : goal.loop-turns-init

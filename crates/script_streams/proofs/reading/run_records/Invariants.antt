@@ -2,13 +2,10 @@
 use mathlib.Core.Path.{◌≡◌}
 use mathlib.Core.Bool.{true}
 use Prim.Native.Nat.{◌<◌}
-use native.Mathlib.Omega.{arith}
-use borrow.Author.Rules.{rules}
-use borrow.Author.Tests.{not-true, not-false}
 use lib.ListN.{length}
 use Rattle.rules.specs.Refusals.{in_range}
 use Rattle.script_streams.specs.Reading.{begun}
-use Rattle.script_streams.proofs.reading.Onward.{Ongoing, ongoing-none, ongoing-more, ended_by, ended-over}
+use Rattle.script_streams.proofs.reading.Onward.{Ongoing}
 use Rattle.script_streams.proofs.reading.run_records.Given as goal
 
 abbrev pub invariant-loop-turns : goal.invariant-loop-turns

@@ -1,6 +1,5 @@
 -- What is written lies in the output.
 use native.Mathlib.Omega.{arith}
-use borrow.Author.Rules.{rules}
 use Rattle.script_turns.proofs.frame.Onward.{finish-onward}
 use Rattle.script_streams.proofs.reading.Onward.{served-told, served-untold}
 use Rattle.script_streams.proofs.reading.serve.Goals as goal

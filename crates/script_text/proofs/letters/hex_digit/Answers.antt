@@ -1,5 +1,4 @@
 -- The two cases of the definition.
-use borrow.Author.Rules.{rules}
 use borrow.Author.Tests.{lt-ltb, le-ltb}
 use Rattle.script_text.specs.Letters.{hex_digit}
 use Rattle.script_text.proofs.letters.hex_digit.Goals as goal

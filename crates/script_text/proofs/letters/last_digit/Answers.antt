@@ -1,6 +1,5 @@
 -- The remainder, as a letter.
 use mathlib.Core.Path.{refl}
-use borrow.Author.Rules.{rules}
 use Rattle.script_text.specs.Decimal.{digit}
 use Rattle.script_text.proofs.letters.last_digit.Goals as goal
 

@@ -1,5 +1,4 @@
 -- Case by case.
-use borrow.Author.Rules.{rules}
 use Rattle.rules.specs.Events.{refusal_number}
 use Rattle.script_text.proofs.letters.number_of.Goals as goal
 

@@ -1,5 +1,4 @@
 -- Each answer.
-use borrow.Author.Rules.{rules}
 use Rattle.rules.specs.Events.{letter_of}
 use Rattle.script_text.specs.Letters.{digits_of}
 use Rattle.script_text.proofs.letters.Laws.{data-by}

@@ -1,6 +1,5 @@
 -- The answer, and the line's end behind it.
 use native.Mathlib.Omega.{arith}
-use borrow.Author.Rules.{rules}
 use Rattle.script_text.proofs.letters.Laws.{answer-length, line-by}
 use Rattle.script_text.proofs.letters.put_line.Goals as goal
 

@@ -1,6 +1,5 @@
 -- Its letter, and its number in decimal.
 use native.Mathlib.Omega.{arith}
-use borrow.Author.Rules.{rules}
 use Rattle.script_text.proofs.letters.Laws.{number_by, number-room}
 use Rattle.script_text.proofs.letters.put_number.Goals as goal
 

@@ -1,6 +1,5 @@
 -- A refusal's line, or none.
 use mathlib.Core.Path.{refl}
-use borrow.Author.Rules.{rules}
 use Rattle.script_text.proofs.letters.Laws.{refusal-by, other-line}
 use Rattle.script_text.proofs.letters.put_refusal.Goals as goal
 

@@ -1,7 +1,6 @@
 -- Six stores in a row.
 use mathlib.Core.Path.{refl}
 use native.Mathlib.Omega.{arith}
-use borrow.Author.Rules.{rules}
 use lib.ListN.{length-set}
 use Rattle.script_text.proofs.letters.put_short.Goals as goal
 

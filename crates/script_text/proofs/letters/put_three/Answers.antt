@@ -2,7 +2,6 @@
 use mathlib.Core.Path.{refl, ◌≡◌}
 use Prim.Native.Nat.{suc, ◌+◌}
 use native.Mathlib.Omega.{arith}
-use borrow.Author.Rules.{rules}
 use lib.ListN.{length-set}
 use Rattle.script_text.proofs.letters.put_three.Goals as goal
 

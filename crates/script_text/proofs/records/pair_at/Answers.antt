@@ -1,6 +1,5 @@
 -- The two bytes of the pair.
 use mathlib.Core.Path.{refl}
-use borrow.Author.Rules.{rules}
 use Rattle.script_text.specs.Records.{pair_at}
 use Rattle.script_text.proofs.records.pair_at.Goals as goal
 

@@ -1,12 +1,9 @@
 -- The pairs passed are those of their bytes.
-use mathlib.Core.Path.{◌∙◌, ◌≡◌}
+use mathlib.Core.Path.{◌≡◌}
 use Prim.Native.Nat.{◌≤◌, ◌-◌}
-use native.Mathlib.Omega.{arith}
-use borrow.Author.Rules.{rules}
 use lib.ListN.{length}
-use Rattle.proof_lists.specs.Each.{filled, filled_none, filled-full}
-use Rattle.script_text.specs.Records.{pairs_to, pairs_of}
-use Rattle.script_text.proofs.records.Laws.{length_pairs, pairs-step}
+use Rattle.proof_lists.specs.Each.{filled}
+use Rattle.script_text.specs.Records.{pairs_to}
 use Rattle.script_text.proofs.records.pairs.Given as goal
 
 abbrev pub invariant-loop-i : goal.invariant-loop-i

@@ -1,5 +1,4 @@
 -- The four bytes of the record.
-use borrow.Author.Rules.{rules}
 use Rattle.script_text.specs.Records.{record_at}
 use Rattle.bus_sensor.proofs.temperature.Signed.{back}
 use Rattle.script_text.proofs.records.record_at.Goals as goal

@@ -1,5 +1,4 @@
 -- A setup that is cut, and a whole one.
-use borrow.Author.Rules.{rules}
 use Rattle.script_turns.proofs.frame.Laws.{begin-cut, begin-whole}
 use Rattle.script_turns.proofs.frame.begin.Goals as goal
 

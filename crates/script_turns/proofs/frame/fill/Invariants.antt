@@ -1,10 +1,8 @@
 -- The bytes passed are FFh.
-use mathlib.Core.Path.{refl, ◌≡◌, sym, ◌∙◌, ap}
-use Prim.Native.Nat.{ℕ, ◌≤◌, ◌-◌, ◌<◌}
-use native.Mathlib.Omega.{arith}
-use borrow.Author.Rules.{rules}
-use lib.ListN.{length, replicate, set, length-set, length-replicate, get_or-replicate}
-use Rattle.proof_lists.specs.Each.{filled, filled_none, filled-step, filled-full}
+use mathlib.Core.Path.{◌≡◌}
+use Prim.Native.Nat.{◌≤◌, ◌-◌}
+use lib.ListN.{length, replicate}
+use Rattle.proof_lists.specs.Each.{filled}
 use Rattle.script_turns.proofs.frame.fill.Given as goal
 
 abbrev pub invariant-loop-i : goal.invariant-loop-i

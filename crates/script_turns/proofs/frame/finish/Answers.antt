@@ -1,5 +1,4 @@
 -- Nothing held, or something.
-use borrow.Author.Rules.{rules}
 use Rattle.script_turns.proofs.frame.Laws.{finish-none, finish-short}
 use Rattle.script_turns.proofs.frame.finish.Goals as goal
 

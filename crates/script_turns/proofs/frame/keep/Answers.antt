@@ -1,10 +1,8 @@
 -- The bytes passed are those that are moved; those to come are still where they were.
 use mathlib.Core.Path.{refl, ◌≡◌}
-use Prim.Native.Nat.{◌≤◌, ◌-◌}
 use native.Mathlib.Omega.{arith}
-use borrow.Author.Rules.{rules}
-use lib.ListN.{length, drop, length-set}
-use Rattle.proof_lists.specs.Each.{filled, filled_none}
+use lib.ListN.{length-set}
+use Rattle.proof_lists.specs.Each.{filled_none}
 use Rattle.script_turns.proofs.frame.Laws.{keep-step}
 use Rattle.script_turns.proofs.frame.keep.Goals as goal
 

@@ -1,5 +1,4 @@
 -- The pairs of the bytes, set up.
-use borrow.Author.Rules.{rules}
 use Rattle.script_turns.proofs.frame.setup.Goals as goal
 
 pub returns : goal.returns

@@ -1,11 +1,10 @@
 -- After each turn one record more has been run.
 use mathlib.Core.Path.{refl, ◌≡◌}
-use Prim.Native.Nat.{◌≤◌, ◌*◌, ◌/◌, ◌-◌}
+use Prim.Native.Nat.{◌/◌}
 use native.Mathlib.Omega.{arith}
-use borrow.Author.Rules.{rules}
 use lib.ListN.{length}
 use Rattle.script_turns.specs.Script.{records_in}
-use Rattle.script_turns.proofs.turns.Going.{Going, going-none, going_on, going-ended}
+use Rattle.script_turns.proofs.turns.Going.{going-none, going_on, going-ended}
 use Rattle.script_turns.proofs.turns.run.Goals as goal
 
 pub loop-i-init : goal.loop-i-init

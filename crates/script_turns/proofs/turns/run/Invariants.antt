@@ -1,11 +1,8 @@
 -- After each turn one record more has been run.
-use mathlib.Core.Path.{refl, ◌≡◌}
+use mathlib.Core.Path.{◌≡◌}
 use Prim.Native.Nat.{◌≤◌, ◌*◌, ◌/◌, ◌-◌}
-use native.Mathlib.Omega.{arith}
-use borrow.Author.Rules.{rules}
 use lib.ListN.{length}
-use Rattle.script_turns.specs.Script.{records_in}
-use Rattle.script_turns.proofs.turns.Going.{Going, going-none, going_on, going-ended}
+use Rattle.script_turns.proofs.turns.Going.{Going}
 use Rattle.script_turns.proofs.turns.run.Given as goal
 
 abbrev pub invariant-loop-i : goal.invariant-loop-i

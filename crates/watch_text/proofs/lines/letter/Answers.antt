@@ -2,7 +2,6 @@
 use Rattle.script_text.specs.Quoted.{quoted}
 use Rattle.watch_text.specs.Lines.{common_names, pin_names, older_names, signed}
 use native.Mathlib.Omega.{arith}
-use borrow.Author.Rules.{rules}
 use Rattle.watch_text.proofs.lines.Laws.{common-at, pin-letter, older-letter}
 use Rattle.watch_text.proofs.lines.letter.Goals as goal
 

@@ -1,5 +1,4 @@
 -- The slots of a bus, where there was none.
-use borrow.Author.Rules.{rules}
 use Rattle.watch_text.proofs.lines.Laws.{bench-by}
 use Rattle.watch_text.proofs.lines.put_bench.Goals as goal
 

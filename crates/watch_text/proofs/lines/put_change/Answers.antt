@@ -1,5 +1,4 @@
 -- A slot that is not told, and one that is.
-use borrow.Author.Rules.{rules}
 use Rattle.watch_text.proofs.lines.Laws.{untold, told-so}
 use Rattle.watch_text.proofs.lines.put_change.Goals as goal
 

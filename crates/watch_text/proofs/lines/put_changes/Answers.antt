@@ -2,11 +2,8 @@
 use mathlib.Core.Path.{◌≡◌, refl, sym}
 use native.Mathlib.Nat.{add-zero}
 use native.Mathlib.Omega.{arith}
-use Prim.Native.Nat.{◌+◌, ◌*◌, ◌-◌, ◌≤◌}
 use borrow.Author.Rules.{rules}
-use lib.ListN.{length}
-use lib.Seq.{sets}
-use Rattle.watch_text.specs.Lines.{change_lines_to, change_lines}
+use Rattle.watch_text.specs.Lines.{change_lines}
 use Rattle.watch_text.proofs.lines.Laws.{changes-step, changes-none}
 use Rattle.watch_text.proofs.lines.put_changes.Goals as goal
 

@@ -1,13 +1,10 @@
 -- Character by character: what is put so far, with the numbers behind their signs.
-use mathlib.Core.Path.{◌≡◌, refl}
-use Prim.Native.Nat.{◌+◌, ◌*◌, ◌-◌, ◌≤◌}
+use mathlib.Core.Path.{refl}
 use native.Mathlib.Omega.{arith}
 use borrow.Author.Rules.{rules}
-use lib.ListN.{length}
 use Rattle.watch_text.specs.Numbers.{numbers_of}
-use Rattle.watch_text.specs.Lines.{names, signed}
 use Rattle.watch_text.proofs.numbers.Laws.{numbers-length}
-use Rattle.watch_text.proofs.lines.Laws.{slot-told, Telling, telling-none, telling-more, telling-all}
+use Rattle.watch_text.proofs.lines.Laws.{slot-told, telling-none, telling-more, telling-all}
 use Rattle.watch_text.proofs.lines.put_numbers.Goals as goal
 
 pub loop-i-init : goal.loop-i-init

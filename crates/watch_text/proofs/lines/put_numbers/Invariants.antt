@@ -1,13 +1,10 @@
 -- Character by character: what is put so far, with the numbers behind their signs.
-use mathlib.Core.Path.{◌≡◌, refl}
+use mathlib.Core.Path.{◌≡◌}
 use Prim.Native.Nat.{◌+◌, ◌*◌, ◌-◌, ◌≤◌}
-use native.Mathlib.Omega.{arith}
-use borrow.Author.Rules.{rules}
 use lib.ListN.{length}
 use Rattle.watch_text.specs.Numbers.{numbers_of}
 use Rattle.watch_text.specs.Lines.{names, signed}
-use Rattle.watch_text.proofs.numbers.Laws.{numbers-length}
-use Rattle.watch_text.proofs.lines.Laws.{slot-told, Telling, telling-none, telling-more, telling-all}
+use Rattle.watch_text.proofs.lines.Laws.{Telling}
 use Rattle.watch_text.proofs.lines.put_numbers.Given as goal
 
 abbrev pub invariant-loop-i : goal.invariant-loop-i

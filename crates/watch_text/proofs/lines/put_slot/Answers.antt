@@ -1,6 +1,5 @@
 -- Piece by piece.
 use native.Mathlib.Omega.{arith}
-use borrow.Author.Rules.{rules}
 use Rattle.watch_text.proofs.lines.Laws.{slot-room, line-by}
 use Rattle.watch_text.proofs.lines.put_slot.Goals as goal
 

@@ -1,5 +1,4 @@
 -- By the kind.
-use borrow.Author.Rules.{rules}
 use Rattle.watch_text.proofs.numbers.Laws.{sensing-at, older-at, other_at, none-behind}
 use Rattle.watch_text.proofs.numbers.kind_number.Goals as goal
 

@@ -1,5 +1,4 @@
 -- One by one.
-use borrow.Author.Rules.{rules}
 use Rattle.watch_text.specs.Numbers.{older_numbers}
 use Rattle.watch_text.proofs.numbers.older_numbers.Goals as goal
 

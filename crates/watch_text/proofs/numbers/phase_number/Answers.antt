@@ -1,5 +1,4 @@
 -- Phase by phase.
-use borrow.Author.Rules.{rules}
 use Rattle.watch_text.specs.Numbers.{phase_number}
 use Rattle.watch_text.proofs.numbers.phase_number.Goals as goal
 

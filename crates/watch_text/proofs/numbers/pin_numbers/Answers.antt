@@ -1,5 +1,4 @@
 -- One by one.
-use borrow.Author.Rules.{rules}
 use Rattle.watch_text.proofs.numbers.Laws.{pin-by}
 use Rattle.watch_text.proofs.numbers.pin_numbers.Goals as goal
 

@@ -1,5 +1,4 @@
 -- One by one.
-use borrow.Author.Rules.{rules}
 use Rattle.watch_text.specs.Numbers.{plain_numbers}
 use Rattle.watch_text.proofs.numbers.plain_numbers.Goals as goal
 

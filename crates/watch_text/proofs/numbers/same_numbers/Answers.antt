@@ -1,10 +1,7 @@
 -- The numbers passed are the same, or some differ.
-use Prim.Native.Nat.{◌-◌}
 use native.Mathlib.Omega.{arith}
 use borrow.Author.Rules.{rules}
-use Rattle.proof_lists.specs.Same.{same}
-use Rattle.watch_text.specs.Numbers.{numbers_of}
-use Rattle.watch_text.proofs.numbers.Laws.{Alike, alike-none, alike-more, alike_all, sixty}
+use Rattle.watch_text.proofs.numbers.Laws.{alike-none, alike-more, alike_all}
 use Rattle.watch_text.proofs.numbers.same_numbers.Goals as goal
 
 pub loop-k-init : goal.loop-k-init
