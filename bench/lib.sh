@@ -3,7 +3,7 @@
 # this folder, `here`; makes a folder that goes away at the end, `work`; and builds `measure` there.
 #
 # What is compared are times of programs that have their turns one behind the other, so that what slows the machine down
-# slows all of them, and of each the best. On Arm all run under the kit's emulator.
+# slows all of them, and of each the best.
 set -euo pipefail
 here=$(cd "$(dirname "${BASH_SOURCE[0]}")" && pwd)
 root=${here%/bench}
@@ -31,7 +31,7 @@ proved() {
         return
     fi
     [[ $(printf '%s' "${3:-}" | "$root/run" "$1" || true) = "${4:-short}" ]] || die "the program $1 could not be built or run"
-    command=("${under[@]}" "$root/target/bin/$1")
+    command=("$root/crates/$1/out/$1")
 }
 
 # ---- in turn: the best of all turns, in `best`, by a key

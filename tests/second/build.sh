@@ -7,19 +7,15 @@
 # is the kit's.
 second=$(cd "$(dirname "${BASH_SOURCE[0]}")" && pwd)
 
-# The kit's folder is the one that rt names, with what is for this machine below on/. `under` runs a program for x86-64
-# as ./run does.
+# The kit's tools stand beside the page that rt names.
 find_kit() {
     command -v rt >/dev/null || die "there is no rt on the PATH: install the Rattle kit, or put its bin folder on the PATH"
-    local kit
-    kit=$(rt doc) || die "rt does not work here"
-    tools=${kit%/docs/*}/on/$(uname -m)/toolchain
-    under=("$tools/lib/ld-linux-x86-64.so.2" --library-path "$tools/lib")
-    [ ! -x "$tools/bin/qemu-x86_64" ] || under=("$tools/bin/qemu-x86_64" "${under[@]}")
-    unset "${!QEMU_@}"
+    local page
+    page=$(rt doc) || die "rt does not work here"
+    tools=${page%/*}/toolchain
 }
 
-# build_x86 PROGRAM SOURCE OPTION: by the kit, for x86-64, as Rattle's programs are; it runs under `under`.
+# build_x86 PROGRAM SOURCE OPTION: by the kit, for x86-64 and the machine's C library, as Rattle's programs are.
 build_x86() {
     local lib=$tools/lib
     "$tools/bin/clang" -target x86_64-linux-gnu -std=gnu99 "$3" -fPIC -nostdinc -w -I "$second" -I "$second/include" -c -o "$1.o" "$2" &&
@@ -27,15 +23,13 @@ build_x86() {
             "$1.o" "$lib/libc.so.6" "$lib/libc_nonshared.a" "$lib/libgcc.a" "$lib/crtendS.o" "$lib/crtn.o" || die "$2 does not build"
 }
 
-# build PROGRAM SOURCE OPTION: a program that runs here by its name, in the kit's case by way of a small script.
+# build PROGRAM SOURCE OPTION: a program that runs here by its name.
 build() {
-    if [ "${cc[0]}" != kit ]; then
+    if [ "${cc[0]}" = kit ]; then
+        build_x86 "$@"
+    else
         "${cc[@]}" -std=gnu99 "$3" -w -I "$second" -o "$1" "$2" || die "$2 does not build"
-        return
     fi
-    build_x86 "$1.x86" "$2" "$3"
-    printf '#!/usr/bin/env bash\nexec %s "$@"\n' "$(printf '%q ' "${under[@]}" "$1.x86")" >"$1"
-    chmod +x "$1"
 }
 
 # A compiler can be there and of no use, as clang is on a machine without C's headers.

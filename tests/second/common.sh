@@ -62,8 +62,7 @@ start_of() {
     local said
     said=$("$root/run" "$1" </dev/null 2>&1 | tee >(grep --line-buffered -vx short >&2))
     [ "${said##*$'\n'}" = short ] || die "$name: the program $1 could not be built or run"
-    [ -n "${tools:-}" ] || find_kit
-    command=$(printf '%q ' "${under[@]}" "$root/target/bin/$1")
+    command=$(printf %q "$root/crates/$1/out/$1")
 }
 
 # alike SCRIPT: both programs say the same, byte for byte.
