@@ -17,4 +17,5 @@ driven_for (carries.Read more) m s = driven m s
 driven_for carries.Nothing m s = 0xFF
 
 unfoldable pub stepped : ℕ → Act → List ℕ → Slot → Step
-stepped n a m s = record { slot = slot_next n a s; ack = acks_for (carried a) n s; drives = drives_for (carried a) s; byte = driven_for (carried a) m s }
+stepped n a m s = record
+    { slot = slot_next n a s; ack = acks_for (carried a) n s; drives = drives_for (carried a) s; byte = driven_for (carried a) m s }

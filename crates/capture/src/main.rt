@@ -1,6 +1,6 @@
 // The capture program: a setup, a memory and records with the answers seen on standard input; the verdict on them as a line on standard output. It
 // begins by `opening`, reads a piece at a time, hands what came to `capture_pieces`, and writes what that put at the front of the output: all that
-// decides is said and proved there. The status that a verdict has, the script `run` gives it (the file status).
+// decides is said and proved there. The status that a verdict has, the script `run` gives it (the file statuses).
 #![tactic(auto)]
 
 ghost use Rattle.std.specs.Prelude.{◌≡◌, true, ◌+◌, ◌≤◌, length};

@@ -1,6 +1,6 @@
 // The list program: a setup, a number of answer places and records on standard input; the records given as one list, and a line for each answer
 // place on standard output, or what stands in the way. Its input is bounded: so it is one read, one function, `written`, whose contract says all
-// that is written for what came, and one write. The status that a result has, the script `run` gives it (the file status).
+// that is written for what came, and one write. The status that a result has, the script `run` gives it (the file statuses).
 #![tactic(auto)]
 
 ghost use Rattle.std.specs.Prelude.{◌≡◌, cond, ◌≤◌, ltb, length};

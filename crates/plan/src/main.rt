@@ -1,7 +1,7 @@
 // The plan program: a setup, a memory, a slot, an image and records on standard input; the plan for the slot and the image, after the records, on
 // standard output. It begins by `opening`, reads, runs the records by `reading`, hands what came to `plan_entry` and `plan_pages::text`, and
 // writes what was put at the front of the output: all that decides is said and proved there and in `answer`. The status that a result has, the
-// script `run` gives it (the file status).
+// script `run` gives it (the file statuses).
 #![tactic(auto)]
 
 ghost use Rattle.std.specs.Prelude.{◌≡◌, true, ◌≤◌, length};

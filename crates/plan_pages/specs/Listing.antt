@@ -17,7 +17,8 @@ unfoldable pub hex_byte : ℕ → List ℕ
 hex_byte b = hex_digit (b / 16) ∷ hex_digit (b % 16) ∷ []
 
 unfoldable pub record_line : List ℕ → ℕ → List ℕ
-record_line bs at = hex_byte (get_or bs at 0) ++ hex_byte (get_or bs (at + 1) 0) ++ hex_byte (get_or bs (at + 2) 0) ++ hex_byte (get_or bs (at + 3) 0) ++ 0x0A ∷ []
+record_line bs at = hex_byte (get_or bs at 0) ++ hex_byte (get_or bs (at + 1) 0) ++ hex_byte (get_or bs (at + 2) 0)
+    ++ hex_byte (get_or bs (at + 3) 0) ++ 0x0A ∷ []
 
 unfoldable pub record_lines : List ℕ → ℕ → List ℕ
 record_lines bs zero = []

@@ -83,7 +83,8 @@ module _ (old image : List ℕ) where
     unfoldable pub felt_before : ℕ → Slot → ℕ → Slot
     felt_before n t zero = t
     felt_before n t (suc p) =
-        cond (differs old image p && not (eqb (page_half p) (half_before old image s p))) (feels n (page_half p) (felt_before n t p)) (felt_before n t p)
+        cond (differs old image p && not (eqb (page_half p) (half_before old image s p)))
+        (feels n (page_half p) (felt_before n t p)) (felt_before n t p)
 
     -- the slot itself, and another slot n, t, when pages 0 to p - 1 are done
     unfoldable pub own_before : ℕ → Slot

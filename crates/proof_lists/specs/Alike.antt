@@ -29,7 +29,8 @@ module _ {A : Type 0} where
   every-all p [] h = tt
   every-all p (x ∷ xs) h = (and_left (p x) (all_of p xs) h, every-all p xs (and_right (p x) (all_of p xs) h))
 
-  pub all_of-map : {B : Type 0} (g : A → B) (p : A → Bool) (q : B → Bool) → ((x : A) → p x ≡ true → q (g x) ≡ true) → (xs : List A) → all_of p xs ≡ true
+  pub all_of-map : {B : Type 0} (g : A → B) (p : A → Bool) (q : B → Bool) → ((x : A) → p x ≡ true → q (g x) ≡ true) → (xs : List A)
+      → all_of p xs ≡ true
       → all_of q (map g xs) ≡ true
   unfolding all_of
   all_of-map g p q f [] h = refl

@@ -233,7 +233,12 @@ module _ {A : Type 0} where
   pub filled-step : (d s : List A) (k : ℕ) (z : A) → k < length d → k < length s → set (filled d s k) k (get_or s k z) ≡ filled d s (k + 1)
   unfolding filled
   filled-step d s k z hd hs =
-      rw (add-one, drop-cons d k z, set_at (take k s) (get_or d k z) (drop (suc k) d) (get_or s k z) k (length-take-le k s (omega arith)), take-suc s k z)
+      rw (
+        add-one,
+        drop-cons d k z,
+        set_at (take k s) (get_or d k z) (drop (suc k) d) (get_or s k z) k (length-take-le k s (omega arith)),
+        take-suc s k z,
+      )
       (sym (append_snoc (take k s) (get_or s k z) (drop (suc k) d)))
 
   pub filled-full : (d s : List A) (n : ℕ) → length d ≤ n → length s ≤ n → filled d s n ≡ s
@@ -290,7 +295,8 @@ module _ {A : Type 0} where
       same false = refl
 
   -- one that does is enough, and without one none does
-  pub any_from-some : (p : ℕ → A → Bool) (n : ℕ) (xs : List A) (d : A) (k : ℕ) → k < length xs → p (n + k) (get_or xs k d) ≡ true → any_from p n xs ≡ true
+  pub any_from-some : (p : ℕ → A → Bool) (n : ℕ) (xs : List A) (d : A) (k : ℕ) → k < length xs
+      → p (n + k) (get_or xs k d) ≡ true → any_from p n xs ≡ true
   unfolding any_from
   any_from-some p n (x ∷ xs) d zero l f = rw (rw add-zero at f)
   any_from-some p n (x ∷ xs) d (suc k) (suc-le-suc l) f = rw (any_from-some p (suc n) xs d k l (rw (suc-add, ← add-suc) f)) (or-true (p n x))

@@ -11,8 +11,8 @@ use Rattle.save_rules.specs.Reading
 -- the form of a bench
 unfoldable pub open-form : Unit {0}
 unfolding Form.word_of Form.word_at Form.bits_of Form.bits_in Form.setup_field Form.memory_field Form.state_bytes Form.state_from Form.state_field
-    Form.registers_to Form.sensor_bytes Form.sensor_from Form.sensor_field Form.pending_field Form.older_byte Form.older_from Form.older_field Form.fields
-    Form.field_at Form.share_of Form.shares Form.whole_field Form.needed_to Form.is_there Form.field_bytes Form.form_to Form.form_of
+    Form.registers_to Form.sensor_bytes Form.sensor_from Form.sensor_field Form.pending_field Form.older_byte Form.older_from Form.older_field
+    Form.fields Form.field_at Form.share_of Form.shares Form.whole_field Form.needed_to Form.is_there Form.field_bytes Form.form_to Form.form_of
 open-form = tt
 
 -- everything: saving and reading of known values compute
