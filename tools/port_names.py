@@ -51,7 +51,6 @@ def turned(path, text):
         for was, now in TOGETHER.items():
             before = r"(?<![\w'.-])" if was == FUNCTION else r"(?<![\w'-])"
             text = re.sub(rf"{before}{was}(?![\w'-])", now, text)
-        return spell(text)
     out, at = [], 0
     for m in TEXT.finditer(text):
         out += [spell(text[at : m.start()]), m[0]]

@@ -53,7 +53,8 @@ pub fn piece(bus: Bus, mem: &mut [u8], number: usize, records: &[u8]) -> Checked
         };
         x = bus_event::event_in_range(x.bus, mem, e);
         let model = x.answer;
-        if !agrees(model, seen) {
+        let same = agrees(model, seen);
+        if !same {
             let last = x.bus;
             let record = number + i;
             let verdict = Verdict::Differs {

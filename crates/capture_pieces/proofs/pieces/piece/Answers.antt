@@ -37,13 +37,13 @@ pub overflow_add-record : goal.overflow_add-record
 unfolding captured_at
 overflow_add-record c = let l = c.loop-i in omega (arith, l.invariant.2)
 
-pub returns-then-not-agrees : goal.returns-then-not-agrees
+pub returns-then-not-same : goal.returns-then-not-same
 unfolding captured_at
-returns-then-not-agrees c = let l = c.loop-i in going-differs _ _ _ _ _ _ l.invariant.4 _ c.record_at-e.ensures _ refl _ _ c.event_in_range-x.ensures (sym c.agrees.ensures ∙ c.if-not-agrees.true) (omega arith)
+returns-then-not-same c = let l = c.loop-i in going-differs _ _ _ _ _ _ l.invariant.4 _ c.record_at-e.ensures _ refl _ _ c.event_in_range-x.ensures (sym c.agrees-same.ensures ∙ c.if-not-same.true) (omega arith)
 
 pub loop-i-preserved : goal.loop-i-preserved
 unfolding captured_at
-loop-i-preserved c = let l = c.loop-i in (omega arith, refl, l.invariant.2, omega arith, going_on _ _ _ _ _ _ l.invariant.4 _ c.record_at-e.ensures _ refl _ _ c.event_in_range-x.ensures (sym c.agrees.ensures ∙ c.if-not-agrees.false))
+loop-i-preserved c = let l = c.loop-i in (omega arith, refl, l.invariant.2, omega arith, going_on _ _ _ _ _ _ l.invariant.4 _ c.record_at-e.ensures _ refl _ _ c.event_in_range-x.ensures (sym c.agrees-same.ensures ∙ c.if-not-same.false))
 
 pub returns : goal.returns
 unfolding captured_at
