@@ -226,7 +226,7 @@ pub struct Slot {
     pub voltage: bool,
     pub phase: Phase,
     // The page latch: its bytes, which of them were written, and the place for the next.
-    // Kept: bytes and marks beside each other, document 01's form; a byte without its mark may be handed in and is told as it is (edges hands one in),
+    // Kept: bytes and marks beside each other, document 01's form; a byte with no mark may be handed in and is told as it is (edges hands one in),
     // and theorems on "every state" speak of it: optional bytes would leave out states.
     pub latch: [u8; 16],
     pub marks: [bool; 16],
