@@ -21,14 +21,9 @@ pub fn carried(a: Act) -> Carried
     ensures { result ≡ carried a }
 {
     match a {
-        Act::Start => Carried::Nothing,
         Act::Byte(b) => Carried::Byte(b),
         Act::Read(more) => Carried::Read(more),
-        Act::Stop => Carried::Nothing,
-        Act::Timeout => Carried::Nothing,
-        Act::Tick => Carried::Nothing,
-        Act::Power(_) => Carried::Nothing,
-        Act::Apply(_, _) => Carried::Nothing,
+        Act::Start | Act::Stop | Act::Timeout | Act::Tick | Act::Power(_) | Act::Apply(_, _) => Carried::Nothing,
     }
 }
 
@@ -38,8 +33,7 @@ pub fn heard_in(c: Carried) -> Heard
 {
     match c {
         Carried::Byte(b) => bus_control::hear(b),
-        Carried::Read(_) => Heard::Nothing,
-        Carried::Nothing => Heard::Nothing,
+        Carried::Read(_) | Carried::Nothing => Heard::Nothing,
     }
 }
 
@@ -47,23 +41,14 @@ pub fn heard_in(c: Carried) -> Heard
 pub fn carrying(c: Carried) -> bool
     ensures { result ≡ carrying c }
 {
-    match c {
-        Carried::Byte(_) => true,
-        Carried::Read(_) => true,
-        Carried::Nothing => false,
-    }
+    matches!(c, Carried::Byte(_) | Carried::Read(_))
 }
 
 // The slot is idle or deaf.
 fn unheard(s: Slot) -> bool
     ensures { result ≡ true → Unheard (standing s) }
 {
-    let p = bus_slot::phase::standing(s);
-    match p {
-        Phase::Idle => true,
-        Phase::Deaf => true,
-        _ => false,
-    }
+    matches!(bus_slot::phase::standing(s), Phase::Idle | Phase::Deaf)
 }
 
 // Of a slot whose exchange holds nothing of it a start, stop or timeout changes the phase alone.
@@ -71,15 +56,14 @@ fn at_signal(next: Phase, s: Slot) -> Change
     ensures { result ≡ cond (absent s) Change.Nothing
         (cond ((traits (standing s)).sensor || (traits (standing s)).command || (traits (standing s)).takes) Change.More (Change.To next)) }
 {
+    let t = bus_slot::phase::traits(bus_slot::phase::standing(s));
     if s.kind == 0 {
-        return Change::Nothing;
+        Change::Nothing
+    } else if t.sensor | t.command | t.takes {
+        Change::More
+    } else {
+        Change::To(next)
     }
-    let p = bus_slot::phase::standing(s);
-    let t = bus_slot::phase::traits(p);
-    if t.sensor | t.command | t.takes {
-        return Change::More;
-    }
-    Change::To(next)
 }
 
 // A slot that does not acknowledge its control byte goes deaf; h is what that asks for by document 01.
@@ -87,15 +71,11 @@ fn at_control(b: u8, h: Heard, n: SlotNo, s: Slot) -> Change
     requires { h ≡ heard_of b }
     ensures { Foreseen result n.0 (Act.Byte b) s }
 {
-    let p = bus_slot::phase::standing(s);
-    match p {
-        Phase::Control => {
-            if bus_slot::obey::acks_control(bus_control::heard_by(h, n, b, s), n, s) {
-                return Change::More;
-            }
-            Change::To(Phase::Deaf)
-        }
-        _ => Change::More,
+    let controls = matches!(bus_slot::phase::standing(s), Phase::Control);
+    if !controls || bus_slot::obey::acks_control(bus_control::heard_by(h, n, b, s), n, s) {
+        Change::More
+    } else {
+        Change::To(Phase::Deaf)
     }
 }
 
@@ -104,9 +84,10 @@ fn at_tick(n: SlotNo, s: Slot) -> Change
     ensures { Foreseen result n.0 Act.Tick s }
 {
     if s.left == 0 {
-        return Change::Nothing;
+        Change::Nothing
+    } else {
+        Change::More
     }
-    Change::More
 }
 
 // What is applied to one slot touches the slot that it names.
@@ -114,9 +95,10 @@ fn at_one(k: SlotNo, n: SlotNo) -> Change
     ensures { result ≡ cond (eqb k.0 n.0) Change.More Change.Nothing }
 {
     if k.0 == n.0 {
-        return Change::More;
+        Change::More
+    } else {
+        Change::Nothing
     }
-    Change::Nothing
 }
 
 // What can be told of slot n's step at an act; whether it carries a byte or a read, and what that asks for, are the same for every slot, and
@@ -131,11 +113,10 @@ pub fn glance(a: Act, carries: bool, h: Heard, n: SlotNo, s: Slot) -> Change
     match a {
         Act::Start => at_signal(Phase::Control, s),
         Act::Byte(b) => at_control(b, h, n, s),
-        Act::Read(_) => Change::More,
         Act::Stop => at_signal(Phase::Idle, s),
         Act::Timeout => at_signal(Phase::Idle, s),
         Act::Tick => at_tick(n, s),
-        Act::Power(_) => Change::More,
+        Act::Read(_) | Act::Power(_) => Change::More,
         Act::Apply(k, _) => at_one(k, n),
     }
 }

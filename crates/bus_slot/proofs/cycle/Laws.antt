@@ -17,9 +17,9 @@ use Rattle.rules.specs.Memory.{ended, ticked, put_up_to, stored, ticked_part}
 use Rattle.rules.proofs.Document.Cycle.{idle-tick, idle-tick-part}
 
 -- the latch is stored one byte a turn
-pub put-none : (latch : List ℕ) (marks : List Bool) (at : ℕ) (m : List ℕ) → m ≡ put_up_to latch marks at 0 m
+pub put_none : (latch : List ℕ) (marks : List Bool) (at : ℕ) (m : List ℕ) → m ≡ put_up_to latch marks at 0 m
 unfolding put_up_to
-put-none latch marks at m = refl
+put_none latch marks at m = refl
 
 pub put_step : (latch : List ℕ) (marks : List Bool) (at k : ℕ) (m : List ℕ)
     → put_up_to latch marks at (k + 1) m ≡ cond (get_or marks k false) (set (put_up_to latch marks at k m) (at + k) (get_or latch k 0)) (put_up_to latch marks at k m)

@@ -8,7 +8,7 @@ use mathlib.Core.List.{List}
 use lib.Dec.{eqb, ltb}
 use lib.ListN.{length, get_or, set}
 use borrow.Author.Tests.{eq-eqb, ne_eqb, eqb-true}
-use Rattle.proof_lists.specs.Each.{map_to, map_to-none, map_to-step, map_to-same, map_to-full}
+use Rattle.proof_lists.specs.Each.{map_to, map_to-none, map_to-next, map_to-step, map_to-same, map_to-full}
 use Rattle.proof_lists.specs.Tests.{or_cases, or_left_false, or_right_false}
 use Rattle.rules.specs.declared.Cut.{Cut}
 use Rattle.rules.specs.declared.Act.TheVariants.{Power}
@@ -34,13 +34,21 @@ unfolding latched_below
 chosen_none k marks = (map_to-none (chosen k marks) 0 marks, refl)
 
 module _ (k : Cut) (marks : List Bool) (i : ℕ) (first : List Bool) (below : ℕ) (l : i < length marks) (c : Chosen k marks i first below) where
-  pub turn-latched : get_or marks i false ≡ true → Chosen k marks (i + 1) (set first i (ltb below k.0)) (below + 1)
-  unfolding latched_below
-  turn-latched e = (rw (c.0, c.1) (rw e at (map_to-step (chosen k marks) i marks false l)), ap (◌+ 1) c.1 ∙ add-one (latched_below marks i) ∙ sym (ap (latched_below marks) (add-one i) ∙ rw e))
+  -- the next place is still as it was
+  next : get_or first i false ≡ get_or marks i false
+  next = rw c.0 (map_to-next (chosen k marks) 0 i marks false)
 
-  pub turn-empty : get_or marks i false ≡ false → Chosen k marks (i + 1) first below
+  pub turn-latched : get_or first i false ≡ true → Chosen k marks (i + 1) (set first i (ltb below k.0)) (below + 1)
   unfolding latched_below
-  turn-empty e = (c.0 ∙ map_to-same (chosen k marks) i marks false l (rw e), c.1 ∙ sym (ap (latched_below marks) (add-one i) ∙ rw e))
+  turn-latched f =
+      let e : get_or marks i false ≡ true = sym next ∙ f in
+      (rw (c.0, c.1) (rw e at (map_to-step (chosen k marks) i marks false l)), ap (◌+ 1) c.1 ∙ add-one (latched_below marks i) ∙ sym (ap (latched_below marks) (add-one i) ∙ rw e))
+
+  pub turn-empty : get_or first i false ≡ false → Chosen k marks (i + 1) first below
+  unfolding latched_below
+  turn-empty f =
+      let e : get_or marks i false ≡ false = sym next ∙ f in
+      (c.0 ∙ map_to-same (chosen k marks) i marks false l (rw e), c.1 ∙ sym (ap (latched_below marks) (add-one i) ∙ rw e))
 
 pub chosen-all : (k : Cut) (marks : List Bool) (i : ℕ) (first : List Bool) (below : ℕ) → length marks ≤ i → Chosen k marks i first below → first ≡ first_of k marks
 unfolding first_of
