@@ -6,6 +6,7 @@ ghost use Rattle.rules.specs.Refusals.{slot_in_range};
 ghost use Rattle.bus_slots.specs.Taken.{taken_then};
 
 use super::foreseen::Change;
+use super::line::Line;
 use super::shown::Shown;
 use super::{foreseen, shown, step};
 use rules::{Act, Bus, Outcome, Slot, SlotNo};
@@ -17,34 +18,28 @@ pub fn taken(slots: [Slot; 8], mem: &mut [u8], a: Act) -> Outcome
     requires { (all_of slot_in_range slots ≡ true) × (length mem.old ≡ memory_bytes) }
     ensures { taken_then (record { slots = slots }) mem.old a ≡ (result, mem.new) }
 {
-    let c = foreseen::carried(a);
-    let carries = foreseen::carrying(c);
-    let h = foreseen::heard_in(c);
+    let line = Line::new(a);
     let mut all = slots;
     let mut shown = Shown {
         ack: false,
-        driven: false,
-        byte: 255,
+        byte: None,
     };
-    for i in 0..8u8 {
-        let at = i as usize;
-        let change = foreseen::glance(a, carries, h, SlotNo(i), all[at]);
+    for (i, slot) in all.iter_mut().enumerate() {
+        let n = SlotNo(i as u8);
+        let change = foreseen::glance(line, n, *slot);
         match change {
             Change::Nothing => {}
-            Change::To(p) => {
-                all[at] = bus_slot::phase::in_phase(p, all[at]);
-            }
+            Change::To(p) => *slot = bus_slot::phase::in_phase(p, *slot),
             Change::More => {
-                let from = Slot::BYTES * at;
+                let from = Slot::BYTES * i;
                 let to = from + Slot::BYTES;
-                let x = step::next(a, SlotNo(i), h, all[at], &mut mem[from..to]);
-                let next = x.slot;
-                all[at] = next;
-                shown = shown::joined(shown, x.ack, x.drives, x.byte);
+                let x = step::next(line, n, *slot, &mut mem[from..to]);
+                *slot = x.slot;
+                shown = shown::joined(shown, x.ack, x.byte);
             }
         }
     }
-    let answer = shown::answer_of(c, shown);
+    let answer = shown::answer_of(line.carries, shown);
     Outcome {
         bus: Bus { slots: all },
         answer,

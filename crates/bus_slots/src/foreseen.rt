@@ -1,12 +1,15 @@
 // What can be told of a slot's step at an act before it is done: most slots stay where they are, or only move to another phase.
+#![tactic(auto, unfolding(rules::specs::Modelled::absent, crate::specs::Foreseen::Foreseen))]
+
 ghost use Rattle.std.specs.Prelude.{◌≡◌, true, cond, ◌||◌, eqb};
 ghost use Rattle.rules.specs.Control.{heard_of};
 ghost use Rattle.rules.specs.Slot.{traits, standing};
 ghost use Rattle.rules.specs.Modelled.{absent};
-ghost use Rattle.bus_slots.specs.Foreseen.{heard_in, carrying, Unheard, Foreseen};
-ghost use Rattle.rules.specs.Events.{carried};
+ghost use Rattle.bus_slots.specs.Foreseen.{Unheard, Foreseen};
 
-use rules::{Act, Carried, Heard, Phase, Slot, SlotNo};
+use super::line;
+use super::line::Line;
+use rules::{Act, Heard, Phase, Slot, SlotNo};
 
 // The slot stays, or moves to another phase and no more, and shows nothing; or there is more to it.
 #[derive(Clone, Copy)]
@@ -14,34 +17,6 @@ pub enum Change {
     Nothing,
     To(Phase),
     More,
-}
-
-// What an act carries over the wires.
-pub fn carried(a: Act) -> Carried
-    ensures { result ≡ carried a }
-{
-    match a {
-        Act::Byte(b) => Carried::Byte(b),
-        Act::Read(more) => Carried::Read(more),
-        Act::Start | Act::Stop | Act::Timeout | Act::Tick | Act::Power(_) | Act::Apply(_, _) => Carried::Nothing,
-    }
-}
-
-// What a control byte asks for, if a byte is carried.
-pub fn heard_in(c: Carried) -> Heard
-    ensures { result ≡ heard_in c }
-{
-    match c {
-        Carried::Byte(b) => bus_control::hear(b),
-        Carried::Read(_) | Carried::Nothing => Heard::Nothing,
-    }
-}
-
-// Whether it is a byte or a read, which concern no slot but those that listen.
-pub fn carrying(c: Carried) -> bool
-    ensures { result ≡ carrying c }
-{
-    matches!(c, Carried::Byte(_) | Carried::Read(_))
 }
 
 // The slot is idle or deaf.
@@ -71,11 +46,10 @@ fn at_control(b: u8, h: Heard, n: SlotNo, s: Slot) -> Change
     requires { h ≡ heard_of b }
     ensures { Foreseen result n.0 (Act.Byte b) s }
 {
-    let controls = matches!(bus_slot::phase::standing(s), Phase::Control);
-    if !controls || bus_slot::obey::acks_control(bus_control::heard_by(h, n, b, s), n, s) {
-        Change::More
-    } else {
-        Change::To(Phase::Deaf)
+    match bus_slot::phase::standing(s) {
+        Phase::Control if !bus_slot::obey::acks_control(bus_control::heard_by(h, n, b, s), n, s) =>
+            Change::To(Phase::Deaf),
+        _ => Change::More,
     }
 }
 
@@ -101,20 +75,17 @@ fn at_one(k: SlotNo, n: SlotNo) -> Change
     }
 }
 
-// What can be told of slot n's step at an act; whether it carries a byte or a read, and what that asks for, are the same for every slot, and
-// are given.
-pub fn glance(a: Act, carries: bool, h: Heard, n: SlotNo, s: Slot) -> Change
-    requires { (carries ≡ carrying (carried a)) × (h ≡ heard_in (carried a)) }
-    ensures { Foreseen result n.0 a s }
+// What can be told of slot n's step at an act.
+pub fn glance(line: Line, n: SlotNo, s: Slot) -> Change
+    ensures { Foreseen result n.0 line.act s }
 {
-    if carries & unheard(s) {
+    if line::carrying(line.carries) & unheard(s) {
         return Change::Nothing;
     }
-    match a {
+    match line.act {
         Act::Start => at_signal(Phase::Control, s),
-        Act::Byte(b) => at_control(b, h, n, s),
-        Act::Stop => at_signal(Phase::Idle, s),
-        Act::Timeout => at_signal(Phase::Idle, s),
+        Act::Byte(b) => at_control(b, line.heard, n, s),
+        Act::Stop | Act::Timeout => at_signal(Phase::Idle, s),
         Act::Tick => at_tick(n, s),
         Act::Read(_) | Act::Power(_) => Change::More,
         Act::Apply(k, _) => at_one(k, n),

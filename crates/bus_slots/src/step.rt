@@ -1,13 +1,14 @@
 // One slot at an event of any kind: what it does, and what it shows. It looks at no other slot.
+#![tactic(auto, unfolding(rules::specs::Slot::slot_next, rules::specs::Slot::present_next, rules::specs::Slot::part_next, crate::specs::Stepped::stepped, bus_slot::specs::ReadOut::read_out, bus_slot::specs::Heeded::heeded, bus_slot::specs::Signals::act_for, bus_slot::specs::Signals::signalled))]
+
 ghost use Rattle.std.specs.Prelude.{◌≡◌, true, false, cond, length};
 ghost use Rattle.rules.specs.Control.{heard_of};
 ghost use Rattle.rules.specs.Slot.{slot_next, acks, drives, driven, part_next};
 ghost use Rattle.rules.specs.Modelled.{slot_bytes};
 ghost use Rattle.rules.specs.Refusals.{slot_in_range};
-ghost use Rattle.rules.specs.Events.{carried};
-ghost use Rattle.bus_slots.specs.Foreseen.{heard_in};
 ghost use Rattle.bus_slots.specs.Stepped.{stepped};
 
+use super::line::Line;
 use bus_slot::drive::Drive;
 use bus_slot::obey::Heed;
 use bus_slot::signal::Signal;
@@ -38,7 +39,11 @@ fn heeding(b: u8, h: Heard, n: SlotNo, s: Slot) -> Step
     ensures { result ≡ record { slot = slot_next n.0 (Act.Byte b) s; ack = acks n.0 b s; byte = None } }
 {
     let Heed { slot, ack } = bus_slot::listen::byte(s, n, b, bus_control::heard_by(h, n, b, s));
-    Step { slot, ack, byte: None }
+    Step {
+        slot,
+        ack,
+        byte: None,
+    }
 }
 
 // A step at a read.
@@ -47,7 +52,11 @@ fn driving(more: bool, s: Slot, part: &[u8]) -> Step
     ensures { result ≡ record { slot = slot_next 0 (Act.Read more) s; ack = false; byte = cond (drives s) (Some (driven part.now s)) None } }
 {
     let Drive { slot, byte } = bus_slot::drive::read(s, part, more);
-    Step { slot, ack: false, byte }
+    Step {
+        slot,
+        ack: false,
+        byte,
+    }
 }
 
 // The step at what is applied to slot k.
@@ -62,13 +71,13 @@ fn applied(k: SlotNo, x: Applied, n: SlotNo, s: Slot) -> Step
 }
 
 // Slot n's step at an act; part is its own 512 bytes, which a tick and a power cycle may change.
-pub fn next(a: Act, n: SlotNo, h: Heard, s: Slot, part: &mut [u8]) -> Step
-    requires { (h ≡ heard_in (carried a)) × (slot_in_range s ≡ true) × (length part.old ≡ slot_bytes) }
-    ensures { (result ≡ stepped n.0 a part.old s) × (part.new ≡ part_next a s part.old) }
+pub fn next(line: Line, n: SlotNo, s: Slot, part: &mut [u8]) -> Step
+    requires { (slot_in_range s ≡ true) × (length part.old ≡ slot_bytes) }
+    ensures { (result ≡ stepped n.0 line.act part.old s) × (part.new ≡ part_next line.act s part.old) }
 {
-    match a {
+    match line.act {
         Act::Start => quiet(bus_slot::signal::signalled(Signal::Start, s)),
-        Act::Byte(b) => heeding(b, h, n, s),
+        Act::Byte(b) => heeding(b, line.heard, n, s),
         Act::Read(more) => driving(more, s, part),
         Act::Stop => quiet(bus_slot::signal::signalled(Signal::Stop, s)),
         Act::Timeout => quiet(bus_slot::signal::signalled(Signal::Timeout, s)),
