@@ -41,7 +41,9 @@ const COMMANDS: [Row; ROWS] = [
 fn look_up(rows: &[Row], b: u8) -> Heard
     ensures { result ≡ found_in rows.now b }
 {
-    rows.iter().find(|row| row.0 == b).map_or(Heard::Nothing, |row| row.1)
+    rows.iter()
+        .find(|row| row.0 == b)
+        .map_or(Heard::Nothing, |row| row.1)
 }
 
 // The command of a control byte, by the table.
@@ -117,5 +119,9 @@ pub fn heard_by(h: Heard, n: SlotNo, b: u8, s: Slot) -> Heard
     requires { h ≡ heard_of b }
     ensures { result ≡ heard_by n.0 b s }
 {
-    if (s.kind == 3) & (b / 16 == 6) { older_command(n, b, s) } else { h }
+    if s.is_older() & (b / 16 == 6) {
+        older_command(n, b, s)
+    } else {
+        h
+    }
 }

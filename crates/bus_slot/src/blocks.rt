@@ -58,7 +58,7 @@ pub fn to_come(coming: [bool; 4], lasting: bool, s: Slot) -> Slot
 pub fn pin_on(s: Slot) -> bool
     ensures { result ≡ pin_on s }
 {
-    (s.kind == 3) & s.old.pin
+    s.is_older() & s.old.pin
 }
 
 // The block of the next data byte is protected, or the write-protect pin is on.

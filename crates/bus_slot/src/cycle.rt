@@ -66,7 +66,7 @@ fn put(part: &mut [u8], at: usize, latch: [u8; 16], marks: [bool; 16])
 fn brought(s: Slot) -> [bool; 4]
     ensures { result ≡ brought s }
 {
-    if s.kind == 3 {
+    if s.is_older() {
         [
             s.coming[0] | s.old.permanent | s.old.lasting,
             false,
@@ -107,7 +107,7 @@ pub fn tick(s: Slot, part: &mut [u8]) -> Slot
     requires { (slot_in_range s ≡ true) × (length part.old ≡ slot_bytes) }
     ensures { (result ≡ slot_next 0 Act.Tick s) × (part.new ≡ ticked_part s part.old) }
 {
-    if s.kind == 0 {
+    if s.is_absent() {
         return s;
     }
     match s.left {

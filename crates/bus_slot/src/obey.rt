@@ -37,8 +37,8 @@ fn acks_heard(h: Heard, n: SlotNo, s: Slot) -> bool
     ensures { result ≡ acks_heard h n.0 s }
 {
     match h {
-        Heard::Memory { select, .. } => select.0 == n.0,
-        Heard::Sensor { select, .. } => (select.0 == n.0) & (s.kind == 2),
+        Heard::Memory { select, .. } => select == n,
+        Heard::Sensor { select, .. } => (select == n) & s.has_sensor(),
         Heard::Protect(k) => s.voltage & !blocks::protects(k, s),
         Heard::ClearAll => s.voltage,
         Heard::ReadProtection(k) => !blocks::protects(k, s),

@@ -69,7 +69,7 @@ pub fn standing(s: Slot) -> Phase
     ensures { result ≡ standing s }
 {
     let t = traits(s.phase);
-    if (s.kind == 0) | (t.sensor & (s.kind != 2)) {
+    if s.is_absent() | (t.sensor & !s.has_sensor()) {
         Phase::Deaf
     } else {
         s.phase

@@ -15,7 +15,7 @@ fn switched(on: bool, s: Slot) -> Slot
 {
     let p = phase::standing(s);
     let t = phase::traits(p);
-    let endures = (s.kind == 3) & s.old.lasting;
+    let endures = s.is_older() & s.old.lasting;
     let left = if t.command & s.voltage & !on & !endures {
         leaving::lost(p, s)
     } else {
@@ -31,7 +31,7 @@ fn switched(on: bool, s: Slot) -> Slot
 fn heated(t: i16, s: Slot) -> Slot
     ensures { result ≡ heated t s }
 {
-    if s.kind != 2 {
+    if !s.has_sensor() {
         return s;
     }
     Slot {
@@ -44,7 +44,7 @@ fn heated(t: i16, s: Slot) -> Slot
 fn shielded(on: bool, s: Slot) -> Slot
     ensures { result ≡ shielded on s }
 {
-    if s.kind != 3 {
+    if !s.is_older() {
         return s;
     }
     Slot {
@@ -57,7 +57,7 @@ fn shielded(on: bool, s: Slot) -> Slot
 pub fn applied(x: Applied, s: Slot) -> Slot
     ensures { result ≡ cond (absent s) s (applied x s) }
 {
-    if s.kind == 0 {
+    if s.is_absent() {
         return s;
     }
     match x {

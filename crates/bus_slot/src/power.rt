@@ -61,7 +61,7 @@ pub fn cut(k: Cut, s: Slot, part: &mut [u8]) -> Slot
     requires { (slot_in_range s ≡ true) × (length part.old ≡ slot_bytes) }
     ensures { (result ≡ slot_next 0 (Act.Power k) s) × (part.new ≡ cut_part k s part.old) }
 {
-    if s.kind == 0 {
+    if s.is_absent() {
         s
     } else if (s.left == 0) | (k.0 == 0) {
         powered(s)

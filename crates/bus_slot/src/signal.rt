@@ -42,7 +42,7 @@ pub enum Signal {
 pub fn signalled(x: Signal, s: Slot) -> Slot
     ensures { result ≡ signalled x s }
 {
-    if s.kind == 0 {
+    if s.is_absent() {
         return s;
     }
     let p = phase::standing(s);

@@ -32,7 +32,7 @@ fn at_signal(next: Phase, s: Slot) -> Change
         (cond ((traits (standing s)).sensor || (traits (standing s)).command || (traits (standing s)).takes) Change.More (Change.To next)) }
 {
     let t = bus_slot::phase::traits(bus_slot::phase::standing(s));
-    if s.kind == 0 {
+    if s.is_absent() {
         Change::Nothing
     } else if t.sensor | t.command | t.takes {
         Change::More
@@ -68,7 +68,7 @@ fn at_tick(n: SlotNo, s: Slot) -> Change
 fn at_one(k: SlotNo, n: SlotNo) -> Change
     ensures { result ≡ cond (eqb k.0 n.0) Change.More Change.Nothing }
 {
-    if k.0 == n.0 {
+    if k == n {
         Change::More
     } else {
         Change::Nothing

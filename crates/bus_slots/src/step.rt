@@ -63,7 +63,7 @@ fn driving(more: bool, s: Slot, part: &[u8]) -> Step
 fn applied(k: SlotNo, x: Applied, n: SlotNo, s: Slot) -> Step
     ensures { result ≡ record { slot = slot_next n.0 (Act.Apply k x) s; ack = false; byte = None } }
 {
-    if k.0 == n.0 {
+    if k == n {
         quiet(bus_slot::pins::applied(x, s))
     } else {
         quiet(s)

@@ -1,7 +1,7 @@
 -- The definitions in the form in which a function's proof asks for them: a premise for each fact of the way to a return.
 -- Assumes nothing.
 use mathlib.Core.Path.{◌≡◌, refl, sym, ◌∙◌, ap}
-use mathlib.Core.Bool.{Bool, false, cond}
+use mathlib.Core.Bool.{Bool, true, false, cond}
 use mathlib.Core.List.{List}
 use Prim.Native.Nat.{ℕ, ◌+◌, ◌-◌, ◌*◌, ◌/◌}
 use native.Mathlib.Numerals.{add-one}
@@ -37,21 +37,21 @@ AfterTick s m r q = (r ≡ slot_next 0 Tick s) × (q ≡ ticked_part s m)
 
 module _ (s r : Slot) (m q : List ℕ) where
   -- no slot, so nothing is touched
-  pub tick-absent : s.kind ≡ 0 → r ≡ s → q ≡ m → AfterTick s m r q
-  unfolding slot_next ticked_part absent
-  tick-absent k e f = (rw (eq-eqb _ _ k) e, rw (eq-eqb _ _ k) f)
+  pub tick-absent : absent s ≡ true → r ≡ s → q ≡ m → AfterTick s m r q
+  unfolding slot_next ticked_part
+  tick-absent k e f = (rw k e, rw k f)
 
   -- the cycle ends
-  pub tick-ends : (s.kind ≡ 0 → ⊥) → s.left ≡ 1 → r ≡ ended s → q ≡ stored s m → AfterTick s m r q
-  unfolding slot_next present_next ticked ticked_part absent
-  tick-ends k l e f = (rw (ne_eqb _ _ k, eq-eqb _ _ l) e, rw (ne_eqb _ _ k, eq-eqb _ _ l) f)
+  pub tick-ends : absent s ≡ false → s.left ≡ 1 → r ≡ ended s → q ≡ stored s m → AfterTick s m r q
+  unfolding slot_next present_next ticked ticked_part
+  tick-ends k l e f = (rw (k, eq-eqb _ _ l) e, rw (k, eq-eqb _ _ l) f)
 
   -- it goes on
-  pub tick-waits : (s.kind ≡ 0 → ⊥) → (s.left ≡ 1 → ⊥) → r ≡ with_left (s.left - 1) s → q ≡ m → AfterTick s m r q
-  unfolding slot_next present_next ticked ticked_part absent
-  tick-waits k l e f = (rw (ne_eqb _ _ k, ne_eqb _ _ l) e, rw (ne_eqb _ _ k, ne_eqb _ _ l) f)
+  pub tick-waits : absent s ≡ false → (s.left ≡ 1 → ⊥) → r ≡ with_left (s.left - 1) s → q ≡ m → AfterTick s m r q
+  unfolding slot_next present_next ticked ticked_part
+  tick-waits k l e f = (rw (k, ne_eqb _ _ l) e, rw (k, ne_eqb _ _ l) f)
 
   -- there is none
-  pub tick-rests : (s.kind ≡ 0 → ⊥) → s.left ≡ 0 → r ≡ s → q ≡ m → AfterTick s m r q
+  pub tick-rests : absent s ≡ false → s.left ≡ 0 → r ≡ s → q ≡ m → AfterTick s m r q
   unfolding part_next
   tick-rests k l e f = (e ∙ sym (idle-tick 0 s l), f ∙ sym (idle-tick-part s m l))

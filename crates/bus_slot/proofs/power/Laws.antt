@@ -70,25 +70,25 @@ AfterCut k s m r q = (r ≡ slot_next 0 (Power k) s) × (q ≡ cut_part k s m)
 
 module _ (k : Cut) (s r : Slot) (m q : List ℕ) where
   -- no slot, so nothing is touched
-  pub power-absent : s.kind ≡ 0 → r ≡ s → q ≡ m → AfterCut k s m r q
-  unfolding slot_next cut_part absent
-  power-absent a e f = (rw (eq-eqb _ _ a) e, rw (eq-eqb _ _ a) f)
+  pub power-absent : absent s ≡ true → r ≡ s → q ≡ m → AfterCut k s m r q
+  unfolding slot_next cut_part
+  power-absent a e f = (rw a e, rw a f)
 
   abbrev unstored : Bool
   unstored = eqb s.left 0 || eqb k.0 0
 
   -- no cycle runs, or it is dropped
-  pub power-rests : (s.kind ≡ 0 → ⊥) → unstored ≡ true → r ≡ powered s → q ≡ m → AfterCut k s m r q
-  unfolding part_next running absent
+  pub power-rests : absent s ≡ false → unstored ≡ true → r ≡ powered s → q ≡ m → AfterCut k s m r q
+  unfolding part_next running
   power-rests a l e f =
-      let u = or_cases (eqb s.left 0) (eqb k.0 0) l (λ z. no-cycle 0 k s m (ne_eqb _ _ a) (rw z)) (λ z. with_none 0 k s m (ne_eqb _ _ a) (eqb-true k.0 0 z)) in
+      let u = or_cases (eqb s.left 0) (eqb k.0 0) l (λ z. no-cycle 0 k s m a (rw z)) (λ z. with_none 0 k s m a (eqb-true k.0 0 z)) in
       (e ∙ sym u.0, f ∙ sym u.1)
 
   -- one is cut short
-  pub power-cuts : (s.kind ≡ 0 → ⊥) → unstored ≡ false → (x y : Slot) → x ≡ cut k s → y ≡ ended x → q ≡ stored x m → r ≡ powered y → AfterCut k s m r q
-  unfolding slot_next present_next power_cut finished cut_part running absent
+  pub power-cuts : absent s ≡ false → unstored ≡ false → (x y : Slot) → x ≡ cut k s → y ≡ ended x → q ≡ stored x m → r ≡ powered y → AfterCut k s m r q
+  unfolding slot_next present_next power_cut finished cut_part running
   power-cuts a l x y e f g h =
       let runs = or_left_false (eqb s.left 0) (eqb k.0 0) l in (
-        rw (ne_eqb _ _ a, runs, or_right_false (eqb s.left 0) (eqb k.0 0) l) (h ∙ ap powered (f ∙ ap ended e ∙ cut-ends k s)),
-        rw (ne_eqb _ _ a, runs) (g ∙ ap (λ (z : Slot). stored z m) e),
+        rw (a, runs, or_right_false (eqb s.left 0) (eqb k.0 0) l) (h ∙ ap powered (f ∙ ap ended e ∙ cut-ends k s)),
+        rw (a, runs) (g ∙ ap (λ (z : Slot). stored z m) e),
       )

@@ -20,10 +20,10 @@ loop-mark-preserved c =
     elim c.if-mark.branch [
       | then-mark w ↦ (let t = turn-latched a.k a.marks l.mark-index l.mark-items l.below (omega arith) l.invariant w.if-mark.true in (w.mark-items-is ∙ t.0, w.below-is ∙ t.1))
       | else-mark w ↦ (
-        let t = turn-empty a.k a.marks l.mark-index l.mark-items l.below (omega arith) l.invariant w.if-mark.false in
-        let z : c.if-mark.mark-items ≡ set l.mark-items l.mark-index (get_or l.mark-items l.mark-index false) = w.mark-items-is in
-        (z ∙ set-get_or l.mark-items l.mark-index false ∙ t.0, w.below-is ∙ t.1)
-      )
+          let t = turn-empty a.k a.marks l.mark-index l.mark-items l.below (omega arith) l.invariant w.if-mark.false in
+          let z : c.if-mark.mark-items ≡ set l.mark-items l.mark-index (get_or l.mark-items l.mark-index false) = w.mark-items-is in
+          (z ∙ set-get_or l.mark-items l.mark-index false ∙ t.0, w.below-is ∙ t.1)
+          )
     ]
 
 pub returns : goal.returns

@@ -1,7 +1,7 @@
 use Rattle.std.proofs.Common.{◌≡◌, ◌∙◌, refl, arith, ◌+◌, ◌*◌, ◌<◌, ◌≤◌, length, get_or, length-take, length-drop}
 use Rattle.std.proofs.Math.ListN.{set}
 use Rattle.std.proofs.lemmas.List.{set-get_or}
-use Rattle.proof_lists.specs.Each.{all_of-at}
+use Rattle.proof_lists.specs.Each.{list_all-at}
 use Rattle.rules.specs.Refusals.{slot_in_range}
 use Rattle.rules.proofs.Past.{no_slot}
 use Rattle.bus_slots.proofs.every.Laws.{turned_none, turned-all, turn-nothing, turn-to, turn_more, old}
@@ -18,7 +18,7 @@ next-x-requires c =
     let h : l.i < length g.slots = omega arith in
     let r : 512 * (l.i + 1) ≤ length g.mem.now = omega arith in
     let t = l.invariant in (
-      rw (old _ g.slots g.mem.now l.i h r l.slot-items l.mem l.shown.ack l.shown.byte t.1) (all_of-at slot_in_range l.i g.slots no_slot h c.requires.0),
+      rw (old _ g.slots g.mem.now l.i h r l.slot-items l.mem l.shown.ack l.shown.byte t.1) (list_all-at slot_in_range l.i g.slots no_slot h c.requires.0),
       simp (length-take, length-drop) (omega (arith, t.0)),
     )
 
