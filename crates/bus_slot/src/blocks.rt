@@ -6,7 +6,6 @@ ghost use Rattle.rules.specs.Fields.{to_come};
 ghost use Rattle.rules.specs.Modelled.{address_of};
 ghost use Rattle.rules.specs.Control.{protects};
 ghost use Rattle.rules.specs.Memory.{pin_on, guarded};
-ghost use Rattle.rules.specs.Refusals.{slot_in_range};
 
 use rules::{Address, BlockNo, Older, Slot};
 
@@ -18,10 +17,10 @@ pub fn address_of(s: Slot) -> Address
 }
 
 // What stands for a block; a block above 3 is not there.
-fn block_at(k: BlockNo, blocks: [bool; 4]) -> bool
-    ensures { result ≡ get_or blocks k.0 false }
+fn block_at(k: usize, blocks: [bool; 4]) -> bool
+    ensures { result ≡ get_or blocks k false }
 {
-    blocks.get(usize::from(k.0)).copied().unwrap_or(false)
+    blocks.get(k).copied().unwrap_or(false)
 }
 
 // The blocks with one more.
@@ -40,7 +39,7 @@ pub fn with_block(k: BlockNo, blocks: [bool; 4]) -> [bool; 4]
 pub fn protects(k: BlockNo, s: Slot) -> bool
     ensures { result ≡ protects k s }
 {
-    block_at(k, s.protection)
+    block_at(usize::from(k.0), s.protection)
 }
 
 // The slot with a protection to come, and whether that will be permanent.
@@ -63,9 +62,8 @@ pub fn pin_on(s: Slot) -> bool
 
 // The block of the next data byte is protected, or the write-protect pin is on.
 pub fn guarded(s: Slot) -> bool
-    requires { slot_in_range s ≡ true }
     ensures { result ≡ guarded s }
 {
     let Address(a) = address_of(s);
-    protects(BlockNo((a / 128) as u8), s) | pin_on(s)
+    block_at(usize::from(a / 128), s.protection) | pin_on(s)
 }

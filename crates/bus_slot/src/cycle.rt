@@ -1,11 +1,9 @@
 // The write cycle of a slot: a stop begins it, ticks run it down, and the last of them stores.
 #![tactic(auto, unfolding(rules::specs::Fields::placed, rules::specs::Fields::with_left, rules::specs::Memory::begun, rules::specs::Memory::brought, rules::specs::Memory::command_stop, rules::specs::Memory::data_stop, rules::specs::Memory::permanent_then, rules::specs::Modelled::older))]
 
-ghost use Rattle.std.specs.Prelude.{◌≡◌, true, ◌+◌, ◌≤◌, length};
-ghost use Rattle.rules.specs.Modelled.{slot_bytes};
+ghost use Rattle.std.specs.Prelude.{◌≡◌};
 ghost use Rattle.rules.specs.Memory.{any_mark, begun, command_stop, data_stop, brought, ended, put_up_to, stored, ticked_part};
 ghost use Rattle.rules.specs.Slot.{slot_next};
-ghost use Rattle.rules.specs.Refusals.{slot_in_range};
 
 use super::{blocks, leaving};
 use rules::{Act, Address, Older, Slot};
@@ -50,14 +48,14 @@ pub fn data_stop(s: Slot) -> Slot
     }
 }
 
-// The marked bytes of the latch go to their page, which begins at `at`.
-fn put(part: &mut [u8], at: usize, latch: [u8; 16], marks: [bool; 16])
-    requires { at + 16 ≤ length part.old }
+// The marked bytes of the latch go to their page, which begins at `at`, as far as part has it.
+fn put(part: &mut [u8], at: u16, latch: [u8; 16], marks: [bool; 16])
     ensures { part.new ≡ put_up_to latch marks at 16 part.old }
 {
     for (i, mark) in marks.iter().enumerate() {
-        if *mark {
-            part[at + i] = latch[i];
+        let to = usize::from(at) + i;
+        if *mark & (to < part.len()) {
+            part[to] = latch[i];
         }
     }
 }
@@ -81,11 +79,10 @@ fn brought(s: Slot) -> [bool; 4]
 // The write cycle ends: what is latched goes to part, the slot's own 512 bytes, the protection to come stands, for ever if it is a lasting one, and
 // nothing more is to come.
 pub fn ended(s: Slot, part: &mut [u8]) -> Slot
-    requires { (slot_in_range s ≡ true) × (length part.old ≡ slot_bytes) }
     ensures { (result ≡ ended s) × (part.new ≡ stored s part.old) }
 {
     let Address(a) = blocks::address_of(s);
-    put(part, usize::from(a / 16 * 16), s.latch, s.marks);
+    put(part, a / 16 * 16, s.latch, s.marks);
     let protection = brought(s);
     Slot {
         left: 0,
@@ -104,7 +101,6 @@ pub fn ended(s: Slot, part: &mut [u8]) -> Slot
 
 // A tick; part is the slot's own 512 bytes, which change where a write cycle ends. An absent slot is left alone.
 pub fn tick(s: Slot, part: &mut [u8]) -> Slot
-    requires { (slot_in_range s ≡ true) × (length part.old ≡ slot_bytes) }
     ensures { (result ≡ slot_next 0 Act.Tick s) × (part.new ≡ ticked_part s part.old) }
 {
     if s.is_absent() {

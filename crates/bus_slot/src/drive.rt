@@ -2,10 +2,9 @@
 #![tactic(auto, unfolding(rules::specs::Slot::read_in))]
 
 ghost use Rattle.std.specs.Prelude.{◌≡◌, true, false, ◌/◌, ◌%◌, length, get_or};
-ghost use Rattle.rules.specs.Modelled.{address_of, slot_bytes};
+ghost use Rattle.rules.specs.Modelled.{address_of};
 ghost use Rattle.rules.specs.Memory.{fetched};
 ghost use Rattle.rules.specs.Slot.{lost, read_in};
-ghost use Rattle.rules.specs.Refusals.{slot_in_range};
 ghost use Rattle.bus_slot.specs.ReadOut.{read_out};
 
 use super::{leaving, memory, phase};
@@ -26,7 +25,6 @@ fn silent(slot: Slot) -> Drive
 
 // A memory read's byte.
 fn memory_byte(s: Slot, part: &[u8], more: bool) -> Drive
-    requires { (slot_in_range s ≡ true) × (length part.now ≡ slot_bytes) }
     ensures { result ≡ record { slot = fetched more s; byte = Some (get_or part.now (address_of s).0 0) } }
 {
     Drive {
@@ -62,7 +60,6 @@ fn low_byte(s: Slot) -> Drive
 
 // A read; part is the slot's own 512 bytes, and more says that the master then acknowledges.
 pub fn read(s: Slot, part: &[u8], more: bool) -> Drive
-    requires { (slot_in_range s ≡ true) × (length part.now ≡ slot_bytes) }
     ensures { result ≡ read_out more part.now s }
 {
     let phase = phase::standing(s);

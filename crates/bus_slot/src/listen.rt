@@ -1,11 +1,10 @@
 // A byte from the master at one slot: what the slot makes of it, and whether it acknowledges.
 #![tactic(auto, unfolding(rules::specs::Fields::holding, rules::specs::Fields::in_phase, rules::specs::Fields::pointing, rules::specs::Fields::with_sensor, rules::specs::Fields::with_word, rules::specs::Memory::data_byte, rules::specs::Slot::first_byte, rules::specs::Slot::pointer, rules::specs::Slot::second_byte))]
 
-ghost use Rattle.std.specs.Prelude.{◌≡◌, true, not, leb};
+ghost use Rattle.std.specs.Prelude.{◌≡◌, not, leb};
 ghost use Rattle.rules.specs.Control.{heard_by};
 ghost use Rattle.rules.specs.Memory.{guarded, data_byte};
 ghost use Rattle.rules.specs.Slot.{pointer, first_byte, second_byte};
-ghost use Rattle.rules.specs.Refusals.{slot_in_range};
 ghost use Rattle.bus_slot.specs.Heeded.{heeded};
 
 use super::obey::Heed;
@@ -14,7 +13,6 @@ use rules::{Heard, Phase, Sensor, Slot, SlotNo};
 
 // A data byte: refused in a protected block and under the write-protect pin, else latched.
 fn data_byte(b: u8, s: Slot) -> Heed
-    requires { slot_in_range s ≡ true }
     ensures { result ≡ record { slot = data_byte b s; ack = not (guarded s) } }
 {
     if blocks::guarded(s) {
@@ -60,7 +58,7 @@ fn second_byte(b: u8, s: Slot) -> Slot
 
 // A byte from the master at slot n; h is what it asks of this slot as a control byte.
 pub fn byte(s: Slot, n: SlotNo, b: u8, h: Heard) -> Heed
-    requires { (slot_in_range s ≡ true) × (h ≡ heard_by n.0 b s) }
+    requires { h ≡ heard_by n.0 b s }
     ensures { result ≡ heeded n.0 b s }
 {
     let phase = phase::standing(s);

@@ -1,10 +1,9 @@
 // The memory of a slot in an exchange: its counter, its latch, the bytes that are read.
 #![tactic(auto, unfolding(rules::specs::Fields::at_counter, rules::specs::Fields::in_phase, rules::specs::Fields::latched, rules::specs::Fields::placed, rules::specs::Memory::fetched, rules::specs::Memory::latching, rules::specs::Memory::loaded, rules::specs::Memory::up_in_page, rules::specs::Modelled::address_of))]
 
-ghost use Rattle.std.specs.Prelude.{◌≡◌, true, length, get_or};
-ghost use Rattle.rules.specs.Modelled.{address_of, slot_bytes};
+ghost use Rattle.std.specs.Prelude.{◌≡◌, get_or};
+ghost use Rattle.rules.specs.Modelled.{address_of};
 ghost use Rattle.rules.specs.Memory.{loaded, latching, fetched};
-ghost use Rattle.rules.specs.Refusals.{slot_in_range};
 
 use super::blocks;
 use rules::{Address, Phase, Slot};
@@ -40,13 +39,12 @@ pub fn latching(b: u8, s: Slot) -> Slot
     }
 }
 
-// The byte that a memory read drives: the one at the address.
+// The byte that a memory read drives: the one at the address; 0 where part is shorter than a slot's 512 bytes, or the half is none.
 pub fn byte_at(s: Slot, part: &[u8]) -> u8
-    requires { (slot_in_range s ≡ true) × (length part.now ≡ slot_bytes) }
     ensures { result ≡ get_or part.now (address_of s).0 0 }
 {
     let Address(a) = blocks::address_of(s);
-    part[usize::from(a)]
+    part.get(usize::from(a)).copied().unwrap_or(0)
 }
 
 // After a memory read the counter goes on in its half, and the slot reads on if the master acknowledges.

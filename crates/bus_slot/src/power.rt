@@ -1,11 +1,9 @@
 // A power cycle at one slot, and what it still does of a write cycle that is running.
 #![tactic(auto, unfolding(rules::specs::Fields::latched, rules::specs::Fresh::fresh_older, rules::specs::Fresh::fresh_slot, rules::specs::Fresh::powered, rules::specs::Power::cut))]
 
-ghost use Rattle.std.specs.Prelude.{◌≡◌, true, length};
+ghost use Rattle.std.specs.Prelude.{◌≡◌};
 ghost use Rattle.rules.specs.Fresh.{powered};
-ghost use Rattle.rules.specs.Modelled.{slot_bytes};
 ghost use Rattle.rules.specs.Power.{first_of, cut, cut_part};
-ghost use Rattle.rules.specs.Refusals.{slot_in_range};
 ghost use Rattle.rules.specs.Slot.{slot_next};
 
 use super::cycle;
@@ -58,7 +56,6 @@ fn powered(s: Slot) -> Slot
 // A power cycle; part is the slot's own 512 bytes, which change where it cuts a write cycle short. Without a cycle the number has no effect, and 0
 // drops a running one: no byte is stored and no protection comes. An absent slot is left alone.
 pub fn cut(k: Cut, s: Slot, part: &mut [u8]) -> Slot
-    requires { (slot_in_range s ≡ true) × (length part.old ≡ slot_bytes) }
     ensures { (result ≡ slot_next 0 (Act.Power k) s) × (part.new ≡ cut_part k s part.old) }
 {
     if s.is_absent() {

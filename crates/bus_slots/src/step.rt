@@ -1,11 +1,9 @@
 // One slot at an event of any kind: what it does, and what it shows. It looks at no other slot.
 #![tactic(auto, unfolding(rules::specs::Slot::slot_next, rules::specs::Slot::present_next, rules::specs::Slot::part_next, crate::specs::Stepped::stepped, bus_slot::specs::ReadOut::read_out, bus_slot::specs::Heeded::heeded, bus_slot::specs::Signals::act_for, bus_slot::specs::Signals::signalled))]
 
-ghost use Rattle.std.specs.Prelude.{◌≡◌, true, false, cond, length};
+ghost use Rattle.std.specs.Prelude.{◌≡◌, false, cond};
 ghost use Rattle.rules.specs.Control.{heard_of};
 ghost use Rattle.rules.specs.Slot.{slot_next, acks, drives, driven, part_next};
-ghost use Rattle.rules.specs.Modelled.{slot_bytes};
-ghost use Rattle.rules.specs.Refusals.{slot_in_range};
 ghost use Rattle.bus_slots.specs.Stepped.{stepped};
 
 use super::line::Line;
@@ -35,7 +33,7 @@ fn quiet(slot: Slot) -> Step
 
 // A step at a byte; h is what it asks for by document 01.
 fn heeding(b: u8, h: Heard, n: SlotNo, s: Slot) -> Step
-    requires { (slot_in_range s ≡ true) × (h ≡ heard_of b) }
+    requires { h ≡ heard_of b }
     ensures { result ≡ record { slot = slot_next n.0 (Act.Byte b) s; ack = acks n.0 b s; byte = None } }
 {
     let Heed { slot, ack } = bus_slot::listen::byte(s, n, b, bus_control::heard_by(h, n, b, s));
@@ -48,7 +46,6 @@ fn heeding(b: u8, h: Heard, n: SlotNo, s: Slot) -> Step
 
 // A step at a read.
 fn driving(more: bool, s: Slot, part: &[u8]) -> Step
-    requires { (slot_in_range s ≡ true) × (length part.now ≡ slot_bytes) }
     ensures { result ≡ record { slot = slot_next 0 (Act.Read more) s; ack = false; byte = cond (drives s) (Some (driven part.now s)) None } }
 {
     let Drive { slot, byte } = bus_slot::drive::read(s, part, more);
@@ -72,7 +69,6 @@ fn applied(k: SlotNo, x: Applied, n: SlotNo, s: Slot) -> Step
 
 // Slot n's step at an act; part is its own 512 bytes, which a tick and a power cycle may change.
 pub fn next(line: Line, n: SlotNo, s: Slot, part: &mut [u8]) -> Step
-    requires { (slot_in_range s ≡ true) × (length part.old ≡ slot_bytes) }
     ensures { (result ≡ stepped n.0 line.act part.old s) × (part.new ≡ part_next line.act s part.old) }
 {
     match line.act {

@@ -9,18 +9,7 @@ use Rattle.bus_slots.proofs.every.taken.Goals as goal
 use Rattle.bus_slots.proofs.every.taken.Goals.{in-Nothing, in-To, in-More}
 
 pub loop-i-init : goal.loop-i-init
-loop-i-init c = (c.requires.1, turned_none _ _ _)
-
-pub next-x-requires : goal.next-x-requires
-next-x-requires c =
-    let l = c.loop-i in
-    let g = c.args in
-    let h : l.i < length g.slots = omega arith in
-    let r : 512 * (l.i + 1) ≤ length g.mem.now = omega arith in
-    let t = l.invariant in (
-      rw (old _ g.slots g.mem.now l.i h r l.slot-items l.mem l.shown.ack l.shown.byte t.1) (list_all-at slot_in_range l.i g.slots no_slot h c.requires.0),
-      simp (length-take, length-drop) (omega (arith, t.0)),
-    )
+loop-i-init c = (c.requires, turned_none _ _ _)
 
 pub loop-i-preserved : goal.loop-i-preserved
 loop-i-preserved c =
