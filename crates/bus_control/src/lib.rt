@@ -55,6 +55,7 @@ fn command(b: u8) -> Heard
 }
 
 // What a control byte asks for: the families 1010, 0011 and 0110 by their ranges, the commands of 0110 by the table.
+#[tactic(auto, unfolding(rules::specs::Control::heard_of, rules::specs::Control::select_of, rules::specs::Control::is_read))]
 pub fn hear(b: u8) -> Heard
     ensures { result ≡ heard_of b }
 {
@@ -74,6 +75,7 @@ pub fn hear(b: u8) -> Heard
 
 // The commands of an older module with high voltage on (source document 002): 62h protects, 66h clears, and with the read bit both ask whether its
 // one block is protected.
+#[tactic(auto, unfolding(rules::specs::Control::raised_command))]
 fn raised(b: u8) -> Heard
     ensures { result ≡ raised_command b }
 {

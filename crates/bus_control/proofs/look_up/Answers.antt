@@ -1,12 +1,12 @@
 -- The first row that has the byte, or none.
-use Rattle.std.proofs.Common.{◌≡◌, ◌∙◌, ap, Option, Some, None, rules, Bor, tests}
+use Rattle.std.proofs.Common.{◌≡◌, Option, Some, None, rules, Bor, tests}
 use Rattle.std.specs.Option.{MatchOption, option_map, option_map_or}
 use Rattle.std.proofs.lemmas.Iterator.{YieldsList-from_slice}
 use Rattle.std.proofs.lemmas.Iterator.Search.{find_from_yields_List}
 use Rattle.rules.specs.declared.Heard.{Heard}
 use Rattle.rules.specs.declared.Heard.TheVariants.{Nothing}
 use Rattle.bus_control.specs.declared.Row.{Row}
-use Rattle.bus_control.specs.Rows.{has, asks, found_in}
+use Rattle.bus_control.specs.Rows.{has, asks}
 use Rattle.bus_control.proofs.look_up.Goals as goal
 
 asked : {Q : Bor Row → Type 0} (o : Option (Bor Row)) (r : Heard) (m : Option Row) → option_map (λ x. x.now) o ≡ m → MatchOption o (r ≡ Nothing) Q

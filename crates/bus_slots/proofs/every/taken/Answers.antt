@@ -1,10 +1,8 @@
-use Rattle.std.proofs.Common.{◌≡◌, ◌∙◌, refl, arith, ◌+◌, ◌*◌, ◌<◌, ◌≤◌, length, get_or, length-take, length-drop}
+use Rattle.std.proofs.Common.{◌≡◌, ◌∙◌, refl, arith, ◌+◌, ◌*◌, ◌<◌, ◌≤◌, length, get_or}
 use Rattle.std.proofs.Math.ListN.{set}
 use Rattle.std.proofs.lemmas.List.{set-get_or}
-use Rattle.proof_lists.specs.Each.{list_all-at}
-use Rattle.rules.specs.Refusals.{slot_in_range}
 use Rattle.rules.proofs.Past.{no_slot}
-use Rattle.bus_slots.proofs.every.Laws.{turned_none, turned-all, turn-nothing, turn-to, turn_more, old}
+use Rattle.bus_slots.proofs.every.Laws.{turned_none, turned-all, turn-nothing, turn-to, turn_more}
 use Rattle.bus_slots.proofs.every.taken.Goals as goal
 use Rattle.bus_slots.proofs.every.taken.Goals.{in-Nothing, in-To, in-More}
 
