@@ -37,6 +37,7 @@ fn memory_byte(s: Slot, part: &[u8], more: bool) -> Drive
 fn high_byte(s: Slot, more: bool) -> Drive
     ensures { result ≡ record { slot = read_in Phase.SensorReadHigh more s; byte = Some (s.sensor.word / 256) } }
 {
+    let [high, _] = s.sensor.word.to_be_bytes();
     let slot = if more {
         phase::in_phase(Phase::SensorReadLow, s)
     } else {
@@ -44,7 +45,7 @@ fn high_byte(s: Slot, more: bool) -> Drive
     };
     Drive {
         slot,
-        byte: Some((s.sensor.word / 256) as u8),
+        byte: Some(high),
     }
 }
 
@@ -52,9 +53,10 @@ fn high_byte(s: Slot, more: bool) -> Drive
 fn low_byte(s: Slot) -> Drive
     ensures { result ≡ record { slot = lost Phase.SensorReadLow s; byte = Some (s.sensor.word % 256) } }
 {
+    let [_, low] = s.sensor.word.to_be_bytes();
     Drive {
         slot: leaving::lost(Phase::SensorReadLow, s),
-        byte: Some((s.sensor.word % 256) as u8),
+        byte: Some(low),
     }
 }
 

@@ -44,7 +44,10 @@ fn pointed(b: u8, s: Slot) -> Heed
 fn first_byte(b: u8, s: Slot) -> Slot
     ensures { result ≡ first_byte b s }
 {
-    phase::in_phase(Phase::SensorLow, phase::holding(u16::from(b) * 256, s))
+    phase::in_phase(
+        Phase::SensorLow,
+        phase::holding(u16::from_be_bytes([b, 0]), s),
+    )
 }
 
 // With its second byte the register changes, and nothing more is taken.
@@ -52,7 +55,8 @@ fn second_byte(b: u8, s: Slot) -> Slot
     ensures { result ≡ second_byte b s }
 {
     let x = s.sensor;
-    let sensor = bus_sensor::pin::written(x, x.pointer, x.word / 256 * 256 + u16::from(b));
+    let [high, _] = x.word.to_be_bytes();
+    let sensor = bus_sensor::pin::written(x, x.pointer, u16::from_be_bytes([high, b]));
     leaving::lost(Phase::SensorLow, Slot { sensor, ..s })
 }
 
