@@ -12,22 +12,21 @@ use rules::{Act, Bus, Outcome, Slot, SlotNo};
 // An act that is not refused: every slot does its step, by its number and with its own part of the memory. Slots that the act leaves
 // where they are, or only moves to another phase, are most of them, and are not taken out. The bus acknowledges if one of them does; the
 // lowest slot that drives a byte is read, and FFh if none does.
-pub fn taken(slots: [Slot; 8], mem: &mut [u8], a: Act) -> Outcome
+pub fn taken(mut slots: [Slot; 8], mem: &mut [u8], a: Act) -> Outcome
     requires { length mem.old ≡ memory_bytes }
     ensures { taken_then (record { slots = slots }) mem.old a ≡ (result, mem.new) }
 {
     let line = Line::new(a);
-    let mut all = slots;
     let mut shown = Shown {
         ack: false,
         byte: None,
     };
-    for (i, slot) in all.iter_mut().enumerate() {
+    for (i, slot) in slots.iter_mut().enumerate() {
         let n = SlotNo(i as u8);
-        let change = foreseen::glance(line, n, *slot);
-        match change {
+        match foreseen::glance(line, n, *slot) {
             Change::Nothing => {}
-            Change::To(p) => *slot = bus_slot::phase::in_phase(p, *slot),
+            Change::To(phase) => *slot = bus_slot::phase::in_phase(phase, *slot),
+            // Kept: a range of mem, and no chunks_exact_mut or as_chunks_mut zipped with the slots: tried, and a proof learns nothing of what they leave.
             Change::More => {
                 let from = Slot::BYTES * i;
                 let to = from + Slot::BYTES;
@@ -39,7 +38,7 @@ pub fn taken(slots: [Slot; 8], mem: &mut [u8], a: Act) -> Outcome
     }
     let answer = shown::answer_of(line.carries, shown);
     Outcome {
-        bus: Bus { slots: all },
+        bus: Bus { slots },
         answer,
     }
 }

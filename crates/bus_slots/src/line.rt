@@ -1,7 +1,7 @@
 // An act as every slot meets it: what it carries over the wires, and what that asks for as a control byte.
 #![tactic(auto)]
 
-ghost use Rattle.std.specs.Prelude.{◌≡◌};
+ghost use Rattle.std.specs.Prelude.{◌≡◌, refl};
 ghost use Rattle.rules.specs.Events.{carried};
 ghost use Rattle.bus_slots.specs.Foreseen.{heard_in, carrying};
 
@@ -48,7 +48,7 @@ pub struct Line {
 
 impl Line {
     pub fn new(act: Act) -> Self
-        ensures { result.act ≡ act }
+        ensures { result ≡ record { act = act; carries = carried act; heard = heard_in (carried act); is_carried = refl; is_heard = refl } }
     {
         let carries = carried(act);
         Line {
