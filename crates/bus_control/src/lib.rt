@@ -38,26 +38,24 @@ const COMMANDS: [Row; ROWS] = [
 ];
 
 // What a table says of a byte: what its first row with that byte asks for, and nothing where it has no such row.
-fn look_up(rows: [Row; ROWS], b: u8) -> Heard
-    ensures { result ≡ found_in rows b }
+fn look_up(rows: &[Row], b: u8) -> Heard
+    ensures { result ≡ found_in rows.now b }
 {
-    for i in 0..ROWS {
-        let row = rows[i];
-        if b == row.0 {
-            return row.1;
-        }
-    }
-    Heard::Nothing
+    rows.iter()
+        .find(|row| row.0 == b)
+        .map_or(Heard::Nothing, |row| row.1)
 }
 
 // The command of a control byte, by the table.
+#[tactic(auto, unfolding(rules::specs::Control::command_of))]
 fn command(b: u8) -> Heard
     ensures { result ≡ command_of b }
 {
-    look_up(COMMANDS, b)
+    look_up(&COMMANDS, b)
 }
 
 // What a control byte asks for: the families 1010, 0011 and 0110 by their ranges, the commands of 0110 by the table.
+#[tactic(auto, unfolding(rules::specs::Control::heard_of, rules::specs::Control::select_of, rules::specs::Control::is_read))]
 pub fn hear(b: u8) -> Heard
     ensures { result ≡ heard_of b }
 {
@@ -77,6 +75,7 @@ pub fn hear(b: u8) -> Heard
 
 // The commands of an older module with high voltage on (source document 002): 62h protects, 66h clears, and with the read bit both ask whether its
 // one block is protected.
+#[tactic(auto, unfolding(rules::specs::Control::raised_command))]
 fn raised(b: u8) -> Heard
     ensures { result ≡ raised_command b }
 {
@@ -89,38 +88,42 @@ fn raised(b: u8) -> Heard
 }
 
 // With it off the slot's select number protects for ever, and with the read bit asks the same.
+#[tactic(auto, unfolding(rules::specs::Control::own_command, rules::specs::Control::select_of, rules::specs::Control::is_read))]
 fn own(n: SlotNo, b: u8) -> Heard
     ensures { result ≡ own_command n.0 b }
 {
     if b / 2 % 8 != n.0 {
-        return Heard::Nothing;
+        Heard::Nothing
+    } else if b % 2 == 1 {
+        Heard::ReadProtection(BlockNo(0))
+    } else {
+        Heard::ProtectForEver
     }
-    if b % 2 == 1 {
-        return Heard::ReadProtection(BlockNo(0));
-    }
-    Heard::ProtectForEver
 }
 
 // What a byte of the family 0110 asks of an older module in slot n: by the voltage at this byte, and nothing once its protection is permanent.
+#[tactic(auto, unfolding(rules::specs::Control::older_command))]
 fn older_command(n: SlotNo, b: u8, s: Slot) -> Heard
     ensures { result ≡ older_command n.0 b s }
 {
     if s.old.permanent {
-        return Heard::Nothing;
+        Heard::Nothing
+    } else if s.voltage {
+        raised(b)
+    } else {
+        own(n, b)
     }
-    if s.voltage {
-        return raised(b);
-    }
-    own(n, b)
 }
 
 // What a control byte asks of slot n; h is what it asks for by document 01, which holds for all but the 0110 bytes of an older module.
+#[tactic(auto, unfolding(rules::specs::Control::heard_by, rules::specs::Modelled::older))]
 pub fn heard_by(h: Heard, n: SlotNo, b: u8, s: Slot) -> Heard
     requires { h ≡ heard_of b }
     ensures { result ≡ heard_by n.0 b s }
 {
-    if (s.kind == 3) & (b / 16 == 6) {
-        return older_command(n, b, s);
+    if s.is_older() & (b / 16 == 6) {
+        older_command(n, b, s)
+    } else {
+        h
     }
-    h
 }

@@ -1,9 +1,19 @@
 // The sensor's registers: what they read, what a write leaves in them.
-ghost use Rattle.std.specs.Prelude.{◌≡◌, cond};
+#![tactic(auto, unfolding(rules::specs::Sensor::register_of, rules::specs::Sensor::critical_locked, rules::specs::Sensor::limits_locked, rules::specs::Sensor::locked_write, rules::specs::Sensor::configured, rules::specs::Sensor::written, rules::specs::Fields::with_configuration, rules::specs::Fields::with_high, rules::specs::Fields::with_low, rules::specs::Fields::with_critical, rules::specs::Fields::with_resolution, rules::specs::Fields::with_timeout))]
+
+ghost use Rattle.std.specs.Prelude.{◌≡◌, ◌/◌, ◌%◌, ◌^◌, ◌<◌, eqb, cond};
 ghost use Rattle.std.specs.Int.Bits.{bit_and};
 ghost use Rattle.rules.specs.Sensor.{register_of, limit_bits, critical_locked, limits_locked, configured, written};
 
 use rules::Sensor;
+
+// Whether bit n of a register is 1.
+pub(crate) fn bit(word: u16, n: u32) -> bool
+    requires { n < 16 }
+    ensures { result ≡ eqb (word / 2 ^ n % 2) 1 }
+{
+    (word >> n) % 2 == 1
+}
 
 // What register p reads.
 pub fn register(x: Sensor, p: u8) -> u16
@@ -18,8 +28,8 @@ pub fn register(x: Sensor, p: u8) -> u16
         0x05 => x.temperature,
         0x06 => 0x104A,
         0x07 => 0x2201,
-        0x08 => x.resolution as u16,
-        0x09 => x.timeout as u16,
+        0x08 => u16::from(x.resolution),
+        0x09 => u16::from(x.timeout),
         _ => 0x0000,
     }
 }
@@ -28,14 +38,14 @@ pub fn register(x: Sensor, p: u8) -> u16
 fn critical_locked(configuration: u16) -> bool
     ensures { result ≡ critical_locked configuration }
 {
-    configuration / 128 % 2 == 1
+    bit(configuration, 7)
 }
 
 // Whether a configuration locks registers 02h and 03h.
 fn limits_locked(configuration: u16) -> bool
     ensures { result ≡ limits_locked configuration }
 {
-    configuration / 64 % 2 == 1
+    bit(configuration, 6)
 }
 
 // The configuration after a write of v: under a lock that was set before, or free.
@@ -61,15 +71,31 @@ pub fn written(x: Sensor, p: u8, v: u16) -> Sensor
     ensures { result ≡ written x p v }
 {
     let old = x.configuration;
-    let mut next = x;
     match p {
-        0x01 => next.configuration = configuration_after(old, v),
-        0x02 => next.high = limit_after(limits_locked(old), x.high, v),
-        0x03 => next.low = limit_after(limits_locked(old), x.low, v),
-        0x04 => next.critical = limit_after(critical_locked(old), x.critical, v),
-        0x08 => next.resolution = (v & 0x0003) as u8,
-        0x09 => next.timeout = (v & 0x0001) as u8,
-        _ => {}
+        0x01 => Sensor {
+            configuration: configuration_after(old, v),
+            ..x
+        },
+        0x02 => Sensor {
+            high: limit_after(limits_locked(old), x.high, v),
+            ..x
+        },
+        0x03 => Sensor {
+            low: limit_after(limits_locked(old), x.low, v),
+            ..x
+        },
+        0x04 => Sensor {
+            critical: limit_after(critical_locked(old), x.critical, v),
+            ..x
+        },
+        0x08 => Sensor {
+            resolution: (v & 0x0003) as u8,
+            ..x
+        },
+        0x09 => Sensor {
+            timeout: (v & 0x0001) as u8,
+            ..x
+        },
+        _ => x,
     }
-    next
 }

@@ -1,7 +1,10 @@
 // The sensor's temperature: its conversion to a step of the resolution, and the flags.
+#![tactic(auto, unfolding(rules::specs::Sensor::bits_of, rules::specs::Sensor::signed_of, rules::specs::Sensor::step_of, rules::specs::Sensor::hysteresis_of, rules::specs::Sensor::flag_of, rules::specs::Sensor::lowered_of, rules::specs::Sensor::critical_flag, rules::specs::Sensor::high_flag, rules::specs::Sensor::low_flag, rules::specs::Sensor::reading, rules::specs::Sensor::shut_down, rules::specs::Sensor::stepped_of, rules::specs::Sensor::converted, rules::specs::Fields::with_temperature))]
+
 ghost use Rattle.std.specs.Prelude.{◌≡◌, cond, pos, ◌-ℤ◌};
 ghost use Rattle.rules.specs.Sensor.{bits_of, signed_of, step_of, nearest_of, hysteresis_of, flag_of, critical_flag, high_flag, low_flag, reading, converted};
 
+use super::registers::bit;
 use rules::Sensor;
 
 // The number of sixteenths that bits 12:0 of v hold in two's complement.
@@ -10,9 +13,9 @@ fn sixteenths(v: u16) -> i32
 {
     let low = v % 8192;
     if low < 4096 {
-        low as i32
+        i32::from(low)
     } else {
-        low as i32 - 8192
+        i32::from(low) - 8192
     }
 }
 
@@ -28,7 +31,7 @@ fn bits(t: i32) -> u16
 fn stepped(given: i16, resolution: u8) -> i32
     ensures { result ≡ nearest_of (step_of resolution) given }
 {
-    let wide = given as i32;
+    let wide = i32::from(given);
     match resolution {
         0 => ((wide + 4) >> 3) * 8,
         1 => ((wide + 2) >> 2) * 4,
@@ -60,13 +63,7 @@ fn lowered(limit: u16, configuration: u16) -> i32
 fn flag(set: bool, cleared: bool, was: bool) -> bool
     ensures { result ≡ flag_of set cleared was }
 {
-    if set {
-        true
-    } else if cleared {
-        false
-    } else {
-        was
-    }
+    set | (!cleared & was)
 }
 
 // Bit 15 of register 05h after the number t: set when t >= critical and cleared when t < critical - h.
@@ -74,7 +71,7 @@ fn critical_flag(x: Sensor, t: i32) -> bool
     ensures { result ≡ critical_flag x t }
 {
     let limit = x.critical;
-    let was = x.temperature / 32768 % 2 == 1;
+    let was = bit(x.temperature, 15);
     flag(
         sixteenths(limit) <= t,
         t < lowered(limit, x.configuration),
@@ -87,7 +84,7 @@ fn high_flag(x: Sensor, t: i32) -> bool
     ensures { result ≡ high_flag x t }
 {
     let limit = x.high;
-    let was = x.temperature / 16384 % 2 == 1;
+    let was = bit(x.temperature, 14);
     flag(
         sixteenths(limit) < t,
         t <= lowered(limit, x.configuration),
@@ -100,7 +97,7 @@ fn low_flag(x: Sensor, t: i32) -> bool
     ensures { result ≡ low_flag x t }
 {
     let limit = x.low;
-    let was = x.temperature / 8192 % 2 == 1;
+    let was = bit(x.temperature, 13);
     flag(
         t < lowered(limit, x.configuration),
         sixteenths(limit) <= t,
@@ -129,11 +126,12 @@ fn reading(x: Sensor, t: i32) -> u16
 pub fn converted(x: Sensor, given: i16) -> Sensor
     ensures { result ≡ converted x given }
 {
-    if x.configuration / 256 % 2 == 1 {
+    if bit(x.configuration, 8) {
         return x;
     }
     let t = stepped(given, x.resolution);
-    let mut next = x;
-    next.temperature = reading(x, t);
-    next
+    Sensor {
+        temperature: reading(x, t),
+        ..x
+    }
 }

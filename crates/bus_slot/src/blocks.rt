@@ -1,63 +1,69 @@
 // A slot's blocks and what guards them, and the address that the counter points to, which lies in one of them.
+#![tactic(auto, unfolding(rules::specs::Control::protects, rules::specs::Fields::to_come, rules::specs::Fields::to_last, rules::specs::Memory::guarded, rules::specs::Memory::pin_on, rules::specs::Modelled::address_of, rules::specs::Modelled::block_of, rules::specs::Modelled::older))]
+
 ghost use Rattle.std.specs.Prelude.{◌≡◌, true, false, get_or, set};
+ghost use Rattle.rules.specs.Fields.{to_come};
 ghost use Rattle.rules.specs.Modelled.{address_of};
 ghost use Rattle.rules.specs.Control.{protects};
 ghost use Rattle.rules.specs.Memory.{pin_on, guarded};
-ghost use Rattle.rules.specs.Refusals.{slot_in_range};
 
-use rules::{Address, BlockNo, Slot};
+use rules::{Address, BlockNo, Older, Slot};
 
 // The address that the counter points to in the selected half.
 pub fn address_of(s: Slot) -> Address
     ensures { result ≡ address_of s }
 {
-    Address(256 * (s.half as u16) + (s.counter as u16))
+    Address(256 * u16::from(s.half) + u16::from(s.counter))
 }
 
 // What stands for a block; a block above 3 is not there.
-fn block_at(k: BlockNo, blocks: [bool; 4]) -> bool
-    ensures { result ≡ get_or blocks k.0 false }
+fn block_at(k: usize, blocks: [bool; 4]) -> bool
+    ensures { result ≡ get_or blocks k false }
 {
-    let at = k.0 as usize;
-    if at < 4 {
-        return blocks[at];
-    }
-    false
+    blocks.get(k).copied().unwrap_or(false)
 }
 
 // The blocks with one more.
 pub fn with_block(k: BlockNo, blocks: [bool; 4]) -> [bool; 4]
     ensures { result ≡ set blocks k.0 true }
 {
-    let at = k.0 as usize;
-    if at < 4 {
-        let mut next = blocks;
+    let at = usize::from(k.0);
+    let mut next = blocks;
+    if at < next.len() {
         next[at] = true;
-        return next;
     }
-    blocks
+    next
 }
 
 // A block is protected.
 pub fn protects(k: BlockNo, s: Slot) -> bool
     ensures { result ≡ protects k s }
 {
-    let protection = s.protection;
-    block_at(k, protection)
+    block_at(usize::from(k.0), s.protection)
+}
+
+// The slot with a protection to come, and whether that will be permanent.
+pub fn to_come(coming: [bool; 4], lasting: bool, s: Slot) -> Slot
+    ensures { result ≡ to_come coming lasting s }
+{
+    Slot {
+        coming,
+        old: Older { lasting, ..s.old },
+        ..s
+    }
 }
 
 // An older module's write-protect pin is on; no other slot has one.
 pub fn pin_on(s: Slot) -> bool
     ensures { result ≡ pin_on s }
 {
-    (s.kind == 3) & s.old.pin
+    s.is_older() & s.old.pin
 }
 
 // The block of the next data byte is protected, or the write-protect pin is on.
 pub fn guarded(s: Slot) -> bool
-    requires { slot_in_range s ≡ true }
     ensures { result ≡ guarded s }
 {
-    let a = address_of(s);
-    protects(BlockNo((a.0 / 128) as u8), s) | pin_on(s)
+    let Address(a) = address_of(s);
+    block_at(usize::from(a / 128), s.protection) | pin_on(s)
 }

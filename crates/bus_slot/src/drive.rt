@@ -1,51 +1,43 @@
 // A read at one slot: whether the slot drives a byte, which, and what it does then.
+#![tactic(auto, unfolding(rules::specs::Slot::read_in))]
+
 ghost use Rattle.std.specs.Prelude.{◌≡◌, true, false, ◌/◌, ◌%◌, length, get_or};
-ghost use Rattle.rules.specs.Modelled.{address_of, slot_bytes};
+ghost use Rattle.rules.specs.Modelled.{address_of};
 ghost use Rattle.rules.specs.Memory.{fetched};
 ghost use Rattle.rules.specs.Slot.{lost, read_in};
-ghost use Rattle.rules.specs.Refusals.{slot_in_range};
 ghost use Rattle.bus_slot.specs.ReadOut.{read_out};
 
 use super::{leaving, memory, phase};
 use rules::{Phase, Slot};
 
-// A slot after a read, whether it drives a byte, and which; FFh where it drives none.
+// A slot after a read, and the byte that it drives, if it drives one.
 #[derive(Clone, Copy)]
 pub struct Drive {
     pub slot: Slot,
-    pub drives: bool,
-    pub byte: u8,
+    pub byte: Option<u8>,
 }
 
 fn silent(slot: Slot) -> Drive
-    ensures { result ≡ record { slot = slot; drives = false; byte = 255 } }
+    ensures { result ≡ record { slot = slot; byte = None } }
 {
-    Drive {
-        slot,
-        drives: false,
-        byte: 255,
-    }
+    Drive { slot, byte: None }
 }
 
 // A memory read's byte.
 fn memory_byte(s: Slot, part: &[u8], more: bool) -> Drive
-    requires { (slot_in_range s ≡ true) × (length part.now ≡ slot_bytes) }
-    ensures { result ≡ record { slot = fetched more s; drives = true; byte = get_or part.now (address_of s).0 0 } }
+    ensures { result ≡ record { slot = fetched more s; byte = Some (get_or part.now (address_of s).0 0) } }
 {
-    let byte = memory::byte_at(s, part);
-    let slot = memory::fetched(more, s);
     Drive {
-        slot,
-        drives: true,
-        byte,
+        slot: memory::fetched(more, s),
+        byte: Some(memory::byte_at(s, part)),
     }
 }
 
 // A sensor read's high byte; the low byte follows if the master acknowledges.
 fn high_byte(s: Slot, more: bool) -> Drive
-    ensures { result ≡ record { slot = read_in Phase.SensorReadHigh more s; drives = true; byte = s.sensor.word / 256 } }
+    ensures { result ≡ record { slot = read_in Phase.SensorReadHigh more s; byte = Some (s.sensor.word / 256) } }
 {
-    let byte = (s.sensor.word / 256) as u8;
+    let [high, _] = s.sensor.word.to_be_bytes();
     let slot = if more {
         phase::in_phase(Phase::SensorReadLow, s)
     } else {
@@ -53,27 +45,23 @@ fn high_byte(s: Slot, more: bool) -> Drive
     };
     Drive {
         slot,
-        drives: true,
-        byte,
+        byte: Some(high),
     }
 }
 
 // A sensor read's low byte; nothing more is driven.
 fn low_byte(s: Slot) -> Drive
-    ensures { result ≡ record { slot = lost Phase.SensorReadLow s; drives = true; byte = s.sensor.word % 256 } }
+    ensures { result ≡ record { slot = lost Phase.SensorReadLow s; byte = Some (s.sensor.word % 256) } }
 {
-    let byte = (s.sensor.word % 256) as u8;
-    let slot = leaving::lost(Phase::SensorReadLow, s);
+    let [_, low] = s.sensor.word.to_be_bytes();
     Drive {
-        slot,
-        drives: true,
-        byte,
+        slot: leaving::lost(Phase::SensorReadLow, s),
+        byte: Some(low),
     }
 }
 
 // A read; part is the slot's own 512 bytes, and more says that the master then acknowledges.
 pub fn read(s: Slot, part: &[u8], more: bool) -> Drive
-    requires { (slot_in_range s ≡ true) × (length part.now ≡ slot_bytes) }
     ensures { result ≡ read_out more part.now s }
 {
     let phase = phase::standing(s);

@@ -1,31 +1,30 @@
 // What is let go when an exchange is left: what it held of the slot, by the phase that it is left in.
+#![tactic(auto, unfolding(rules::specs::Fields::expecting, rules::specs::Fields::latched, rules::specs::Fields::placed, rules::specs::Fields::to_come, rules::specs::Fields::to_last, rules::specs::Memory::abandoned, rules::specs::Memory::cancelled, rules::specs::Memory::emptied, rules::specs::Slot::let_go, rules::specs::Slot::lost))]
+
 ghost use Rattle.std.specs.Prelude.{◌≡◌};
 ghost use Rattle.rules.specs.Memory.{abandoned, cancelled};
 ghost use Rattle.rules.specs.Slot.{let_go, lost};
 
-use super::phase;
+use super::{blocks, phase};
 use rules::{Phase, Slot};
 
 // The latched bytes are abandoned; the counter stays where it stands.
 pub fn abandoned(s: Slot) -> Slot
     ensures { result ≡ abandoned s }
 {
-    let mut next = s;
-    next.latch = [0u8; 16];
-    next.marks = [false; 16];
-    next.place = 0;
-    next
+    Slot {
+        latch: [0; 16],
+        marks: [false; 16],
+        place: 0,
+        ..s
+    }
 }
 
 // A protect or clear is cancelled: the protection to come is the one that stands, and none will be permanent that was not.
 pub fn cancelled(s: Slot) -> Slot
     ensures { result ≡ cancelled s }
 {
-    let standing = s.protection;
-    let mut next = s;
-    next.coming = standing;
-    next.old.lasting = false;
-    next
+    blocks::to_come(s.protection, false, s)
 }
 
 // The slot without what an exchange that is left in this phase held of it.
@@ -34,17 +33,14 @@ pub fn let_go(p: Phase, s: Slot) -> Slot
 {
     let t = phase::traits(p);
     if t.sensor {
-        let mut next = s;
-        next.sensor.word = 0;
-        return next;
+        phase::holding(0, s)
+    } else if t.command {
+        cancelled(s)
+    } else if t.takes {
+        abandoned(s)
+    } else {
+        s
     }
-    if t.command {
-        return cancelled(s);
-    }
-    if t.takes {
-        return abandoned(s);
-    }
-    s
 }
 
 // An exchange that is left in this phase, so that the slot is deaf.

@@ -1,24 +1,25 @@
 // A byte from the master at one slot: what the slot makes of it, and whether it acknowledges.
-ghost use Rattle.std.specs.Prelude.{◌≡◌, true, not, leb};
+#![tactic(auto, unfolding(rules::specs::Fields::holding, rules::specs::Fields::in_phase, rules::specs::Fields::pointing, rules::specs::Fields::with_sensor, rules::specs::Fields::with_word, rules::specs::Memory::data_byte, rules::specs::Slot::first_byte, rules::specs::Slot::pointer, rules::specs::Slot::second_byte))]
+
+ghost use Rattle.std.specs.Prelude.{◌≡◌, not, leb};
 ghost use Rattle.rules.specs.Control.{heard_by};
 ghost use Rattle.rules.specs.Memory.{guarded, data_byte};
 ghost use Rattle.rules.specs.Slot.{pointer, first_byte, second_byte};
-ghost use Rattle.rules.specs.Refusals.{slot_in_range};
 ghost use Rattle.bus_slot.specs.Heeded.{heeded};
 
 use super::obey::Heed;
 use super::{blocks, leaving, memory, obey, phase};
-use rules::{Heard, Phase, Slot, SlotNo};
+use rules::{Heard, Phase, Sensor, Slot, SlotNo};
 
 // A data byte: refused in a protected block and under the write-protect pin, else latched.
 fn data_byte(b: u8, s: Slot) -> Heed
-    requires { slot_in_range s ≡ true }
     ensures { result ≡ record { slot = data_byte b s; ack = not (guarded s) } }
 {
     if blocks::guarded(s) {
-        return obey::nack(phase::in_phase(Phase::Deaf, leaving::abandoned(s)));
+        Heed::nack(phase::in_phase(Phase::Deaf, leaving::abandoned(s)))
+    } else {
+        Heed::ack(memory::latching(b, s))
     }
-    obey::ack(memory::latching(b, s))
 }
 
 // A sensor write's pointer byte.
@@ -26,21 +27,27 @@ fn pointed(b: u8, s: Slot) -> Heed
     ensures { result ≡ record { slot = pointer b s; ack = leb b 9 } }
 {
     if b <= 9 {
-        let mut next = s;
-        next.sensor.pointer = b;
-        return obey::ack(phase::in_phase(Phase::SensorHigh, next));
+        Heed::ack(Slot {
+            phase: Phase::SensorHigh,
+            sensor: Sensor {
+                pointer: b,
+                ..s.sensor
+            },
+            ..s
+        })
+    } else {
+        Heed::nack(leaving::lost(Phase::SensorPointer, s))
     }
-    obey::nack(leaving::lost(Phase::SensorPointer, s))
 }
 
 // A sensor write's first byte is held.
 fn first_byte(b: u8, s: Slot) -> Slot
     ensures { result ≡ first_byte b s }
 {
-    let word = (b as u16) * 256;
-    let mut next = s;
-    next.sensor.word = word;
-    phase::in_phase(Phase::SensorLow, next)
+    phase::in_phase(
+        Phase::SensorLow,
+        phase::holding(u16::from_be_bytes([b, 0]), s),
+    )
 }
 
 // With its second byte the register changes, and nothing more is taken.
@@ -48,30 +55,29 @@ fn second_byte(b: u8, s: Slot) -> Slot
     ensures { result ≡ second_byte b s }
 {
     let x = s.sensor;
-    let sensor = bus_sensor::pin::written(x, x.pointer, x.word / 256 * 256 + (b as u16));
-    let mut next = s;
-    next.sensor = sensor;
-    leaving::lost(Phase::SensorLow, next)
+    let [high, _] = x.word.to_be_bytes();
+    let sensor = bus_sensor::pin::written(x, x.pointer, u16::from_be_bytes([high, b]));
+    leaving::lost(Phase::SensorLow, Slot { sensor, ..s })
 }
 
 // A byte from the master at slot n; h is what it asks of this slot as a control byte.
 pub fn byte(s: Slot, n: SlotNo, b: u8, h: Heard) -> Heed
-    requires { (slot_in_range s ≡ true) × (h ≡ heard_by n.0 b s) }
+    requires { h ≡ heard_by n.0 b s }
     ensures { result ≡ heeded n.0 b s }
 {
     let phase = phase::standing(s);
     match phase {
-        Phase::Idle | Phase::Deaf => obey::nack(s),
+        Phase::Idle | Phase::Deaf => Heed::nack(s),
         Phase::Control => obey::controlled(h, n, s),
-        Phase::MemoryCounter => obey::ack(memory::loaded(b, s)),
+        Phase::MemoryCounter => Heed::ack(memory::loaded(b, s)),
         Phase::MemoryData => data_byte(b, s),
-        Phase::HalfSelected => obey::ack(s),
-        Phase::CommandAddress => obey::ack(phase::in_phase(Phase::CommandData, s)),
-        Phase::CommandData => obey::ack(phase::in_phase(Phase::CommandStop, s)),
+        Phase::HalfSelected => Heed::ack(s),
+        Phase::CommandAddress => Heed::ack(phase::in_phase(Phase::CommandData, s)),
+        Phase::CommandData => Heed::ack(phase::in_phase(Phase::CommandStop, s)),
         Phase::SensorPointer => pointed(b, s),
-        Phase::SensorHigh => obey::ack(first_byte(b, s)),
-        Phase::SensorLow => obey::ack(second_byte(b, s)),
+        Phase::SensorHigh => Heed::ack(first_byte(b, s)),
+        Phase::SensorLow => Heed::ack(second_byte(b, s)),
         Phase::MemoryRead | Phase::CommandStop | Phase::SensorReadHigh | Phase::SensorReadLow =>
-            obey::nack(leaving::lost(phase, s)),
+            Heed::nack(leaving::lost(phase, s)),
     }
 }

@@ -1,4 +1,6 @@
 // A control byte at one slot: whether the slot acknowledges it, and what it does then.
+#![tactic(auto, unfolding(rules::specs::Control::acks_heard, rules::specs::Control::obeyed, rules::specs::Fields::in_half, rules::specs::Fields::in_phase, rules::specs::Fields::expecting, rules::specs::Fields::to_come, rules::specs::Fields::to_last, rules::specs::Modelled::sensing))]
+
 ghost use Rattle.std.specs.Prelude.{◌≡◌, true, false, cond, ◌&&◌, eqb, set};
 ghost use Rattle.rules.specs.Fields.{in_phase, to_come, holding};
 ghost use Rattle.rules.specs.Pin.{read_of};
@@ -14,18 +16,20 @@ pub struct Heed {
     pub ack: bool,
 }
 
-// The slot, and an ACK.
-pub fn ack(slot: Slot) -> Heed
-    ensures { result ≡ record { slot = slot; ack = true } }
-{
-    Heed { slot, ack: true }
-}
+impl Heed {
+    // The slot, and an ACK.
+    pub fn ack(slot: Slot) -> Self
+        ensures { result ≡ record { slot = slot; ack = true } }
+    {
+        Heed { slot, ack: true }
+    }
 
-// The slot, and no ACK.
-pub fn nack(slot: Slot) -> Heed
-    ensures { result ≡ record { slot = slot; ack = false } }
-{
-    Heed { slot, ack: false }
+    // The slot, and no ACK.
+    pub fn nack(slot: Slot) -> Self
+        ensures { result ≡ record { slot = slot; ack = false } }
+    {
+        Heed { slot, ack: false }
+    }
 }
 
 // Which present slot acknowledges a control byte, if it is in no write cycle.
@@ -33,14 +37,13 @@ fn acks_heard(h: Heard, n: SlotNo, s: Slot) -> bool
     ensures { result ≡ acks_heard h n.0 s }
 {
     match h {
-        Heard::Memory { select, read: _ } => select.0 == n.0,
-        Heard::Sensor { select, read: _ } => (select.0 == n.0) & (s.kind == 2),
+        Heard::Memory { select, .. } => select == n,
+        Heard::Sensor { select, .. } => (select == n) & s.has_sensor(),
         Heard::Protect(k) => s.voltage & !blocks::protects(k, s),
         Heard::ClearAll => s.voltage,
         Heard::ReadProtection(k) => !blocks::protects(k, s),
-        Heard::SelectHalf(_) => true,
         Heard::ReadHalf => s.half == 0,
-        Heard::ProtectForEver => true,
+        Heard::SelectHalf(_) | Heard::ProtectForEver => true,
         Heard::Nothing => false,
     }
 }
@@ -49,23 +52,16 @@ fn acks_heard(h: Heard, n: SlotNo, s: Slot) -> bool
 fn protecting(k: BlockNo, lasting: bool, s: Slot) -> Slot
     ensures { result ≡ in_phase Phase.CommandAddress (to_come (set s.protection k.0 true) lasting s) }
 {
-    let protection = s.protection;
-    let coming = blocks::with_block(k, protection);
-    let mut next = s;
-    next.coming = coming;
-    next.old.lasting = lasting;
-    phase::in_phase(Phase::CommandAddress, next)
+    let coming = blocks::with_block(k, s.protection);
+    phase::in_phase(Phase::CommandAddress, blocks::to_come(coming, lasting, s))
 }
 
 // The slot with a sensor read begun: both bytes are fixed.
 fn fixed(s: Slot) -> Slot
     ensures { result ≡ in_phase Phase.SensorReadHigh (holding (read_of s.sensor s.sensor.pointer) s) }
 {
-    let x = s.sensor;
-    let word = bus_sensor::pin::read(x, x.pointer);
-    let mut next = s;
-    next.sensor.word = word;
-    phase::in_phase(Phase::SensorReadHigh, next)
+    let word = bus_sensor::pin::read(s.sensor, s.sensor.pointer);
+    phase::in_phase(Phase::SensorReadHigh, phase::holding(word, s))
 }
 
 // What the ACK of a control byte does.
@@ -73,34 +69,21 @@ fn obeyed(h: Heard, s: Slot) -> Slot
     ensures { result ≡ obeyed h s }
 {
     match h {
-        Heard::Memory { select: _, read } => {
-            if read {
-                return phase::in_phase(Phase::MemoryRead, s);
-            }
-            phase::in_phase(Phase::MemoryCounter, s)
-        }
-        Heard::Sensor { select: _, read } => {
-            if read {
-                return fixed(s);
-            }
-            phase::in_phase(Phase::SensorPointer, s)
-        }
+        Heard::Memory { read: true, .. } => phase::in_phase(Phase::MemoryRead, s),
+        Heard::Memory { read: false, .. } => phase::in_phase(Phase::MemoryCounter, s),
+        Heard::Sensor { read: true, .. } => fixed(s),
+        Heard::Sensor { read: false, .. } => phase::in_phase(Phase::SensorPointer, s),
         Heard::Protect(k) => protecting(k, false, s),
-        Heard::ClearAll => {
-            let mut next = s;
-            next.coming = [false; 4];
-            next.old.lasting = false;
-            phase::in_phase(Phase::CommandAddress, next)
-        }
-        Heard::ReadProtection(_) => phase::in_phase(Phase::Deaf, s),
-        Heard::SelectHalf(half) => {
-            let mut next = s;
-            next.half = half;
-            phase::in_phase(Phase::HalfSelected, next)
-        }
-        Heard::ReadHalf => phase::in_phase(Phase::Deaf, s),
+        Heard::ClearAll => phase::in_phase(
+            Phase::CommandAddress,
+            blocks::to_come([false; 4], false, s),
+        ),
+        Heard::SelectHalf(half) => phase::in_phase(Phase::HalfSelected, Slot { half, ..s }),
         Heard::ProtectForEver => protecting(BlockNo(0), true, s),
-        Heard::Nothing => phase::in_phase(Phase::Deaf, s),
+        Heard::ReadProtection(_) | Heard::ReadHalf | Heard::Nothing => phase::in_phase(
+            Phase::Deaf,
+            s,
+        ),
     }
 }
 
@@ -119,7 +102,8 @@ pub fn controlled(h: Heard, n: SlotNo, s: Slot) -> Heed
     } }
 {
     if acks_control(h, n, s) {
-        return ack(obeyed(h, s));
+        Heed::ack(obeyed(h, s))
+    } else {
+        Heed::nack(phase::in_phase(Phase::Deaf, s))
     }
-    nack(phase::in_phase(Phase::Deaf, s))
 }

@@ -1,9 +1,11 @@
 // Where a slot stands in an exchange.
-ghost use Rattle.std.specs.Prelude.{◌≡◌};
-ghost use Rattle.rules.specs.Fields.{in_phase};
-ghost use Rattle.rules.specs.Slot.{being, traits, standing};
+#![tactic(auto, unfolding(rules::specs::Fields::holding, rules::specs::Fields::in_phase, rules::specs::Fields::with_sensor, rules::specs::Fields::with_word, rules::specs::Modelled::absent, rules::specs::Modelled::sensing, rules::specs::Slot::standing))]
 
-use rules::{Phase, Slot, Traits};
+ghost use Rattle.std.specs.Prelude.{◌≡◌};
+ghost use Rattle.rules.specs.Fields.{in_phase, holding};
+ghost use Rattle.rules.specs.Slot.{traits, standing};
+
+use rules::{Phase, Sensor, Slot, Traits};
 
 // The slot in another phase.
 pub fn in_phase(phase: Phase, s: Slot) -> Slot
@@ -12,16 +14,23 @@ pub fn in_phase(phase: Phase, s: Slot) -> Slot
     Slot { phase, ..s }
 }
 
-fn being(sensor: bool, command: bool, takes: bool, drives: bool) -> Traits
-    ensures { result ≡ being sensor command takes drives }
+// The slot with a register's bytes held for an exchange with its sensor.
+pub fn holding(word: u16, s: Slot) -> Slot
+    ensures { result ≡ holding word s }
 {
-    Traits {
-        sensor,
-        command,
-        takes,
-        drives,
+    Slot {
+        sensor: Sensor { word, ..s.sensor },
+        ..s
     }
 }
+
+// A phase that is none of what a phase can be.
+const PLAIN: Traits = Traits {
+    sensor: false,
+    command: false,
+    takes: false,
+    drives: false,
+};
 
 // What a phase is: of an exchange with the sensor, of a protect or clear before its stop, one that takes data bytes, one that serves
 // reads.
@@ -29,17 +38,29 @@ pub fn traits(p: Phase) -> Traits
     ensures { result ≡ traits p }
 {
     match p {
-        Phase::MemoryData => being(false, false, true, false),
-        Phase::MemoryRead => being(false, false, false, true),
-        Phase::CommandAddress | Phase::CommandData | Phase::CommandStop => being(
-            false, true, false, false,
-        ),
-        Phase::SensorPointer | Phase::SensorHigh | Phase::SensorLow => being(
-            true, false, false, false,
-        ),
-        Phase::SensorReadHigh | Phase::SensorReadLow => being(true, false, false, true),
+        Phase::MemoryData => Traits {
+            takes: true,
+            ..PLAIN
+        },
+        Phase::MemoryRead => Traits {
+            drives: true,
+            ..PLAIN
+        },
+        Phase::CommandAddress | Phase::CommandData | Phase::CommandStop => Traits {
+            command: true,
+            ..PLAIN
+        },
+        Phase::SensorPointer | Phase::SensorHigh | Phase::SensorLow => Traits {
+            sensor: true,
+            ..PLAIN
+        },
+        Phase::SensorReadHigh | Phase::SensorReadLow => Traits {
+            sensor: true,
+            drives: true,
+            ..PLAIN
+        },
         Phase::Idle | Phase::Control | Phase::Deaf | Phase::MemoryCounter | Phase::HalfSelected =>
-            being(false, false, false, false),
+            PLAIN,
     }
 }
 
@@ -47,10 +68,10 @@ pub fn traits(p: Phase) -> Traits
 pub fn standing(s: Slot) -> Phase
     ensures { result ≡ standing s }
 {
-    let phase = s.phase;
-    let t = traits(phase);
-    if (s.kind == 0) | (t.sensor & (s.kind != 2)) {
-        return Phase::Deaf;
+    let t = traits(s.phase);
+    if s.is_absent() | (t.sensor & !s.has_sensor()) {
+        Phase::Deaf
+    } else {
+        s.phase
     }
-    phase
 }

@@ -1,10 +1,12 @@
 // What reaches one slot alone: high voltage, temperature, the write-protect pin.
+#![tactic(auto, unfolding(rules::specs::Fields::with_old, rules::specs::Fields::with_pin, rules::specs::Fields::with_sensor, rules::specs::Fields::with_voltage, rules::specs::Modelled::absent, rules::specs::Modelled::older, rules::specs::Modelled::sensing, rules::specs::Slot::applied, rules::specs::Slot::endures, rules::specs::Slot::heated, rules::specs::Slot::shielded, rules::specs::Slot::switched))]
+
 ghost use Rattle.std.specs.Prelude.{◌≡◌, cond};
 ghost use Rattle.rules.specs.Modelled.{absent};
 ghost use Rattle.rules.specs.Slot.{switched, heated, shielded, applied};
 
 use super::{leaving, phase};
-use rules::{Applied, Slot};
+use rules::{Applied, Older, Slot};
 
 // High voltage on or off: a protect or clear that its stop has not begun is cancelled when it goes off. An older module's lasting form is not: it
 // asks for the voltage at the control byte alone.
@@ -13,46 +15,49 @@ fn switched(on: bool, s: Slot) -> Slot
 {
     let p = phase::standing(s);
     let t = phase::traits(p);
-    let endures = (s.kind == 3) & s.old.lasting;
-    let mut next = s;
-    if t.command & s.voltage & !on & !endures {
-        next = leaving::lost(p, s);
+    let endures = s.is_older() & s.old.lasting;
+    let left = if t.command & s.voltage & !on & !endures {
+        leaving::lost(p, s)
+    } else {
+        s
+    };
+    Slot {
+        voltage: on,
+        ..left
     }
-    next.voltage = on;
-    next
 }
 
 // A temperature, which reaches a slot with a sensor alone.
 fn heated(t: i16, s: Slot) -> Slot
     ensures { result ≡ heated t s }
 {
-    if s.kind != 2 {
+    if !s.has_sensor() {
         return s;
     }
-    let x = s.sensor;
-    let sensor = bus_sensor::pin::converted(x, t);
-    let mut next = s;
-    next.sensor = sensor;
-    next
+    Slot {
+        sensor: bus_sensor::pin::converted(s.sensor, t),
+        ..s
+    }
 }
 
 // The write-protect pin on or off, which an older module alone has.
 fn shielded(on: bool, s: Slot) -> Slot
     ensures { result ≡ shielded on s }
 {
-    if s.kind != 3 {
+    if !s.is_older() {
         return s;
     }
-    let mut next = s;
-    next.old.pin = on;
-    next
+    Slot {
+        old: Older { pin: on, ..s.old },
+        ..s
+    }
 }
 
 // What is applied to one slot, at that slot; an absent one is left alone.
 pub fn applied(x: Applied, s: Slot) -> Slot
     ensures { result ≡ cond (absent s) s (applied x s) }
 {
-    if s.kind == 0 {
+    if s.is_absent() {
         return s;
     }
     match x {

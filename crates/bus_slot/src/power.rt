@@ -1,24 +1,24 @@
 // A power cycle at one slot, and what it still does of a write cycle that is running.
-ghost use Rattle.std.specs.Prelude.{◌≡◌, true, length};
+#![tactic(auto, unfolding(rules::specs::Fields::latched, rules::specs::Fresh::fresh_older, rules::specs::Fresh::fresh_slot, rules::specs::Fresh::powered, rules::specs::Power::cut))]
+
+ghost use Rattle.std.specs.Prelude.{◌≡◌};
 ghost use Rattle.rules.specs.Fresh.{powered};
-ghost use Rattle.rules.specs.Modelled.{slot_bytes};
 ghost use Rattle.rules.specs.Power.{first_of, cut, cut_part};
-ghost use Rattle.rules.specs.Refusals.{slot_in_range};
 ghost use Rattle.rules.specs.Slot.{slot_next};
 
 use super::cycle;
-use rules::{Act, Cut, Slot};
+use rules::{Act, Cut, Older, Slot};
 
 // Of the latched bytes, in ascending page offset, the first so many.
 fn first_of(k: Cut, marks: [bool; 16]) -> [bool; 16]
     ensures { result ≡ first_of k marks }
 {
     let mut first = marks;
-    let mut below: u8 = 0;
-    for i in 0..16usize {
-        if marks[i] {
-            first[i] = below < k.0;
-            below = below + 1;
+    let mut below = 0u8;
+    for mark in first.iter_mut() {
+        if *mark {
+            *mark = below < k.0;
+            below += 1;
         }
     }
     first
@@ -28,38 +28,41 @@ fn first_of(k: Cut, marks: [bool; 16]) -> [bool; 16]
 fn shortened(k: Cut, s: Slot) -> Slot
     ensures { result ≡ cut k s }
 {
-    let marks = s.marks;
-    let first = first_of(k, marks);
-    let mut next = s;
-    next.marks = first;
-    next
+    Slot {
+        marks: first_of(k, s.marks),
+        ..s
+    }
 }
 
 // Power keeps protection, permanent or not, the voltage and the write-protect pin, and all else is fresh.
 fn powered(s: Slot) -> Slot
     ensures { result ≡ powered s }
 {
+    let fresh = Slot::fresh(s.kind, s.length);
     let protection = s.protection;
-    let mut next = Slot::fresh(s.kind, s.length);
-    next.protection = protection;
-    next.coming = protection;
-    next.voltage = s.voltage;
-    next.old.permanent = s.old.permanent;
-    next.old.pin = s.old.pin;
-    next
+    Slot {
+        protection,
+        coming: protection,
+        voltage: s.voltage,
+        old: Older {
+            permanent: s.old.permanent,
+            pin: s.old.pin,
+            ..fresh.old
+        },
+        ..fresh
+    }
 }
 
 // A power cycle; part is the slot's own 512 bytes, which change where it cuts a write cycle short. Without a cycle the number has no effect, and 0
 // drops a running one: no byte is stored and no protection comes. An absent slot is left alone.
 pub fn cut(k: Cut, s: Slot, part: &mut [u8]) -> Slot
-    requires { (slot_in_range s ≡ true) × (length part.old ≡ slot_bytes) }
     ensures { (result ≡ slot_next 0 (Act.Power k) s) × (part.new ≡ cut_part k s part.old) }
 {
-    if s.kind == 0 {
-        return s;
+    if s.is_absent() {
+        s
+    } else if (s.left == 0) | (k.0 == 0) {
+        powered(s)
+    } else {
+        powered(cycle::ended(shortened(k, s), part))
     }
-    if (s.left == 0) | (k.0 == 0) {
-        return powered(s);
-    }
-    powered(cycle::ended(shortened(k, s), part))
 }

@@ -1,4 +1,6 @@
 // What reaches every slot and carries nothing, at one slot: start, stop, timeout.
+#![tactic(auto, unfolding(rules::specs::Modelled::absent, rules::specs::Slot::present_next, rules::specs::Slot::slot_next, rules::specs::Slot::stop_in, crate::specs::Signals::act_for, crate::specs::Signals::signalled))]
+
 ghost use Rattle.std.specs.Prelude.{◌≡◌};
 ghost use Rattle.rules.specs.Slot.{stop_in};
 ghost use Rattle.bus_slot.specs.Signals.{signalled};
@@ -40,7 +42,7 @@ pub enum Signal {
 pub fn signalled(x: Signal, s: Slot) -> Slot
     ensures { result ≡ signalled x s }
 {
-    if s.kind == 0 {
+    if s.is_absent() {
         return s;
     }
     let p = phase::standing(s);

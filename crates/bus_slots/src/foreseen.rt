@@ -1,12 +1,15 @@
 // What can be told of a slot's step at an act before it is done: most slots stay where they are, or only move to another phase.
+#![tactic(auto, unfolding(rules::specs::Modelled::absent, crate::specs::Foreseen::Foreseen))]
+
 ghost use Rattle.std.specs.Prelude.{◌≡◌, true, cond, ◌||◌, eqb};
 ghost use Rattle.rules.specs.Control.{heard_of};
 ghost use Rattle.rules.specs.Slot.{traits, standing};
 ghost use Rattle.rules.specs.Modelled.{absent};
-ghost use Rattle.bus_slots.specs.Foreseen.{heard_in, carrying, Unheard, Foreseen};
-ghost use Rattle.rules.specs.Events.{carried};
+ghost use Rattle.bus_slots.specs.Foreseen.{Unheard, Foreseen};
 
-use rules::{Act, Carried, Heard, Phase, Slot, SlotNo};
+use super::line;
+use super::line::Line;
+use rules::{Act, Heard, Phase, Slot, SlotNo};
 
 // The slot stays, or moves to another phase and no more, and shows nothing; or there is more to it.
 #[derive(Clone, Copy)]
@@ -16,54 +19,11 @@ pub enum Change {
     More,
 }
 
-// What an act carries over the wires.
-pub fn carried(a: Act) -> Carried
-    ensures { result ≡ carried a }
-{
-    match a {
-        Act::Start => Carried::Nothing,
-        Act::Byte(b) => Carried::Byte(b),
-        Act::Read(more) => Carried::Read(more),
-        Act::Stop => Carried::Nothing,
-        Act::Timeout => Carried::Nothing,
-        Act::Tick => Carried::Nothing,
-        Act::Power(_) => Carried::Nothing,
-        Act::Apply(_, _) => Carried::Nothing,
-    }
-}
-
-// What a control byte asks for, if a byte is carried.
-pub fn heard_in(c: Carried) -> Heard
-    ensures { result ≡ heard_in c }
-{
-    match c {
-        Carried::Byte(b) => bus_control::hear(b),
-        Carried::Read(_) => Heard::Nothing,
-        Carried::Nothing => Heard::Nothing,
-    }
-}
-
-// Whether it is a byte or a read, which concern no slot but those that listen.
-pub fn carrying(c: Carried) -> bool
-    ensures { result ≡ carrying c }
-{
-    match c {
-        Carried::Byte(_) => true,
-        Carried::Read(_) => true,
-        Carried::Nothing => false,
-    }
-}
-
 // The slot is idle or deaf.
 fn unheard(s: Slot) -> bool
     ensures { result ≡ true → Unheard (standing s) }
 {
-    let p = bus_slot::phase::standing(s);
-    match p {
-        Phase::Idle => true,
-        Phase::Deaf => true,
-        _ => false,
-    }
+    matches!(bus_slot::phase::standing(s), Phase::Idle | Phase::Deaf)
 }
 
 // Of a slot whose exchange holds nothing of it a start, stop or timeout changes the phase alone.
@@ -71,15 +31,14 @@ fn at_signal(next: Phase, s: Slot) -> Change
     ensures { result ≡ cond (absent s) Change.Nothing
         (cond ((traits (standing s)).sensor || (traits (standing s)).command || (traits (standing s)).takes) Change.More (Change.To next)) }
 {
-    if s.kind == 0 {
-        return Change::Nothing;
+    let t = bus_slot::phase::traits(bus_slot::phase::standing(s));
+    if s.is_absent() {
+        Change::Nothing
+    } else if t.sensor | t.command | t.takes {
+        Change::More
+    } else {
+        Change::To(next)
     }
-    let p = bus_slot::phase::standing(s);
-    let t = bus_slot::phase::traits(p);
-    if t.sensor | t.command | t.takes {
-        return Change::More;
-    }
-    Change::To(next)
 }
 
 // A slot that does not acknowledge its control byte goes deaf; h is what that asks for by document 01.
@@ -87,14 +46,9 @@ fn at_control(b: u8, h: Heard, n: SlotNo, s: Slot) -> Change
     requires { h ≡ heard_of b }
     ensures { Foreseen result n.0 (Act.Byte b) s }
 {
-    let p = bus_slot::phase::standing(s);
-    match p {
-        Phase::Control => {
-            if bus_slot::obey::acks_control(bus_control::heard_by(h, n, b, s), n, s) {
-                return Change::More;
-            }
-            Change::To(Phase::Deaf)
-        }
+    match bus_slot::phase::standing(s) {
+        Phase::Control if !bus_slot::obey::acks_control(bus_control::heard_by(h, n, b, s), n, s) =>
+            Change::To(Phase::Deaf),
         _ => Change::More,
     }
 }
@@ -104,38 +58,36 @@ fn at_tick(n: SlotNo, s: Slot) -> Change
     ensures { Foreseen result n.0 Act.Tick s }
 {
     if s.left == 0 {
-        return Change::Nothing;
+        Change::Nothing
+    } else {
+        Change::More
     }
-    Change::More
 }
 
 // What is applied to one slot touches the slot that it names.
 fn at_one(k: SlotNo, n: SlotNo) -> Change
     ensures { result ≡ cond (eqb k.0 n.0) Change.More Change.Nothing }
 {
-    if k.0 == n.0 {
-        return Change::More;
+    if k == n {
+        Change::More
+    } else {
+        Change::Nothing
     }
-    Change::Nothing
 }
 
-// What can be told of slot n's step at an act; whether it carries a byte or a read, and what that asks for, are the same for every slot, and
-// are given.
-pub fn glance(a: Act, carries: bool, h: Heard, n: SlotNo, s: Slot) -> Change
-    requires { (carries ≡ carrying (carried a)) × (h ≡ heard_in (carried a)) }
-    ensures { Foreseen result n.0 a s }
+// What can be told of slot n's step at an act.
+pub fn glance(line: Line, n: SlotNo, s: Slot) -> Change
+    ensures { Foreseen result n.0 line.act s }
 {
-    if carries & unheard(s) {
+    if line::carrying(line.carries) & unheard(s) {
         return Change::Nothing;
     }
-    match a {
+    match line.act {
         Act::Start => at_signal(Phase::Control, s),
-        Act::Byte(b) => at_control(b, h, n, s),
-        Act::Read(_) => Change::More,
-        Act::Stop => at_signal(Phase::Idle, s),
-        Act::Timeout => at_signal(Phase::Idle, s),
+        Act::Byte(b) => at_control(b, line.heard, n, s),
+        Act::Stop | Act::Timeout => at_signal(Phase::Idle, s),
         Act::Tick => at_tick(n, s),
-        Act::Power(_) => Change::More,
+        Act::Read(_) | Act::Power(_) => Change::More,
         Act::Apply(k, _) => at_one(k, n),
     }
 }

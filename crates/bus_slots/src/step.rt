@@ -1,85 +1,81 @@
 // One slot at an event of any kind: what it does, and what it shows. It looks at no other slot.
-ghost use Rattle.std.specs.Prelude.{◌≡◌, true, false, length};
+// Kept: a slot's number n beside the slot, here and below, and no struct of both: the law's definitions take them apart, and half the functions of a
+// slot need no number.
+#![tactic(auto, unfolding(rules::specs::Slot::slot_next, rules::specs::Slot::present_next, rules::specs::Slot::part_next, crate::specs::Stepped::stepped, bus_slot::specs::ReadOut::read_out, bus_slot::specs::Heeded::heeded, bus_slot::specs::Signals::act_for, bus_slot::specs::Signals::signalled))]
+
+ghost use Rattle.std.specs.Prelude.{◌≡◌, false, cond};
 ghost use Rattle.rules.specs.Control.{heard_of};
 ghost use Rattle.rules.specs.Slot.{slot_next, acks, drives, driven, part_next};
-ghost use Rattle.rules.specs.Modelled.{slot_bytes};
-ghost use Rattle.rules.specs.Refusals.{slot_in_range};
-ghost use Rattle.rules.specs.Events.{carried};
-ghost use Rattle.bus_slots.specs.Foreseen.{heard_in};
 ghost use Rattle.bus_slots.specs.Stepped.{stepped};
 
+use super::line::Line;
+use bus_slot::drive::Drive;
+use bus_slot::obey::Heed;
 use bus_slot::signal::Signal;
 use rules::{Act, Applied, Heard, Slot, SlotNo};
 
-// A slot after an act, whether it acknowledges, whether it drives a byte, and which; FFh where it drives none.
+// A slot after an act, whether it acknowledges, and the byte that it drives, if it drives one.
 #[derive(Clone, Copy)]
 pub struct Step {
     pub slot: Slot,
     pub ack: bool,
-    pub drives: bool,
-    pub byte: u8,
+    pub byte: Option<u8>,
 }
 
 // A slot that shows nothing.
 fn quiet(slot: Slot) -> Step
-    ensures { result ≡ record { slot = slot; ack = false; drives = false; byte = 255 } }
+    ensures { result ≡ record { slot = slot; ack = false; byte = None } }
 {
     Step {
         slot,
         ack: false,
-        drives: false,
-        byte: 255,
+        byte: None,
     }
 }
 
 // A step at a byte; h is what it asks for by document 01.
 fn heeding(b: u8, h: Heard, n: SlotNo, s: Slot) -> Step
-    requires { (slot_in_range s ≡ true) × (h ≡ heard_of b) }
-    ensures { result ≡ record { slot = slot_next n.0 (Act.Byte b) s; ack = acks n.0 b s; drives = false; byte = 255 } }
+    requires { h ≡ heard_of b }
+    ensures { result ≡ record { slot = slot_next n.0 (Act.Byte b) s; ack = acks n.0 b s; byte = None } }
 {
-    let x = bus_slot::listen::byte(s, n, b, bus_control::heard_by(h, n, b, s));
-    let slot = x.slot;
+    let Heed { slot, ack } = bus_slot::listen::byte(s, n, b, bus_control::heard_by(h, n, b, s));
     Step {
         slot,
-        ack: x.ack,
-        drives: false,
-        byte: 255,
+        ack,
+        byte: None,
     }
 }
 
 // A step at a read.
 fn driving(more: bool, s: Slot, part: &[u8]) -> Step
-    requires { (slot_in_range s ≡ true) × (length part.now ≡ slot_bytes) }
-    ensures { result ≡ record { slot = slot_next 0 (Act.Read more) s; ack = false; drives = drives s; byte = driven part.now s } }
+    ensures { result ≡ record { slot = slot_next 0 (Act.Read more) s; ack = false; byte = cond (drives s) (Some (driven part.now s)) None } }
 {
-    let x = bus_slot::drive::read(s, part, more);
-    let slot = x.slot;
+    let Drive { slot, byte } = bus_slot::drive::read(s, part, more);
     Step {
         slot,
         ack: false,
-        drives: x.drives,
-        byte: x.byte,
+        byte,
     }
 }
 
 // The step at what is applied to slot k.
 fn applied(k: SlotNo, x: Applied, n: SlotNo, s: Slot) -> Step
-    ensures { result ≡ record { slot = slot_next n.0 (Act.Apply k x) s; ack = false; drives = false; byte = 255 } }
+    ensures { result ≡ record { slot = slot_next n.0 (Act.Apply k x) s; ack = false; byte = None } }
 {
-    if k.0 == n.0 {
-        return quiet(bus_slot::pins::applied(x, s));
+    if k == n {
+        quiet(bus_slot::pins::applied(x, s))
+    } else {
+        quiet(s)
     }
-    quiet(s)
 }
 
 // Slot n's step at an act; part is its own 512 bytes, which a tick and a power cycle may change.
-pub fn next(a: Act, n: SlotNo, h: Heard, s: Slot, part: &mut [u8]) -> Step
-    requires { (h ≡ heard_in (carried a)) × (slot_in_range s ≡ true) × (length part.old ≡ slot_bytes) }
-    ensures { (result ≡ stepped n.0 a part.old s) × (part.new ≡ part_next a s part.old) }
+pub fn next(line: Line, n: SlotNo, s: Slot, part: &mut [u8]) -> Step
+    ensures { (result ≡ stepped n.0 line.act part.old s) × (part.new ≡ part_next line.act s part.old) }
 {
-    match a {
+    match line.act {
         Act::Start => quiet(bus_slot::signal::signalled(Signal::Start, s)),
-        Act::Byte(b) => heeding(b, h, n, s),
+        Act::Byte(b) => heeding(b, line.heard, n, s),
         Act::Read(more) => driving(more, s, part),
         Act::Stop => quiet(bus_slot::signal::signalled(Signal::Stop, s)),
         Act::Timeout => quiet(bus_slot::signal::signalled(Signal::Timeout, s)),

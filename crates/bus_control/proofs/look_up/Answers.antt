@@ -1,22 +1,19 @@
--- No row passed has the byte: what is found in those to come is what is found in all.
-use mathlib.Core.Path.{refl, ◌∙◌}
-use native.Mathlib.Omega.{arith}
-use Rattle.bus_control.specs.Rows.{found_in}
-use Rattle.bus_control.proofs.Search.{here, passed, none}
+-- The first row that has the byte, or none.
+use Rattle.std.proofs.Common.{◌≡◌, Option, Some, None, rules, Bor, tests}
+use Rattle.std.specs.Option.{MatchOption, option_map, option_map_or}
+use Rattle.std.proofs.lemmas.Iterator.{YieldsList-from_slice}
+use Rattle.std.proofs.lemmas.Iterator.Search.{find_from_yields_List}
+use Rattle.rules.specs.declared.Heard.{Heard}
+use Rattle.rules.specs.declared.Heard.TheVariants.{Nothing}
+use Rattle.bus_control.specs.declared.Row.{Row}
+use Rattle.bus_control.specs.Rows.{has, asks}
 use Rattle.bus_control.proofs.look_up.Goals as goal
 
-pub loop-i-init : goal.loop-i-init
-unfolding found_in
-loop-i-init c = (omega arith, refl)
-
-pub returns-then-b-row : goal.returns-then-b-row
-unfolding found_in
-returns-then-b-row c = let l = c.loop-i in let p = c.args in here p.rows p.b l.i (omega arith) c.if-b-row.true ∙ l.invariant.1
-
-pub loop-i-preserved : goal.loop-i-preserved
-unfolding found_in
-loop-i-preserved c = let l = c.loop-i in let p = c.args in (omega arith, passed p.rows p.b l.i (omega arith) c.if-b-row.false ∙ l.invariant.1)
+asked : {Q : Bor Row → Type 0} (o : Option (Bor Row)) (r : Heard) (m : Option Row) → option_map (λ x. x.now) o ≡ m → MatchOption o (r ≡ Nothing) Q
+    → ((x : Bor Row) → Q x → r ≡ x.now.1) → r ≡ option_map_or asks m Nothing
+asked None r m e h g = rw (← e) h
+asked (Some x) r m e h g = rw (← e) (g x h)
 
 pub returns : goal.returns
-unfolding found_in
-returns c = let l = c.loop-i in let p = c.args in none p.rows p.b l.i (omega arith) ∙ l.invariant.1
+returns c = asked c.find.result _ _ (find_from_yields_List (has c.args.b) _ _ _ c.find.ensures.ran (YieldsList-from_slice c.args.rows.now cc) (λ x b q k. search (rules, tests)))
+    c.map_or.ensures (λ x q. search rules)

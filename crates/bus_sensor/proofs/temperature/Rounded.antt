@@ -49,17 +49,11 @@ module _ (k m : ℕ) (small : k + m < 100) (z : ℤ) (h : SFits w16 z) where
   sum-mag : mag (z +ℤ pos k) < 40000
   sum-mag = plus-mag z k 40000 (omega (arith, h.sfits))
 
-  pub sum_fits : SFits w32 (widened z +ℤ pos k)
-  sum_fits = rw (widened_is z h) (record { sfits = omega (arith, sum-mag) })
-
   multiple-mag : mag (shr_z (z +ℤ pos k) m *ℤ pos m) < 2147483648
   multiple-mag = omega (arith, sum-mag, below-mag m (z +ℤ pos k))
 
   shifted-is : to_z w32 (of_z w32 (shr_z (to_z w32 (of_z w32 (widened z +ℤ pos k))) m)) ≡ shr_z (z +ℤ pos k) m
   shifted-is = rw (widened_is z h, wide_back (z +ℤ pos k) (omega (arith, sum-mag))) (wide_back _ (omega (arith, sum-mag, mag_shr (z +ℤ pos k) m)))
-
-  pub product-fits : SFits w32 (to_z w32 (of_z w32 (shr_z (to_z w32 (of_z w32 (widened z +ℤ pos k))) m)) *ℤ pos m)
-  product-fits = rw shifted-is (record { sfits = multiple-mag })
 
   product_is : to_z w32 (of_z w32 (to_z w32 (of_z w32 (shr_z (to_z w32 (of_z w32 (widened z +ℤ pos k))) m)) *ℤ pos m)) ≡ shr_z (z +ℤ pos k) m *ℤ pos m
   product_is = rw (shifted-is, wide_back (shr_z (z +ℤ pos k) m *ℤ pos m) multiple-mag)

@@ -2,7 +2,8 @@
 -- Assumes nothing.
 use mathlib.Core.Path.{◌≡◌, refl, sym, ◌∙◌, ap}
 use Prim.Native.Nat.{ℕ}
-use mathlib.Core.Bool.{Bool}
+use mathlib.Core.Bool.{Bool, cond}
+use Rattle.std.specs.Prelude.{Some, None}
 use mathlib.Core.List.{List, map}
 use Rattle.rules.specs.declared.Phase.{Phase}
 use Rattle.rules.specs.declared.Slot.{Slot}
@@ -14,14 +15,14 @@ use Rattle.bus_slot.specs.ReadOut.{read_out}
 
 -- what a read gives in a phase
 abbrev pub out_in : Bool → List ℕ → Slot → Phase → Drive
-out_in more m s p = record { slot = read_in p more s; drives = drives_in p; byte = driven_in p s m }
+out_in more m s p = record { slot = read_in p more s; byte = cond (drives_in p) (Some (driven_in p s m)) None }
 
 -- by the phase that the slot stands in
 pub read_by : (r : Drive) (more : Bool) (m : List ℕ) (s : Slot) (q p : Phase) → q ≡ standing s → q ≡ p → r ≡ out_in more m s p → r ≡ read_out more m s
 unfolding read_out drives driven
 read_by r more m s q p e f g =
     g ∙ ap (out_in more m s) (sym f ∙ e)
-    ∙ ap (λ (t : Slot). record { slot = t; drives = drives s; byte = driven m s }) (sym (read_next 0 more s))
+    ∙ ap (λ (t : Slot). record { slot = t; byte = cond (drives s) (Some (driven m s)) None }) (sym (read_next 0 more s))
 
 -- in an arm that names several phases
 pub read-among : (qs : List Phase) (f : Phase → Drive) (r : Drive) (more : Bool) (m : List ℕ) (s : Slot) (q : Phase) → q ≡ standing s → Among qs q → r ≡ f q

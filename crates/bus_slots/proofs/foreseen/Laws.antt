@@ -2,9 +2,8 @@
 -- Assumes nothing.
 use mathlib.Core.Path.{◌≡◌, refl, sym, ◌∙◌, ap}
 use mathlib.Core.Bool.{Bool, true, false, false≢true, cond, ◌&&◌, ◌||◌}
-use mathlib.Core.Logic.{inl, inr, ⊎_elim}
+use mathlib.Core.Logic.{⊎_elim}
 use Prim.Native.Nat.{ℕ}
-use borrow.Author.Tests.{ne_eqb}
 use lib.Dec.{eqb}
 use Rattle.proof_lists.specs.Tests.{cond_cases, cond_same, or_left_false, or_right_false}
 use Rattle.rules.specs.declared.Act.{Act}
@@ -14,10 +13,9 @@ use Rattle.rules.specs.declared.Phase.{Phase}
 use Rattle.rules.specs.declared.Phase.TheVariants.{Idle, Control, Deaf, MemoryCounter, MemoryData, MemoryRead, HalfSelected, CommandAddress, CommandData, CommandStop, SensorPointer, SensorHigh, SensorLow, SensorReadHigh, SensorReadLow}
 use Rattle.rules.specs.declared.Slot.{Slot}
 use Rattle.rules.specs.declared.SlotNo.{SlotNo}
-use Rattle.rules.specs.declared.Traits.{Traits}
 use Rattle.rules.specs.Modelled.{absent}
 use Rattle.rules.specs.declared.Heard.{Heard}
-use Rattle.rules.specs.Control.{heard_of, heard_by, acks_heard, acks_control, obeyed, controlled}
+use Rattle.rules.specs.Control.{heard_by, acks_heard, acks_control, obeyed, controlled}
 use Rattle.rules.specs.Fields.{in_phase}
 use Rattle.rules.specs.Slot.{traits, standing, let_go, stop_in, byte_in, acks_in, read_in, drives_in, present_next, slot_next, acks, drives, part_next}
 use Rattle.rules.proofs.Document.Cycle.{idle-tick, idle-tick-part}
@@ -25,7 +23,7 @@ use Rattle.rules.proofs.Run.Cases.{absent-next, present-next, byte_next, read_ne
 use Rattle.bus_slots.specs.declared.foreseen.Change.{Change}
 use Rattle.bus_slots.specs.declared.foreseen.Change.TheVariants as change
 use Rattle.rules.specs.Events.{carried}
-use Rattle.bus_slots.specs.Foreseen.{heard_in, carrying, Unheard, Silent, Foreseen}
+use Rattle.bus_slots.specs.Foreseen.{carrying, Unheard, Silent, Foreseen}
 
 -- an exchange that is left in the phase lets something go
 abbrev pub holds_in : Phase → Bool
@@ -54,11 +52,6 @@ stop-none SensorHigh s e = absurd (false≢true (sym e))
 stop-none SensorLow s e = absurd (false≢true (sym e))
 stop-none SensorReadHigh s e = absurd (false≢true (sym e))
 stop-none SensorReadLow s e = absurd (false≢true (sym e))
-
--- where there is more to it nothing is told
-pub more : (n : ℕ) (a : Act) (s : Slot) → Foreseen change.More n a s
-unfolding Foreseen
-more n a s = tt
 
 module _ (n : ℕ) (s : Slot) where
   pub by-act : (c : Change) (a q : Act) → a ≡ q → Foreseen c n q s → Foreseen c n a s
@@ -152,28 +145,6 @@ module _ (n : ℕ) (s : Slot) where
   applied-other c k x e =
       rw e (cond_cases (λ (y : Change). Foreseen y n (Apply k x) s) (eqb k.0 n) (λ t. tt)
       (λ f. (rw f (cond_same (absent s) s), record { mute = refl; still = refl; kept = λ m. refl })))
-
--- the traits of the phase that a slot stands in, by the tests
-pub passes : (r : Change) (s : Slot) (next q : Phase) (t : Traits) (b : Bool) → (s.kind ≡ 0 → ⊥) → q ≡ standing s → t ≡ traits q → (t.sensor || t.command || t.takes) ≡ b
-    → r ≡ cond b change.More (change.To next) → r ≡ cond (absent s) change.Nothing (cond (holds_in (standing s)) change.More (change.To next))
-unfolding absent
-passes r s next q t b k e f g h =
-    h
-    ∙ ap (λ (x : Bool). cond x change.More (change.To next)) (sym g ∙ ap (λ (x : Traits). x.sensor || x.command || x.takes) (f ∙ ap traits e))
-    ∙ sym (ap (λ (x : Bool). cond x change.Nothing (cond (holds_in (standing s)) change.More (change.To next))) (ne_eqb s.kind 0 k))
-
-pub heard-byte : (d : Heard) (a : Act) (b : ℕ) → d ≡ heard_in (carried a) → a ≡ Byte b → d ≡ heard_of b
-heard-byte d a b e f = e ∙ ap (λ (x : Act). heard_in (carried x)) f
-
--- whether a slot is idle or deaf, by the arms of the test
-pub is-idle : (r : Bool) (q : Phase) (s : Slot) → q ≡ standing s → q ≡ Idle → (r ≡ true → Unheard (standing s))
-is-idle r q s e f g = inl (sym e ∙ f)
-
-pub is-deaf : (r : Bool) (q : Phase) (s : Slot) → q ≡ standing s → q ≡ Deaf → (r ≡ true → Unheard (standing s))
-is-deaf r q s e f g = inr (sym e ∙ f)
-
-pub is-neither : (s : Slot) → (false ≡ true → Unheard (standing s))
-is-neither s e = absurd (false≢true e)
 
 pub both_rest : (n : ℕ) (a : Act) (s : Slot) (c u : Bool) → c ≡ carrying (carried a) → (u ≡ true → Unheard (standing s)) → (c && u) ≡ true → Foreseen change.Nothing n a s
 both_rest n a s true u e f g = rests n s a (sym e) (f g)

@@ -1,23 +1,17 @@
--- Some mark of those passed, or of those to come.
-use mathlib.Core.Path.{refl, sym, ◌∙◌}
-use mathlib.Core.Bool.{false}
-use Prim.Native.Nat.{◌<◌}
-use native.Mathlib.Omega.{arith}
-use borrow.Author.Rules.{rules}
-use lib.ListN.{length}
-use Rattle.proof_lists.specs.Each.{any_from-step, any_from-none}
+-- Whether some mark is set, by the list of them alone.
+use Rattle.std.proofs.Common.{◌≡◌, ◌∙◌, ap, refl, ℕ, suc, Bool, ◌||◌, List, [], ◌∷◌, rules, tests}
+use Rattle.std.specs.List.{list_any}
+use Rattle.std.proofs.lemmas.Iterator.{YieldsList-from_slice}
+use Rattle.std.proofs.lemmas.Iterator.Search.{any_from_yields_List}
+use Rattle.proof_lists.specs.Each.{any_from}
 use Rattle.rules.specs.Memory.{any_mark}
-use Rattle.bus_slot.proofs.cycle.any_mark.Invariants.{each}
 use Rattle.bus_slot.proofs.cycle.any_mark.Goals as goal
 
-pub loop-i-init : goal.loop-i-init
-unfolding any_mark
-loop-i-init c = (omega arith, search rules, refl)
-
-pub loop-i-preserved : goal.loop-i-preserved
-unfolding any_mark
-loop-i-preserved c = let l = c.loop-i in let m = c.args.marks in let h : l.i < length m = omega arith in (omega arith, l.invariant.1, sym (any_from-step each l.i m false l.any h) ∙ l.invariant.2)
+any-list : (n : ℕ) (xs : List Bool) → list_any (λ m. m) xs ≡ any_from (λ i m. m) n xs
+unfolding any_from
+any-list n [] = refl
+any-list n (x ∷ xs) = ap (λ (b : Bool). x || b) (any-list (suc n) xs)
 
 pub returns : goal.returns
 unfolding any_mark
-returns c = let l = c.loop-i in sym (any_from-none each l.i c.args.marks l.any (omega arith)) ∙ l.invariant.2
+returns c = any_from_yields_List (λ m. m) _ _ _ c.any.ensures.ran (YieldsList-from_slice c.args.marks cc) (λ x b q k. search (rules, tests)) ∙ any-list 0 c.args.marks

@@ -1,21 +1,18 @@
--- The slot is absent, its cycle ends, none runs, or it goes on.
-use mathlib.Core.Path.{refl}
+-- The slot is absent, none runs, its cycle ends, or it goes on.
+use Rattle.std.proofs.Common.{refl, sym, ◌∙◌, arith}
 use Rattle.rules.specs.Fields.{with_left}
 use Rattle.bus_slot.proofs.cycle.Laws.{tick-absent, tick-ends, tick-waits, tick-rests}
 use Rattle.bus_slot.proofs.cycle.tick.Goals as goal
 
-pub returns-then-s-eq0 : goal.returns-then-s-eq0
-unfolding with_left
-returns-then-s-eq0 c = tick-absent _ _ _ _ c.if-s-eq0.true refl refl
+pub returns-then-is_absent : goal.returns-then-is_absent
+returns-then-is_absent c = tick-absent _ _ _ _ (sym c.is_absent.ensures ∙ c.if-is_absent.true) refl refl
 
-pub returns-then-left-eq1 : goal.returns-then-left-eq1
-unfolding with_left
-returns-then-left-eq1 c = tick-ends _ _ _ _ c.if-s-eq0.false c.if-left-eq1.true c.ended.ensures.0 c.ended.ensures.1
+pub returns-in-0 : goal.returns-in-0
+returns-in-0 c = tick-rests _ _ _ _ (sym c.is_absent.ensures ∙ c.if-is_absent.false) c.in-0.is refl refl
 
-pub returns-then-left-eq0 : goal.returns-then-left-eq0
-unfolding with_left
-returns-then-left-eq0 c = tick-rests _ _ _ _ c.if-s-eq0.false c.if-left-eq0.true refl refl
+pub returns-in-1 : goal.returns-in-1
+returns-in-1 c = tick-ends _ _ _ _ (sym c.is_absent.ensures ∙ c.if-is_absent.false) c.in-1.is c.ended.ensures.0 c.ended.ensures.1
 
-pub returns : goal.returns
+pub returns-in_default : goal.returns-in_default
 unfolding with_left
-returns c = tick-waits _ _ _ _ c.if-s-eq0.false c.if-left-eq1.false refl refl
+returns-in_default c = tick-waits _ _ _ _ (sym c.is_absent.ensures ∙ c.if-is_absent.false) (λ e. omega arith) refl refl

@@ -1,5 +1,5 @@
 -- Each phase's arm gives what the definition gives in that phase.
-use mathlib.Core.Bool.{false}
+use Rattle.std.specs.Prelude.{None}
 use mathlib.Core.List.{[], ◌∷◌}
 use mathlib.Core.Path.{refl}
 use Rattle.rules.specs.declared.Phase.TheVariants.{Idle, Deaf, MemoryCounter, MemoryData, HalfSelected, CommandAddress, CommandData, CommandStop, SensorPointer, SensorHigh, SensorLow}
@@ -11,7 +11,7 @@ pub returns-in-Idle : goal.returns-in-Idle
 unfolding read_in driven_in
 returns-in-Idle c =
     let s = c.args.s in
-    read-among (Idle ∷ Deaf ∷ []) (λ p. record { slot = s; drives = false; byte = 255 }) _ _ _ s _ c.standing-phase.ensures c.in-Idle.is c.silent.ensures refl
+    read-among (Idle ∷ Deaf ∷ []) (λ p. record { slot = s; byte = None }) _ _ _ s _ c.standing-phase.ensures c.in-Idle.is c.silent.ensures refl
 
 pub returns-in-Control : goal.returns-in-Control
 unfolding read_in driven_in
@@ -33,4 +33,4 @@ pub returns-in-MemoryCounter : goal.returns-in-MemoryCounter
 unfolding read_in driven_in
 returns-in-MemoryCounter c =
     let s = c.args.s in
-    read-among (MemoryCounter ∷ MemoryData ∷ HalfSelected ∷ CommandAddress ∷ CommandData ∷ CommandStop ∷ SensorPointer ∷ SensorHigh ∷ SensorLow ∷ []) (λ p. record { slot = lost p s; drives = false; byte = 255 }) _ _ _ s _ c.standing-phase.ensures c.in-MemoryCounter.is (rw (c.silent-in-MemoryCounter.ensures, c.lost.ensures)) refl
+    read-among (MemoryCounter ∷ MemoryData ∷ HalfSelected ∷ CommandAddress ∷ CommandData ∷ CommandStop ∷ SensorPointer ∷ SensorHigh ∷ SensorLow ∷ []) (λ p. record { slot = lost p s; byte = None }) _ _ _ s _ c.standing-phase.ensures c.in-MemoryCounter.is (rw (c.silent-in-MemoryCounter.ensures, c.lost.ensures)) refl

@@ -16,7 +16,7 @@ returns-in-Idle c =
 
 pub returns-in-Control : goal.returns-in-Control
 unfolding byte_in acks_in controlled acks_control
-returns-in-Control c = heeded-by _ _ _ _ _ _ c.standing-phase.ensures c.in-Control.is (rw (c.controlled.ensures, c.requires.1))
+returns-in-Control c = heeded-by _ _ _ _ _ _ c.standing-phase.ensures c.in-Control.is (rw (c.controlled.ensures, c.requires))
 
 pub returns-in-MemoryCounter : goal.returns-in-MemoryCounter
 unfolding byte_in acks_in controlled acks_control

@@ -1,19 +1,14 @@
 -- The slot is absent, no cycle runs or it is dropped, or one is cut short.
-use mathlib.Core.Path.{refl}
-use Rattle.bus_slot.proofs.power.Laws.{cut-in-range, power-absent, power-rests, power-cuts}
+use mathlib.Core.Path.{refl, sym, ◌∙◌}
+use Rattle.bus_slot.proofs.power.Laws.{power-absent, power-rests, power-cuts}
 use Rattle.bus_slot.proofs.power.cut.Goals as goal
 
-pub returns-then-s-eq0 : goal.returns-then-s-eq0
-returns-then-s-eq0 c = power-absent _ _ _ _ _ c.if-s-eq0.true refl refl
+pub returns-then-is_absent : goal.returns-then-is_absent
+returns-then-is_absent c = power-absent _ _ _ _ _ (sym c.is_absent.ensures ∙ c.if-is_absent.true) refl refl
 
 pub returns-then-s-k : goal.returns-then-s-k
-returns-then-s-k c = power-rests _ _ _ _ _ c.if-s-eq0.false c.if-s-k.true c.powered.ensures refl
+returns-then-s-k c = power-rests _ _ _ _ _ (sym c.is_absent.ensures ∙ c.if-is_absent.false) c.if-s-k.true c.powered.ensures refl
 
-pub ended-requires : goal.ended-requires
-ended-requires c = let g = c in (rw c.shortened.ensures (cut-in-range _ _ g.requires.0), g.requires.1)
-
-pub returns : goal.returns
-returns c =
-    let e = c in
-    let x = e in
-    power-cuts _ _ _ _ _ x.if-s-eq0.false x.if-s-k.false _ _ x.shortened.ensures e.ended.ensures.0 e.ended.ensures.1 c.powered-2.ensures
+pub returns-else-s-k : goal.returns-else-s-k
+returns-else-s-k c =
+    power-cuts _ _ _ _ _ (sym c.is_absent.ensures ∙ c.if-is_absent.false) c.if-s-k.false _ _ c.shortened.ensures c.ended.ensures.0 c.ended.ensures.1 c.powered-else-s-k.ensures

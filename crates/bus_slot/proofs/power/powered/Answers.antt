@@ -5,4 +5,4 @@ use Rattle.bus_slot.proofs.power.powered.Goals as goal
 
 pub returns : goal.returns
 unfolding powered fresh_slot fresh_older open-fields
-returns c = rw c.fresh-next.ensures
+returns c = rw c.fresh-fresh.ensures
