@@ -71,23 +71,13 @@ pub fn put_three(out: &mut [u8], at: usize, a: u8, b: u8, c: u8) -> usize
     at + 3
 }
 
-// A number's last decimal digit.
-fn last_digit(n: usize) -> u8
-    ensures { result ≡ digit n }
-{
-    0x30 + (n % 10) as u8
-}
-
-// A number in decimal, put at a place; the place after it. It calls itself for the digits in front of the last, nineteen at most.
+// A number in decimal, put at a place; the place after it.
 pub fn put_decimal(out: &mut [u8], at: usize, n: usize) -> usize
     requires { at + length (decimal n) ≤ length out.old }
     ensures { (result ≡ at + length (decimal n)) × (out.new ≡ sets out.old at (decimal n)) }
 {
-    if n <= 9 {
-        return put_one(out, at, last_digit(n));
-    }
-    let end = put_decimal(out, at, n / 10);
-    put_one(out, end, last_digit(n))
+    let mut buffer = itoa::Buffer::new();
+    put(out, at, buffer.format(n).as_bytes())
 }
 
 // A refusal's text, `R` and its number, put at a place; the place after it.
