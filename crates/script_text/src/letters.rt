@@ -34,8 +34,8 @@ fn number_of(r: Refusal) -> u8
     }
 }
 
-// Characters, put at a place; the place after them.
-pub fn put(out: &mut [u8], at: usize, text: &[u8]) -> usize
+// A text, or any other elements, put at a place; the place after them.
+pub fn put<T: Copy>(out: &mut [T], at: usize, text: &[T]) -> usize
     requires { at + length text.now ≤ length out.old }
     ensures { (result ≡ at + length text.now) × (out.new ≡ sets out.old at text.now) }
 {

@@ -2,7 +2,7 @@
 -- Assumes nothing.
 use mathlib.Core.Path.{◌≡◌, refl, sym, ◌∙◌, ap}
 use mathlib.Core.List.{List, [], ◌∷◌, ◌++◌}
-use Prim.Native.Nat.{ℕ, ◌+◌, ◌/◌, ◌%◌, ◌≤◌, ◌<◌}
+use Prim.Native.Nat.{ℕ, ◌+◌, ◌/◌, ◌≤◌}
 use native.Mathlib.Nat.{zero-add}
 use native.Mathlib.Omega.{arith}
 use lib.ListN.{length, length-append}
@@ -14,8 +14,8 @@ use Rattle.rules.specs.declared.Refusal.{Refusal}
 use Rattle.rules.specs.declared.Refusal.TheVariants.{MemoryLength, UnknownKind, WrongSlot, WrongValue, WrongSetup, WrongState, ProtectedPage, Busy, TooShort, WrongForm}
 use Rattle.rules.specs.Events.{letter_of, refusal_number}
 use Rattle.script_text.specs.Decimal.{digit, decimal}
-use Rattle.script_text.specs.Letters.{hex_digit, digits_of, answer_text, line_of, refusal_line}
-use Rattle.script_text.proofs.letters.Decimal.{decimal-one, decimal-more, digits-most}
+use Rattle.script_text.specs.Letters.{digits_of, answer_text, line_of, refusal_line}
+use Rattle.script_text.proofs.letters.Decimal.{decimal-more, digits-most}
 
 -- a refusal's number has at most two digits
 pub refusal-small : (r : Refusal) → refusal_number r ≤ 10

@@ -8,12 +8,11 @@ use native.Mathlib.Omega.{arith}
 use borrow.Author.Tests.{ltb-true, ltb-false}
 use lib.IntN.{pos, negsuc, ◌-ℤ◌}
 use lib.Dec.{ltb}
-use lib.ListN.{length, get_or, set, drop, length-append, get_or-append}
+use lib.ListN.{length, get_or, drop, length-append, get_or-append}
 use lib.Seq.{get_or_at, get_or-drop}
 use mir.Syntax.{w16}
 use mir.Val.{to_z}
 use mir.Facts.{to_z_pos, to_z-neg}
-use Rattle.proof_lists.specs.Each.{filled, filled-step}
 use Rattle.std.specs.Array.{IsFromFnResultFrom, IsFromFnResult}
 use Rattle.std.proofs.lemmas.List.FromFn.{fill_by_all}
 use Rattle.std.specs.Fn.{Called}
