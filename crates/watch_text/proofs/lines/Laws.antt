@@ -1,7 +1,7 @@
 -- Names with a number behind each, put one behind the other, as the code does it, are the text of the definition; and so are lines.
 -- Assumes nothing.
 use mathlib.Core.Path.{◌≡◌, refl, sym, ◌∙◌, ap}
-use mathlib.Core.Bool.{Bool, true, false, false≢true, cond, not, ◌||◌}
+use mathlib.Core.Bool.{Bool, true, false, false≢true, cond, not}
 use mathlib.Core.List.{List, [], ◌∷◌, ◌++◌, map, append_assoc, append-nil}
 use Prim.Native.Nat.{ℕ, zero, suc, ◌+◌, ◌-◌, ◌≤◌, ◌<◌, min}
 use Prim.Native.String.{String}
@@ -18,11 +18,10 @@ use Rattle.std.specs.List.{enumerate_from, zip}
 use lib.Seq.{sets, length-sets, get_or-drop}
 use Rattle.proof_lists.specs.Each.{get_d_any}
 use Rattle.std.specs.List.{list_all}
-use Rattle.proof_lists.specs.Same.{same}
 use Rattle.proof_lists.specs.Tests.{by-test, and_left, and_right}
 use Rattle.rules.specs.declared.Bus.{Bus}
 use Rattle.rules.specs.declared.Slot.{Slot}
-use Rattle.rules.specs.Modelled.{absent, sensing, older}
+use Rattle.rules.specs.Modelled.{sensing, older}
 use Rattle.rules.specs.Fresh.{absent_slot}
 use Rattle.rules.specs.Refusals.{empty_bus}
 use Rattle.script_text.specs.Decimal.{decimal}
@@ -214,25 +213,6 @@ unfolding slot_line
 line-by n s out o p q at first last end f g h =
     put_on out o q at first end (decimal n) (number_texts (names s) (numbers_of s) ++ 0x0A ∷ []) f
     (put_on o p q first last end (number_texts (names s) (numbers_of s)) (0x0A ∷ []) g h)
-
--- a slot that is not told, and one that is
-pub change-none : (n : ℕ) (was is : Slot) → (absent is || same (numbers_of was) (numbers_of is)) ≡ true → change_line n was is ≡ []
-unfolding change_line
-change-none n was is e = rw e
-
-pub change-some : (n : ℕ) (was is : Slot) → (absent is || same (numbers_of was) (numbers_of is)) ≡ false → change_line n was is ≡ slot_line n is
-unfolding change_line
-change-some n was is e = rw e
-
-pub untold : (n at : ℕ) (was is : Slot) (out : List ℕ) (alike : Bool) → alike ≡ same (numbers_of was) (numbers_of is) → (eqb is.kind 0 || alike) ≡ true
-    → Within 3110 out at (change_line n was is) at out
-unfolding absent
-untold n at was is out alike e t = rw (change-none n was is (rw e at t)) (omega arith, refl, omega arith)
-
-pub told-so : (n at end : ℕ) (was is : Slot) (out o : List ℕ) (alike : Bool) → alike ≡ same (numbers_of was) (numbers_of is) → (eqb is.kind 0 || alike) ≡ false
-    → Within 3110 out at (slot_line n is) end o → Within 3110 out at (change_line n was is) end o
-unfolding absent
-told-so n at end was is out o alike e t p = rw (change-some n was is (rw e at t)) p
 
 -- eight slots, each as it was and as it is, one by one: which the next is
 pub slot-turn : (was is : List Slot) (k n : ℕ) (a b : Slot) → k < length (enumerate_from 0 (zip was is))
