@@ -33,6 +33,16 @@ fn number_of(r: Refusal) -> u8
     }
 }
 
+// Characters, put at a place; the place after them.
+pub fn put(out: &mut [u8], at: usize, text: &[u8]) -> usize
+    requires { at + length text.now ≤ length out.old }
+    ensures { (result ≡ at + length text.now) × (out.new ≡ sets out.old at text.now) }
+{
+    let end = at + text.len();
+    out[at..end].copy_from_slice(text);
+    end
+}
+
 // One, two or three characters, put at a place; the place after them.
 pub fn put_one(out: &mut [u8], at: usize, a: u8) -> usize
     requires { at + 1 ≤ length out.old }
