@@ -40,14 +40,7 @@ pub fn setup_slot(p: Pair) -> Slot
 fn setup_slots(pairs: [Pair; 8]) -> [Slot; 8]
     ensures { result ≡ map setup_slot pairs }
 {
-    let none = Slot::fresh(0, 0);
-    let mut all = [none; 8];
-    for i in 0..8usize {
-        let p = pairs[i];
-        let s = setup_slot(p);
-        all[i] = s;
-    }
-    all
+    pairs.map(setup_slot)
 }
 
 // Eight absent slots: the bus of a refused setup.

@@ -55,12 +55,10 @@ pub fn events(bus: Bus, mem: &mut [u8], list: &[Event], answers: &mut [Answer]) 
     }
     let stand = stands(bus, mem.len());
     let mut b = bus;
-    let mut i = 0;
-    while i < list.len() {
-        let done = one(stand, b, &mut *mem, list[i]);
+    for (i, e) in list.iter().enumerate() {
+        let done = one(stand, b, mem, *e);
         b = done.bus;
         answers[i] = done.answer;
-        i += 1;
     }
     taken(b)
 }
