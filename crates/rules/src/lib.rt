@@ -2,14 +2,16 @@
 #![tactic(auto)]
 
 ghost use Rattle.std.specs.Prelude.{◌≡◌};
+ghost use Rattle.rules.specs.Events.{refusal_number};
 ghost use Rattle.rules.specs.Fresh.{fresh_sensor, fresh_slot};
+ghost use Rattle.rules.specs.Modelled.{absent, sensing, older};
 
 // A slot's number, 0 to 7: the select number that it answers to.
-#[derive(Clone, Copy)]
+#[derive(Clone, Copy, PartialEq, Eq)]
 pub struct SlotNo(pub u8);
 
 // A block's number in its slot, 0 to 3.
-#[derive(Clone, Copy)]
+#[derive(Clone, Copy, PartialEq, Eq)]
 pub struct BlockNo(pub u8);
 
 // A byte's place in its slot, 0 to 511.
@@ -21,6 +23,7 @@ pub struct Address(pub u16);
 pub struct Cut(pub u8);
 
 // An event as the script's record has it: rubbish is welcome in every field.
+// Kept: kind is a number, since one that is none of the ten is an event too, and refused by row 2 (Refusals.unknown_kind, Document/Tables.row-2).
 #[derive(Clone, Copy)]
 pub struct Event {
     pub kind: u8,
@@ -54,6 +57,7 @@ pub enum Act {
 }
 
 // What an act carries over the wires and gets an answer to: a byte from the master, a read, or nothing.
+// Kept: no Option round the two others; the law goes by these three cases (Events.carried), and an Option of two would be matched in two steps.
 #[derive(Clone, Copy)]
 pub enum Carried {
     Byte(u8),
@@ -62,10 +66,10 @@ pub enum Carried {
     Nothing,
 }
 
-// Why an event, a setup, a plan, a saving or a reading is refused. The paper's number of each: specs/Events.
-#[derive(Clone, Copy)]
+// Why an event, a setup, a plan, a saving or a reading is refused, each with the paper's number: specs/Events.
+#[derive(Clone, Copy, PartialEq, Eq)]
 pub enum Refusal {
-    MemoryLength,
+    MemoryLength = 1,
     UnknownKind,
     WrongSlot,
     WrongValue,
@@ -81,15 +85,18 @@ pub enum Refusal {
     WrongForm,
 }
 
-// What an event is taken for.
-#[derive(Clone, Copy)]
-pub enum Ruling {
-    Taken(Act),
-    Refused(Refusal),
+// The paper's number of a refusal.
+impl From<Refusal> for u8 {
+    ghost from_gives = { λ r n. n ≡ refusal_number r };
+
+    fn from(r: Refusal) -> u8 {
+        r as u8
+    }
 }
 
 // What the bus shows. The paper's letter and value of each: specs/Events.
-#[derive(Clone, Copy)]
+// Kept: no Result of what is shown; document 01 has a refusal as one of the five answers, with a letter as the others have (Events.letter_of).
+#[derive(Clone, Copy, PartialEq, Eq)]
 pub enum Answer {
     Nothing,
     Ack,
@@ -99,6 +106,7 @@ pub enum Answer {
 }
 
 // What a control byte asks for.
+// Kept: Nothing is a case and no Option; "any other byte" stands in document 01's list beside the others, and slots answer to it (Control.heard_of).
 #[derive(Clone, Copy)]
 pub enum Heard {
     Memory { select: SlotNo, read: bool },
@@ -114,7 +122,7 @@ pub enum Heard {
 }
 
 // Where a slot stands in an exchange. Nothing but the next event depends on it.
-#[derive(Clone, Copy)]
+#[derive(Clone, Copy, PartialEq, Eq)]
 pub enum Phase {
     // No exchange: bytes and reads are ignored.
     Idle,
@@ -143,6 +151,7 @@ pub enum Phase {
 }
 
 // What a phase is; specs/Slot has the table.
+// Kept: four words beside each other; a reader of a phase asks for one of them at a time, and the law's table has them so (Slot.traits).
 #[derive(Clone, Copy)]
 pub struct Traits {
     pub sensor: bool,
@@ -200,9 +209,12 @@ pub struct Older {
 
 #[derive(Clone, Copy)]
 pub struct Slot {
-    // 0 absent, 1 memory, 2 memory with sensor, 3 older 2-Kbit memory.
+    // 0 absent, 1 memory, 2 memory with sensor, 3 older 2-Kbit memory; any other number is refused by row 6.
+    // Kept: a number and no enum, here and in Pair, since what is handed in may be rubbish, and rows 5 and 6 refuse it (Refusals.good_pair,
+    // .kind_in_range; Document/Tables.row-6-kind); so are the sensor and what is an older module's alone fields of every slot.
     pub kind: u8,
     // The write cycle's length in ticks, and how many are left of the running one; 0 for none.
+    // Kept: a number and no Option; document 01's state has "ticks left 0 to length" as one number, and row 6 its range (Refusals.slot_in_range).
     pub length: u8,
     pub left: u8,
     pub half: u8,
@@ -214,6 +226,8 @@ pub struct Slot {
     pub voltage: bool,
     pub phase: Phase,
     // The page latch: its bytes, which of them were written, and the place for the next.
+    // Kept: bytes and marks beside each other, document 01's form; a byte with no mark may be handed in and is told as it is (edges hands one in),
+    // and theorems on "every state" speak of it: optional bytes would leave out states.
     pub latch: [u8; 16],
     pub marks: [bool; 16],
     pub place: u8,
@@ -228,6 +242,27 @@ impl Slot {
     pub const BLOCK: usize = 128;
 
     pub const PAGE: usize = 16;
+
+    // A slot that is not there.
+    pub fn is_absent(&self) -> bool
+        ensures { result ≡ absent self.now }
+    {
+        self.kind == 0
+    }
+
+    // A memory with a sensor.
+    pub fn has_sensor(&self) -> bool
+        ensures { result ≡ sensing self.now }
+    {
+        self.kind == 2
+    }
+
+    // An older 2-Kbit memory.
+    pub fn is_older(&self) -> bool
+        ensures { result ≡ older self.now }
+    {
+        self.kind == 3
+    }
 
     // A slot as setup leaves it.
     pub fn fresh(kind: u8, length: u8) -> Self
@@ -281,16 +316,29 @@ pub struct Pin {
     pub level: bool,
 }
 
-// What looking at a slot's pin gives. The paper's number and values of each: specs/Looked.
-#[derive(Clone, Copy)]
-pub enum Looked {
-    Stands(Pin),
-    Refused(Refusal),
-}
-
 // What a public entry gives back beside the lent memory.
+// Kept: a bus beside the answer, and no Result of a bus, for setup, restore and lists too: a refusal has a bus, the one that was there, or that of
+// a refused setup (Refusals.setup_of, save_rules/Reading.restore_of).
 #[derive(Clone, Copy)]
 pub struct Outcome {
     pub bus: Bus,
     pub answer: Answer,
+}
+
+impl Outcome {
+    // What was asked for is done, and has led to this bus.
+    pub fn taken(bus: Bus) -> Self
+        ensures { result ≡ record { bus = bus; answer = Answer.Nothing } }
+    {
+        let answer = Answer::Nothing;
+        Self { bus, answer }
+    }
+
+    // What is refused leaves the bus that was there.
+    pub fn refused(bus: Bus, why: Refusal) -> Self
+        ensures { result ≡ record { bus = bus; answer = Answer.Refused why } }
+    {
+        let answer = Answer::Refused(why);
+        Self { bus, answer }
+    }
 }
