@@ -2,7 +2,7 @@
 // for 4,096 events and 65,535 answer places, which is as many as two bytes can ask for.
 ghost use Rattle.std.specs.Prelude.{◌≡◌, ◌+◌, ◌*◌, ◌/◌, ◌≤◌, length};
 ghost use Rattle.std.proofs.lemmas.List.Edits.{sets};
-ghost use Rattle.list_lend.specs.Listed.{events_in, is_blank, is_setups, number_in, place_line, place_lines, told_of, too_many_text};
+ghost use Rattle.list_lend.specs.Listed.{events_in, number_in, place_line, place_lines, told_of, too_many_text};
 
 use rules::{Answer, Bus, Event, Outcome, Refusal, SlotNo};
 
@@ -40,33 +40,12 @@ pub fn events_in<'a>(records: &[u8], room: &'a mut [Event; MOST_EVENTS]) -> &'a 
     &room[..count]
 }
 
-// Whether a refusal is a setup's, which no event gets.
-fn is_setups(r: Refusal) -> bool
-    ensures { result ≡ is_setups r }
-{
-    if let Refusal::WrongSetup = r {
-        true
-    } else {
-        false
-    }
-}
-
-// Whether a place is as it was before the list was given.
-fn is_blank(a: Answer) -> bool
-    ensures { result ≡ is_blank a }
-{
-    let Answer::Refused(r) = a else {
-        return false;
-    };
-    is_setups(r)
-}
-
 // A place's line, put at a place of the output; the place after it.
 fn put_place(out: &mut [u8], at: usize, a: Answer) -> usize
     requires { at + 4 ≤ length out.old }
     ensures { (result ≡ at + length (place_line a)) × (out.new ≡ sets out.old at (place_line a)) }
 {
-    if is_blank(a) {
+    if a == BLANK {
         return script_text::letters::put(out, at, b".\n");
     }
     script_text::letters::put_line(out, at, a)
