@@ -2,6 +2,7 @@
 #![tactic(auto)]
 
 ghost use Rattle.std.specs.Prelude.{◌≡◌};
+ghost use Rattle.std.specs.List.{list_all};
 ghost use Rattle.rules.specs.Fresh.{setup_slot};
 ghost use Rattle.rules.specs.Refusals.{good_pair, empty_bus, setup_of};
 
@@ -12,6 +13,13 @@ fn good_pair(p: Pair) -> bool
     ensures { result ≡ good_pair p }
 {
     (p.kind <= 3) & ((p.kind == 0) | (1 <= p.length) & (p.length <= 5))
+}
+
+// Every pair passes row 5.
+fn good_pairs(pairs: [Pair; 8]) -> bool
+    ensures { result ≡ list_all good_pair pairs }
+{
+    pairs.iter().all(|p| good_pair(*p))
 }
 
 // A fresh slot; the length of an absent one is ignored.
@@ -36,7 +44,7 @@ pub fn empty_bus() -> Bus
 pub fn setup(pairs: [Pair; 8]) -> Outcome
     ensures { result ≡ setup_of pairs }
 {
-    if !pairs.iter().all(|p| good_pair(*p)) {
+    if !good_pairs(pairs) {
         return Outcome::refused(empty_bus(), Refusal::WrongSetup);
     }
     let slots = pairs.map(setup_slot);
