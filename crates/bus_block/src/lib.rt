@@ -10,10 +10,9 @@ use rules::{BlockNo, Bus, Slot, SlotNo};
 fn no_block(mem: &[u8], bus: Bus, n: SlotNo, k: BlockNo) -> bool
     ensures { result ≡ no_block bus mem.now n k }
 {
-    let slots = bus.slots;
-    let kind = bus_refusals::ruling::kind_at(slots, n);
+    let kind = bus_refusals::ruling::kind_at(bus.slots, n);
     (mem.len() != Bus::MEMORY)
-        | !bus_refusals::ranges::in_range(slots)
+        | !bus_refusals::ranges::in_range(bus.slots)
         | (7 < n.0)
         | (kind == 0)
         | (3 < k.0)
@@ -26,9 +25,8 @@ pub fn block(mem: &[u8], bus: Bus, n: SlotNo, k: BlockNo) -> &[u8]
         × (result.ref_ptr.1 ≡ mem.entry.ref_ptr.1 + cond (no_block bus mem.now n k) 0 (512 * n.0 + 128 * k.0)) }
 {
     if no_block(mem, bus, n, k) {
-        return &mem[0..0];
+        return &mem[..0];
     }
-    let a = Slot::BYTES * (n.0 as usize) + Slot::BLOCK * (k.0 as usize);
-    let e = a + Slot::BLOCK;
-    &mem[a..e]
+    let at = Slot::BYTES * usize::from(n.0) + Slot::BLOCK * usize::from(k.0);
+    &mem[at..at + Slot::BLOCK]
 }

@@ -9,7 +9,7 @@ use rules::{Sensor, Slot};
 fn length_in_range(s: Slot) -> bool
     ensures { result ≡ length_in_range s }
 {
-    if s.kind == 0 {
+    if s.is_absent() {
         return s.length == 0;
     }
     (1 <= s.length) & (s.length <= 5)
@@ -33,34 +33,28 @@ fn pending_in_range(s: Slot) -> bool
     ensures { result ≡ pending_in_range s }
 {
     let x = s.sensor;
-    !x.pending | (s.kind == 2) & bus_sensor::pin::can_pend(x.configuration)
+    !x.pending | s.has_sensor() & bus_sensor::pin::can_pend(x.configuration)
 }
 
 // An older module's half is 0, and of its protection only block 0's is there, and is if permanent.
 fn older_in_range(s: Slot) -> bool
     ensures { result ≡ older_in_range s }
 {
-    let protection = s.protection;
-    (s.kind != 3)
-        | (s.half == 0)
-            & !protection[1]
-            & !protection[2]
-            & !protection[3]
-            & (!s.old.permanent | protection[0])
+    let [first, second, third, fourth] = s.protection;
+    !s.is_older() | (s.half == 0) & !second & !third & !fourth & (!s.old.permanent | first)
 }
 
 // Every number of the slot is in its range.
 fn slot_in_range(s: Slot) -> bool
     ensures { result ≡ slot_in_range s }
 {
-    let x = s.sensor;
     (s.kind <= 3)
         & length_in_range(s)
         & (s.left <= s.length)
         & (s.half <= 1)
         & (s.counter <= 255)
         & (s.place <= 15)
-        & sensor_in_range(x)
+        & sensor_in_range(s.sensor)
         & pending_in_range(s)
         & older_in_range(s)
 }
@@ -69,10 +63,5 @@ fn slot_in_range(s: Slot) -> bool
 pub fn in_range(slots: [Slot; 8]) -> bool
     ensures { result ≡ list_all slot_in_range slots }
 {
-    let mut ok = true;
-    for i in 0..8usize {
-        let s = slots[i];
-        ok = ok & slot_in_range(s);
-    }
-    ok
+    slots.iter().all(|s| slot_in_range(*s))
 }

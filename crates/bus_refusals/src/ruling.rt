@@ -6,24 +6,11 @@ ghost use Rattle.bus_refusals.specs.Kinds.{kinds_in};
 
 use rules::{Act, Applied, Cut, Event, Refusal, Slot, SlotNo};
 
-// One of two numbers.
-fn either(first: bool, x: u8, y: u8) -> u8
-    ensures { result ≡ cond first x y }
-{
-    if first { x } else { y }
-}
-
-// The kind of slot n; 0, absent, where there is no such slot. Each slot is looked at in its place, so that none is copied.
+// The kind of slot n; 0, absent, where there is no such slot.
 pub fn kind_at(slots: [Slot; 8], n: SlotNo) -> u8
     ensures { result ≡ kind_at (kinds_in slots) n }
 {
-    let mut kind: u8 = 0;
-    for i in 0..8u8 {
-        let at = i as usize;
-        let s = slots[at];
-        kind = either(i == n.0, s.kind, kind);
-    }
-    kind
+    slots.get(usize::from(n.0)).map_or(0, |s| s.kind)
 }
 
 // Row 3, by the kind of the slot that the event names: a voltage for one that is not there, a temperature for one without a sensor, or a
@@ -48,9 +35,8 @@ fn outside(least: i16, most: i16, v: i16) -> bool
 fn wrong_value(e: Event) -> bool
     ensures { result ≡ wrong_value e }
 {
-    let kind = e.kind;
     let v = e.value;
-    match kind {
+    match e.kind {
         2 => outside(0, 255, v),
         3 | 7 | 10 => outside(0, 1, v),
         8 => outside(0, 16, v),
@@ -64,10 +50,9 @@ fn act_of(e: Event) -> Act
     requires { wrong_value e ≡ false }
     ensures { result ≡ act_of e }
 {
-    let kind = e.kind;
     let n = e.slot;
     let v = e.value;
-    match kind {
+    match e.kind {
         1 => Act::Start,
         2 => Act::Byte(v as u8),
         3 => Act::Read(0 < v),

@@ -1,12 +1,12 @@
 // The setup: a bus from eight kinds and lengths, and document 01's row 5, by which it is refused.
 #![tactic(auto)]
 
-ghost use Rattle.std.specs.Prelude.{◌≡◌, map};
+ghost use Rattle.std.specs.Prelude.{◌≡◌};
 ghost use Rattle.std.specs.List.{list_all};
 ghost use Rattle.rules.specs.Fresh.{setup_slot};
 ghost use Rattle.rules.specs.Refusals.{good_pair, empty_bus, setup_of};
 
-use rules::{Answer, Bus, Outcome, Pair, Refusal, Slot};
+use rules::{Bus, Outcome, Pair, Refusal, Slot};
 
 // A pair that row 5 lets pass.
 fn good_pair(p: Pair) -> bool
@@ -19,12 +19,7 @@ fn good_pair(p: Pair) -> bool
 fn good_pairs(pairs: [Pair; 8]) -> bool
     ensures { result ≡ list_all good_pair pairs }
 {
-    let mut ok = true;
-    for i in 0..8usize {
-        let p = pairs[i];
-        ok = ok & good_pair(p);
-    }
-    ok
+    pairs.iter().all(|p| good_pair(*p))
 }
 
 // A fresh slot; the length of an absent one is ignored.
@@ -37,25 +32,11 @@ pub fn setup_slot(p: Pair) -> Slot
     Slot::fresh(p.kind, p.length)
 }
 
-fn setup_slots(pairs: [Pair; 8]) -> [Slot; 8]
-    ensures { result ≡ map setup_slot pairs }
-{
-    let none = Slot::fresh(0, 0);
-    let mut all = [none; 8];
-    for i in 0..8usize {
-        let p = pairs[i];
-        let s = setup_slot(p);
-        all[i] = s;
-    }
-    all
-}
-
 // Eight absent slots: the bus of a refused setup.
 pub fn empty_bus() -> Bus
     ensures { result ≡ empty_bus }
 {
-    let none = Pair { kind: 0, length: 0 };
-    let slots = setup_slots([none; 8]);
+    let slots = [Slot::fresh(0, 0); 8];
     Bus { slots }
 }
 
@@ -63,14 +44,9 @@ pub fn empty_bus() -> Bus
 pub fn setup(pairs: [Pair; 8]) -> Outcome
     ensures { result ≡ setup_of pairs }
 {
-    if good_pairs(pairs) {
-        let slots = setup_slots(pairs);
-        return Outcome {
-            bus: Bus { slots },
-            answer: Answer::Nothing,
-        };
+    if !good_pairs(pairs) {
+        return Outcome::refused(empty_bus(), Refusal::WrongSetup);
     }
-    let bus = empty_bus();
-    let answer = Answer::Refused(Refusal::WrongSetup);
-    Outcome { bus, answer }
+    let slots = pairs.map(setup_slot);
+    Outcome::taken(Bus { slots })
 }

@@ -3,13 +3,16 @@
 use mathlib.Core.Path.{◌≡◌, sym, ◌∙◌, ap}
 use mathlib.Core.Bool.{true, false}
 use mathlib.Core.List.{List}
-use Prim.Native.Nat.{ℕ, ◌/◌, ◌%◌, ◌≤◌, ◌<◌}
+use Rattle.std.proofs.Common.{Ok, Err}
+use Prim.Native.Nat.{ℕ, ◌/◌, ◌%◌, ◌≤◌}
 use native.Mathlib.Omega.{arith}
-use borrow.Author.Tests.{lt-ltb, le-ltb, eq-eqb, ne_eqb, ltb-false}
-use lib.Dec.{ltb}
-use lib.ListN.{length, replicate, length-replicate}
+use borrow.Author.Tests.{lt-ltb, le-ltb, eqb-true, not-false, ltb-false}
+use lib.Dec.{eqb, ltb}
+use mir.Syntax.{w8}
+use mir.Val.{Fits}
+use lib.ListN.{length, get_or, replicate, length-replicate}
 use lib.Seq.{sets}
-use Rattle.proof_lists.specs.Tests.{by-test, cond_cases}
+use Rattle.proof_lists.specs.Tests.{by-test, cond_cases, or_left_false, or_right_false}
 use Rattle.rules.specs.declared.Event.{Event}
 use Rattle.rules.specs.Events.{letter_of, refusal_number}
 use Rattle.rules.specs.Runs.{Bench}
@@ -46,28 +49,34 @@ pub put-by : (x : Bench) (number rs out : List ℕ) (places : ℕ) (r : Told) (m
 unfolding put_for
 put-by x number rs out places r m o p e = rw (sym p.0) (given-put x (events_in rs (length rs / 4)) places out r m o e)
 
+-- a number of two bytes is at most 65,535
+pub number-most : (number : List ℕ) → ((i : ℕ) → Fits w8 (get_or number i 0)) → number_in number ≤ 65535
+unfolding number_in
+number-most number f = omega (arith, f 0, f 1)
+
+-- what is not cut, nor too much, is whole
+pub whole-by : (number rs : List ℕ) → length rs ≤ 16388 → (length rs ≡ 16388 → ⊥) → is_cut number rs ≡ false → (2 ≤ length number) × (length rs ≤ 16384)
+unfolding is_cut
+whole-by number rs h k c =
+    let long = ltb-false (length number) 2 (or_left_false _ _ c) in
+    let records : length rs % 4 ≡ 0 = eqb-true (length rs % 4) 0 (not-false (eqb (length rs % 4) 0) (or_right_false (ltb (length number) 2) _ c)) in
+    (long, omega arith)
+
 -- too many records, a cut, and a list
 module _ (x : Bench) (number rs out o : List ℕ) (end : ℕ) where
-  pub answer-many : length rs ≡ 16388 → (end ≡ 41) × (o ≡ sets out 0 too_many_text) → answer_of x number rs out ≡ (record { end = end; output = false }, o)
+  pub answer-many : length rs ≡ 16388 → (end ≡ 41) × (o ≡ sets out 0 too_many_text) → answer_of x number rs out ≡ (Err end, o)
   unfolding answer_of answered_by too_many
   answer-many h p = rw (le-ltb (length rs) 16388 (omega arith), p.0, p.1)
 
-  pub answer-no-number : length rs ≤ 16388 → (length rs ≡ 16388 → ⊥) → length number < 2 → (end ≡ 6) × (o ≡ sets out 0 short_line)
-      → answer_of x number rs out ≡ (record { end = end; output = true }, o)
-  unfolding answer_of answered_by too_many list_for is_cut
-  answer-no-number h k l p = rw (lt-ltb (length rs) 16388 (omega arith), lt-ltb (length number) 2 l, p.0, p.1)
+  pub answer-cut : length rs ≤ 16388 → (length rs ≡ 16388 → ⊥) → is_cut number rs ≡ true → (end ≡ 6) × (o ≡ sets out 0 short_line)
+      → answer_of x number rs out ≡ (Ok end, o)
+  unfolding answer_of answered_by too_many list_for
+  answer-cut h k c p = rw (lt-ltb (length rs) 16388 (omega arith), c, p.0, p.1)
 
-  pub answer-short : length rs ≤ 16388 → (length rs ≡ 16388 → ⊥) → 2 ≤ length number → (length rs % 4 ≡ 0 → ⊥) → (end ≡ 6) × (o ≡ sets out 0 short_line)
-      → answer_of x number rs out ≡ (record { end = end; output = true }, o)
-  unfolding answer_of answered_by too_many list_for is_cut
-  answer-short h k l d p = rw (lt-ltb (length rs) 16388 (omega arith), le-ltb (length number) 2 l, ne_eqb (length rs % 4) 0 d, p.0, p.1)
-
-  pub answer-list : length rs ≤ 16388 → (length rs ≡ 16388 → ⊥) → 2 ≤ length number → length rs % 4 ≡ 0 → put_for x number rs out ≡ (end, o)
-      → answer_of x number rs out ≡ (record { end = end; output = true }, o)
-  unfolding answer_of answered_by too_many list_for is_cut put_for
-  answer-list h k l d e =
-      rw (lt-ltb (length rs) 16388 (omega arith), le-ltb (length number) 2 l, eq-eqb (length rs % 4) 0 d)
-      (ap (λ (z : ℕ × List ℕ). (record { end = z.0; output = true }, z.1)) e)
+  pub answer-list : length rs ≤ 16388 → (length rs ≡ 16388 → ⊥) → is_cut number rs ≡ false → put_for x number rs out ≡ (end, o)
+      → answer_of x number rs out ≡ (Ok end, o)
+  unfolding answer_of answered_by too_many list_for put_for
+  answer-list h k c e = rw (lt-ltb (length rs) 16388 (omega arith), c) (ap (λ (z : ℕ × List ℕ). (Ok z.0, z.1)) e)
 
 -- a list's lines have room
 lines-most : (x : Bench) (es : List Event) (places : ℕ) → places ≤ 65535 → length (lines_for x es places) ≤ 262140

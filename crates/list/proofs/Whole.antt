@@ -3,7 +3,8 @@
 use mathlib.Core.Path.{◌≡◌, sym, ◌∙◌, ap, ap₂, subst}
 use mathlib.Core.Bool.{true, false, false≢true, cond}
 use mathlib.Core.List.{List, ◌++◌, append_assoc}
-use Prim.Native.Nat.{ℕ, ◌+◌, ◌-◌, ◌≤◌}
+use Rattle.std.proofs.Common.{Result, Ok}
+use Prim.Native.Nat.{ℕ, ◌+◌, ◌-◌, ◌≤◌, min}
 use native.Mathlib.Omega.{arith}
 use borrow.Author.Tests.{lt-ltb, le-ltb, ltb-true, ltb-false}
 use lib.Dec.{ltb}
@@ -21,13 +22,15 @@ use Rattle.script_turns.specs.Script.{begun_at}
 use Rattle.script_turns.proofs.frame.Laws.{first-length, written}
 use Rattle.list_lend.specs.Listed.{number_in, too_many_text}
 use Rattle.script_streams.specs.Written.{on_output, on_errors}
-use Rattle.list.specs.declared.Answered.{Answered}
-use Rattle.list.specs.Asked.{too_many, list_for, end_for, written_for, answered_by, answer_of, fronted}
+use Rattle.list.specs.Asked.{too_many, list_for, end_for, written_for, answered_by, answer_of, end_of, fronted}
 use Rattle.list.proofs.Laws.{list-most}
 
 -- the smaller of what came and so many bytes
 abbrev pub up_to : ℕ → List ℕ → ℕ
 up_to n bs = cond (ltb (length bs) n) (length bs) n
+
+pub first-of : (n : ℕ) (bs : List ℕ) → min (length bs) n ≡ up_to n bs
+first-of n bs = by-test (ltb (length bs) n) (λ t. let l = ltb-true (length bs) n t in rw t (omega arith)) (λ t. let l = ltb-false (length bs) n t in rw t (omega arith))
 
 -- the bytes that are taken for the setup: where it is not whole, all that came
 module _ (bs : List ℕ) where
@@ -86,7 +89,7 @@ records-most bs j b l = rw (take_all (length bs - j) (drop j bs) (omega (arith, 
 
 -- where nothing follows: the setup's line, on standard output
 pub stopped : (bs out m o : List ℕ) (n : ℕ) (r : Begun) → n ≡ up_to 16 bs → begin_of (take n bs) out ≡ (r, m, o) → r.on ≡ false → 6 ≤ length out
-    → (r.end ≤ length o) × (fronted (record { end = r.end; output = true }) o ≡ written_for bs)
+    → (r.end ≤ length o) × (fronted (Ok r.end) o ≡ written_for bs)
 unfolding begin_of fronted
 stopped bs out m o n r at b off room =
     let e : begin_of (head bs) out ≡ (r, m, o) = subst (λ (i : ℕ). begin_of (take i bs) out ≡ (r, m, o)) at b in
@@ -112,21 +115,21 @@ module _ (bs : List ℕ) (whole : ltb (length bs) 16 ≡ false) where
       (λ c. rw c)
 
 -- what is put for the number of places and the records is what is written for them
-put-ends : (x : Bench) (number rs o p : List ℕ) (a : Answered) → number_in number ≤ 65535 → 262140 ≤ length o → answer_of x number rs o ≡ (a, p)
-    → (a.end ≤ length p) × (fronted a p ≡ end_for x number rs)
+put-ends : (x : Bench) (number rs o p : List ℕ) (a : Result ℕ ℕ) → number_in number ≤ 65535 → 262140 ≤ length o → answer_of x number rs o ≡ (a, p)
+    → (end_of a ≤ length p) × (fronted a p ≡ end_for x number rs)
 unfolding answer_of answered_by fronted end_for
 put-ends x number rs o p a n room q =
-    let P : Answered × List ℕ → Type 0 = λ z. (z.0.end ≤ length z.1) × (fronted z.0 z.1 ≡ end_for x number rs) in
+    let P : Result ℕ ℕ × List ℕ → Type 0 = λ z. (end_of z.0 ≤ length z.1) × (fronted z.0 z.1 ≡ end_for x number rs) in
     let most : length (list_for x number rs) ≤ 262140 = list-most x number rs n in
     subst P q (by-test (too_many rs)
     (λ t. rw t (omega (arith, length-sets o 0 too_many_text), ap on_errors (written o too_many_text (omega arith))))
     (λ t. rw t (omega (arith, length-sets o 0 (list_for x number rs)), ap on_output (written o (list_for x number rs) (omega arith)))))
 
 -- where the setup is good: the answer to what follows it
-pub answered : (bs out m o p : List ℕ) (i j : ℕ) (r : Begun) (a : Answered) → i ≡ up_to 16 bs → j ≡ up_to 18 bs
+pub answered : (bs out m o p : List ℕ) (i j : ℕ) (r : Begun) (a : Result ℕ ℕ) → i ≡ up_to 16 bs → j ≡ up_to 18 bs
     → begin_of (take i bs) out ≡ (r, m, o) → r.on ≡ true → 262140 ≤ length out
     → (number_in (take (j - i) (drop i bs)) ≤ 65535) × (answer_of (record { bus = r.bus; memory = m }) (take (j - i) (drop i bs)) (take (length bs - j) (drop j bs)) o ≡ (a, p))
-    → (a.end ≤ length p) × (fronted a p ≡ written_for bs)
+    → (end_of a ≤ length p) × (fronted a p ≡ written_for bs)
 unfolding begin_of begun_at written_for
 answered bs out m o p i j r a at₁ at₂ b on room t =
     let e : begin_of (head bs) out ≡ (r, m, o) = subst (λ (i : ℕ). begin_of (take i bs) out ≡ (r, m, o)) at₁ b in

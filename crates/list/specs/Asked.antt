@@ -1,6 +1,6 @@
 -- The list program: what it writes for what it reads.
 -- Assumes nothing.
-use Rattle.std.specs.Prelude.{ℕ, ◌-◌, ◌/◌, ◌%◌, Bool, true, false, not, cond, ◌||◌, List, [], ◌∷◌, ◌++◌, eqb, ltb, length, take, drop}
+use Rattle.std.specs.Prelude.{ℕ, ◌-◌, ◌/◌, ◌%◌, Bool, true, false, not, cond, ◌||◌, List, [], ◌∷◌, ◌++◌, eqb, ltb, length, take, drop, Result, Ok, Err}
 use Rattle.std.proofs.lemmas.List.Edits.{sets}
 use Rattle.std.specs.List.{list_all}
 use Rattle.rules.specs.declared.Event.{Event}
@@ -12,7 +12,6 @@ use Rattle.script_turns.specs.Frame.{bad_setup_line}
 use Rattle.script_turns.specs.Script.{begun_at}
 use Rattle.list_lend.specs.Listed.{number_in, events_in, answer_lines, dot_lines, too_many_text}
 use Rattle.script_streams.specs.Written.{Written, on_output, on_errors}
-use Rattle.list.specs.declared.Answered.{Answered}
 
 -- "An answer list shorter than the event list is refusal 9": its line
 abbrev pub too_few_line : List ℕ
@@ -53,13 +52,18 @@ written_for bs =
 unfoldable pub put_for : Bench → List ℕ → List ℕ → List ℕ → ℕ × List ℕ
 put_for x number rs out = (length (whole_for x number rs), sets out 0 (whole_for x number rs))
 
--- and of any: how much is written of the output, whether on standard output, and the output
-unfoldable pub answered_by : List ℕ → Bool → List ℕ → Answered × List ℕ
-answered_by text output out = (record { end = length text; output = output }, sets out 0 text)
+-- and of any: where what is written ends, `Ok` on standard output and `Err` on standard error, and the output
+unfoldable pub answered_by : List ℕ → Bool → List ℕ → Result ℕ ℕ × List ℕ
+answered_by text output out = (cond output (Ok (length text)) (Err (length text)), sets out 0 text)
 
-unfoldable pub answer_of : Bench → List ℕ → List ℕ → List ℕ → Answered × List ℕ
+unfoldable pub answer_of : Bench → List ℕ → List ℕ → List ℕ → Result ℕ ℕ × List ℕ
 answer_of x number rs out = cond (too_many rs) (answered_by too_many_text false out) (answered_by (list_for x number rs) true out)
 
 -- what such a result says is written: the front of the output, as far as its end says, on the one or the other
-unfoldable pub fronted : Answered → List ℕ → Written
-fronted r out = cond r.output (on_output (take r.end out)) (on_errors (take r.end out))
+abbrev pub end_of : Result ℕ ℕ → ℕ
+end_of (Ok end) = end
+end_of (Err end) = end
+
+unfoldable pub fronted : Result ℕ ℕ → List ℕ → Written
+fronted (Ok end) out = on_output (take end out)
+fronted (Err end) out = on_errors (take end out)

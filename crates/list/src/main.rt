@@ -3,9 +3,9 @@
 // that is written for what came, and one write. The status that a result has, the script `run` gives it (the file statuses).
 #![tactic(auto)]
 
-ghost use Rattle.std.specs.Prelude.{◌≡◌, cond, ◌≤◌, ltb, length};
+ghost use Rattle.std.specs.Prelude.{◌≡◌, ◌≤◌, length};
 ghost use Rattle.list_lend.specs.Listed.{number_in};
-ghost use Rattle.list.specs.Asked.{answer_of, fronted, put_for, written_for};
+ghost use Rattle.list.specs.Asked.{answer_of, end_of, fronted, put_for, written_for};
 
 use rules::Bus;
 use script_streams::opening::STDIN_FILENO;
@@ -15,19 +15,11 @@ const TOO_MANY: usize = 16388;
 
 const INPUT: usize = 16406;
 
-// What is written in the end: the front of the output, as far as its end says, and whether it is for standard output, or for standard error.
-#[derive(Clone, Copy)]
-struct Answered {
-    end: usize,
-    output: bool,
-}
-
 // Room for the most lines, four bytes for each of 65,535 places.
-fn room() -> [u8; 262140]
-    ensures { 262140 ≡ length result }
-{
-    [0; 262140]
-}
+const OUTPUT: usize = 262140;
+
+// Where what is written in the end ends in the output, at whose front it is: `Ok` for standard output, `Err` for standard error.
+type Answered = Result<usize, usize>;
 
 // Records that are whole, given as one list; where its lines, or its refusal's, end, which are then at the front of the output.
 fn given(bus: Bus, mem: &mut [u8], number: &[u8], records: &[u8], out: &mut [u8]) -> usize
@@ -49,52 +41,42 @@ fn answer(bus: Bus, mem: &mut [u8], number: &[u8], records: &[u8], out: &mut [u8
         ≡ (result, out.new)) }
 {
     if records.len() == TOO_MANY {
-        let end = list_lend::text::put_too_many(out);
-        return Answered { end, output: false };
+        return Err(list_lend::text::put_too_many(out));
     }
-    if number.len() < 2 {
-        let end = script_text::letters::put_short(out);
-        return Answered { end, output: true };
+    if (number.len() < 2) | (records.len() % 4 != 0) {
+        return Ok(script_text::letters::put_short(out));
     }
-    if records.len() % 4 != 0 {
-        let end = script_text::letters::put_short(out);
-        return Answered { end, output: true };
-    }
-    let end = given(bus, mem, number, records, out);
-    Answered { end, output: true }
-}
-
-// The smaller of two numbers.
-fn least(a: usize, b: usize) -> usize
-    ensures { (result ≡ cond (ltb a b) a b) × (result ≤ a) × (result ≤ b) }
-{
-    if a < b { a } else { b }
+    Ok(given(bus, mem, number, records, out))
 }
 
 // All that is to be written for all that came, put at the front of the output: what a cut or a bad setup gets, or the answer to what follows it.
 fn written(input: &[u8], out: &mut [u8]) -> Answered
     requires { (length input.now ≤ 16406) × (262140 ≤ length out.old) }
-    ensures { (result.end ≤ length out.new) × (fronted result out.new ≡ written_for input.now) }
+    ensures { (end_of result ≤ length out.new) × (fronted result out.new ≡ written_for input.now) }
 {
-    let mut mem = [0u8; 4096];
-    let came = input.len();
-    let head = least(came, 16);
+    let mut mem = [0u8; Bus::MEMORY];
+    let head = input.len().min(16);
     let begun = script_turns::frame::begin(&input[..head], &mut mem, out);
-    let end = begun.end;
     if !begun.on {
-        return Answered { end, output: true };
+        return Ok(begun.end);
     }
-    let places = least(came, 18);
-    let bus = begun.bus;
-    answer(bus, &mut mem, &input[head..places], &input[places..], out)
+    let places = input.len().min(18);
+    answer(
+        begun.bus,
+        &mut mem,
+        &input[head..places],
+        &input[places..],
+        out,
+    )
 }
 
 // One read, one answer, one write. Of an input that goes on behind one record too many the rest is not read: the answer is the same.
 fn main() {
     let mut input = [0u8; INPUT];
-    let mut out = room();
+    let mut out = [0u8; OUTPUT];
     let came = io::read_full(STDIN_FILENO, &mut input);
     let answered = written(&input[..came], &mut out);
-    let to = script_streams::opening::descriptor(answered.output);
-    script_streams::opening::write(to, &out, answered.end);
+    let to = script_streams::opening::descriptor(answered.is_ok());
+    let (Ok(end) | Err(end)) = answered;
+    script_streams::opening::write(to, &out, end);
 }

@@ -14,8 +14,7 @@ use rules::{Answer, Bus, Event, Outcome, Refusal};
 fn stands(bus: Bus, bytes: usize) -> bool
     ensures { result ≡ standing bus bytes }
 {
-    let slots = bus.slots;
-    (bytes == Bus::MEMORY) & bus_refusals::ranges::in_range(slots)
+    (bytes == Bus::MEMORY) & bus_refusals::ranges::in_range(bus.slots)
 }
 
 // One event of a list: where memory and state stand, they are not judged again.
@@ -29,38 +28,20 @@ fn one(stand: bool, bus: Bus, mem: &mut [u8], e: Event) -> Outcome
     bus_event::event(bus, mem, e)
 }
 
-// The list is not taken: there are fewer answer places than events.
-fn not_taken(bus: Bus) -> Outcome
-    ensures { result ≡ record { bus = bus; answer = Answer.Refused Refusal.TooShort } }
-{
-    let answer = Answer::Refused(Refusal::TooShort);
-    Outcome { bus, answer }
-}
-
-// The list is taken, and its events have led to this bus.
-fn taken(bus: Bus) -> Outcome
-    ensures { result ≡ record { bus = bus; answer = Answer.Nothing } }
-{
-    let answer = Answer::Nothing;
-    Outcome { bus, answer }
-}
-
 // Every event of a list, in order, each one's answer at its place; places past the end of the events stay as they are. Whatever is handed in is
 // answered: where memory or state is refused, each event is. Fewer places than events are refused before all else, and nothing is changed.
 pub fn events(bus: Bus, mem: &mut [u8], list: &[Event], answers: &mut [Answer]) -> Outcome
     ensures { events_of bus mem.old list.now answers.old ≡ (result, mem.new, answers.new) }
 {
     if answers.len() < list.len() {
-        return not_taken(bus);
+        return Outcome::refused(bus, Refusal::TooShort);
     }
     let stand = stands(bus, mem.len());
     let mut b = bus;
-    let mut i = 0;
-    while i < list.len() {
-        let done = one(stand, b, &mut *mem, list[i]);
+    for (i, e) in list.iter().enumerate() {
+        let done = one(stand, b, mem, *e);
         b = done.bus;
         answers[i] = done.answer;
-        i += 1;
     }
-    taken(b)
+    Outcome::taken(b)
 }

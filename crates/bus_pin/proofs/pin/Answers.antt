@@ -1,34 +1,35 @@
 -- Row 6, then row 3, then the pin of a slot that is there.
-use Rattle.std.specs.Prelude.{Ok}
-use native.Mathlib.Omega.{arith}
-use mathlib.Core.Path.{sym, ◌∙◌, ap}
-use Rattle.proof_lists.specs.Each.{get_d_any}
+use Rattle.std.proofs.Common.{rules, arith, sym, ◌∙◌, ap, Ok}
+use borrow.Author.Tests.{ltb-false}
 use Rattle.rules.specs.declared.Slot.{Slot}
 use Rattle.rules.specs.Fresh.{absent_slot}
 use Rattle.rules.specs.Pin.{pin_of}
-use Rattle.rules.proofs.Past.{no_slot}
-use Rattle.rules.proofs.Document.Looking.{pin-here, pin-there}
-use Rattle.rules.specs.Looked.{look_of}
 use Rattle.rules.specs.Refusals.{in_range}
+use Rattle.rules.specs.Looked.{look_of}
+use Rattle.bus_pin.proofs.Laws.{pin-if, past-none}
 use Rattle.bus_pin.proofs.pin.Goals as goal
 
 pub returns-then-not-in_range : goal.returns-then-not-in_range
 unfolding look_of in_range
 returns-then-not-in_range c = rw (← c.in_range.ensures, c.if-not-in_range.true)
 
-pub returns-then-no_pin : goal.returns-then-no_pin
+pub returns-in-Some : goal.returns-in-Some
 unfolding look_of in_range
-returns-then-no_pin c = rw (← c.in_range.ensures, c.if-not-in_range.false, ← c.no_pin.ensures, c.if-no_pin.true)
+returns-in-Some c =
+    let here = rw c.from.ensures at c.in-Some.ensures.lookup in
+    let sensor = pin-if c.args.bus c.args.n (search rules) c.in-Some.s.now here.3.0 here.3.1 in
+    rw (← c.in_range.ensures, c.if-not-in_range.false, sensor, ← c.has_sensor.ensures, c.if-has_sensor.true, c.pin.ensures)
+    (ap (λ (s : Slot). Ok (pin_of s.sensor)) (here.3.1 absent_slot))
 
-pub bounds-slots-at : goal.bounds-slots-at
+pub returns-in_default : goal.returns-in_default
 unfolding look_of in_range
-bounds-slots-at c = omega (arith, pin-here _ _ (sym c.no_pin.ensures ∙ c.if-no_pin.false))
+returns-in_default c =
+    let here = rw c.from.ensures at c.in-Some.ensures.lookup in
+    let none = pin-if c.args.bus c.args.n (search rules) c.in-Some.s.now here.3.0 here.3.1 in
+    rw (← c.in_range.ensures, c.if-not-in_range.false, none, ← c.has_sensor.ensures, c.if-has_sensor.false)
 
-pub returns : goal.returns
+pub returns-in_default-2 : goal.returns-in_default-2
 unfolding look_of in_range
-returns c =
-    let f = c in
-    let g = f in
-    let h = pin-there _ _ (sym f.no_pin.ensures ∙ f.if-no_pin.false) in
-    rw (c.pin.ensures, ← f.in_range.ensures, f.if-not-in_range.false, ← f.no_pin.ensures, f.if-no_pin.false)
-    (ap (λ (s : Slot). Ok (pin_of s.sensor)) (get_d_any g.args.bus.slots g.args.n.0 no_slot absent_slot h))
+returns-in_default-2 c =
+    let over = rw (c.from.ensures, c.in_default.is) at c.get.ensures.lookup in
+    rw (← c.in_range.ensures, c.if-not-in_range.false, past-none c.args.bus c.args.n (search rules) (ltb-false _ _ (sym over.0)))

@@ -19,7 +19,7 @@ no_event = record { kind = 0; slot = record { 0 = 0 }; value = pos 0 }
 pub returns-then-answers-list : goal.returns-then-answers-list
 returns-then-answers-list c =
     let g = c.args in
-    rw c.not_taken.ensures (not-enough g.bus g.mem.now g.list.now g.answers.now c.if-answers-list.true)
+    rw c.refused.ensures (not-enough g.bus g.mem.now g.list.now g.answers.now c.if-answers-list.true)
 
 pub loop-i-init : goal.loop-i-init
 loop-i-init c = record {

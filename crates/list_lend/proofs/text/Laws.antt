@@ -10,6 +10,7 @@ use native.Mathlib.Omega.{arith}
 use lib.ListN.{length, get_or, take, length-append}
 use lib.Seq.{sets, take-suc}
 use Rattle.proof_lists.specs.Tests.{cond_cases}
+use Rattle.rules.specs.contracts.AnswerPartialEq.TheImpl as answers
 use Rattle.rules.specs.declared.Answer.{Answer}
 use Rattle.rules.specs.declared.Answer.TheVariants.{Nothing, Ack, Nack, Data, Refused}
 use Rattle.rules.specs.declared.Outcome.{Outcome}
@@ -17,30 +18,25 @@ use Rattle.rules.specs.declared.Refusal.{Refusal}
 use Rattle.rules.specs.declared.Refusal.TheVariants.{MemoryLength, UnknownKind, WrongSlot, WrongValue, WrongSetup, WrongState, ProtectedPage, Busy, TooShort, WrongForm}
 use Rattle.script_text.specs.Letters.{line_of}
 use Rattle.script_text.proofs.letters.Laws.{Put, put_on, at_front, line-length}
-use Rattle.list_lend.specs.Listed.{is_setups, is_blank, place_line, place_lines, list_text, told_of}
+use Rattle.list_lend.specs.Listed.{blank, is_setups, is_blank, place_line, place_lines, list_text, told_of}
 
--- any refusal but a setup's
-pub other-refusal : (r : Refusal) → r ≢ WrongSetup → false ≡ is_setups r
-unfolding is_setups
-other-refusal MemoryLength h = refl
-other-refusal UnknownKind h = refl
-other-refusal WrongSlot h = refl
-other-refusal WrongValue h = refl
-other-refusal WrongSetup h = absurd (h refl)
-other-refusal WrongState h = refl
-other-refusal ProtectedPage h = refl
-other-refusal Busy h = refl
-other-refusal TooShort h = refl
-other-refusal WrongForm h = refl
-
--- any answer but a refusal
-pub other-blank : (a : Answer) → ((r : Refusal) → a ≢ Refused r) → false ≡ is_blank a
-unfolding is_blank
-other-blank Nothing h = refl
-other-blank Ack h = refl
-other-blank Nack h = refl
-other-blank (Data b) h = refl
-other-blank (Refused r) h = absurd (h r refl)
+-- an answer that `==` says is blank, is
+pub same_blank : (a : Answer) → (answers.ghosts).eq a blank ≡ is_blank a
+unfolding is_blank is_setups
+same_blank Nothing = refl
+same_blank Ack = refl
+same_blank Nack = refl
+same_blank (Data b) = refl
+same_blank (Refused MemoryLength) = refl
+same_blank (Refused UnknownKind) = refl
+same_blank (Refused WrongSlot) = refl
+same_blank (Refused WrongValue) = refl
+same_blank (Refused WrongSetup) = refl
+same_blank (Refused WrongState) = refl
+same_blank (Refused ProtectedPage) = refl
+same_blank (Refused Busy) = refl
+same_blank (Refused TooShort) = refl
+same_blank (Refused WrongForm) = refl
 
 -- a place's line is at most four bytes
 place-length : (a : Answer) → length (place_line a) ≤ 4

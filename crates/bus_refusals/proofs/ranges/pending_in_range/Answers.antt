@@ -5,4 +5,4 @@ use Rattle.bus_refusals.proofs.ranges.pending_in_range.Goals as goal
 
 pub returns : goal.returns
 unfolding pending_in_range sensing
-returns c = rw c.can_pend.ensures
+returns c = rw (c.has_sensor.ensures, c.can_pend.ensures)

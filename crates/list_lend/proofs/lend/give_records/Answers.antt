@@ -1,6 +1,17 @@
--- Records, given as one list.
+-- The records' events and so many places that nothing has answered, given as one list.
+use Rattle.std.proofs.Common.{arith}
+use lib.ListN.{length-replicate}
+use Rattle.list_lend.specs.Listed.{blank}
+use Rattle.list_lend.proofs.text.Places.{take_same}
 use Rattle.list_lend.proofs.lend.Laws.{given_by}
 use Rattle.list_lend.proofs.lend.give_records.Goals as goal
 
+pub put_list-requires : goal.put_list-requires
+put_list-requires c =
+    let left = rw (take_same c.args.places 65535 blank c.requires.1, length-replicate c.args.places blank) at c.events-done.auto.answers in
+    (omega arith, omega arith)
+
 pub returns : goal.returns
-returns c = given_by _ _ _ _ _ _ _ _ c.events_in-list.ensures c.unanswered-answers.ensures c.requires.1 c.give.ensures
+returns c =
+    let done = rw (take_same c.args.places 65535 blank c.requires.1, c.events_in-list.ensures) at c.events-done.ensures in
+    given_by _ _ _ _ _ _ _ _ _ _ done c.put_list.ensures
