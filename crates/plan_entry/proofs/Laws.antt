@@ -1,5 +1,6 @@
 -- The definitions in the form in which a function's proof asks for them: a premise for each fact of the way to a return.
 -- Assumes nothing.
+use Rattle.std.proofs.Common.{Result, Err}
 use mathlib.Core.Path.{◌≡◌, sym, ◌∙◌, ap, ap₂}
 use mathlib.Core.Bool.{Bool, true, false, not, ◌||◌}
 use mathlib.Core.List.{List, map}
@@ -21,8 +22,6 @@ use Rattle.rules.specs.Fresh.{fresh_slot, absent_slot}
 use Rattle.rules.specs.Events.{refusal_number}
 use Rattle.rules.specs.Refusals.{slot_in_range, kinds_of, kind_at, in_range}
 use Rattle.rules.specs.Runs.{Bench, slot_after, part_after}
-use Rattle.plan_rules.specs.declared.Planned.{Planned}
-use Rattle.plan_rules.specs.declared.Planned.TheVariants.{Refused}
 use Rattle.plan_rules.specs.Effect.{SlotTyped}
 use Rattle.plan_rules.specs.Plan.{wrong_lengths, no_such_slot, forbidden, plan_events, plan_of, plan_number, slot_at, bytes_at}
 use Rattle.plan_rules.proofs.Given.{right-lengths, slot-there}
@@ -59,7 +58,7 @@ module _ (k : SlotNo) (b : Bus) (d : Slot) (below : k.0 ≤ 7) (eight : length b
   )
 
 -- a refusal has a number above 0
-pub not-refused : (r : Refusal) (p : Planned) {A : Type 0} → p ≡ Refused r → plan_number p ≡ 0 → A
+pub not-refused : (r : Refusal) (p : Result ℕ Refusal) {A : Type 0} → p ≡ Err r → plan_number p ≡ 0 → A
 unfolding plan_number refusal_number
 not-refused r p e z = absurd (above r (sym (ap plan_number e) ∙ z))
   where
@@ -84,21 +83,21 @@ in-range b ranged e f = sym e ∙ not-false ranged f
 
 -- the entry, row by row
 module _ (b : Bus) (m : List ℕ) (k : SlotNo) (image u : List ℕ) (lengths : Bool) (judged : lengths ≡ wrong_lengths m image u) where
-  pub plan-lengths : lengths ≡ true → plan_of b m k image u ≡ (Refused MemoryLength, u)
+  pub plan-lengths : lengths ≡ true → plan_of b m k image u ≡ (Err MemoryLength, u)
   unfolding plan_of
   plan-lengths e = rw (← judged, e)
 
   module _ (fit : lengths ≡ false) (ranged : Bool) (tested : ranged ≡ in_range b) where
-    pub plan-state : not ranged ≡ true → plan_of b m k image u ≡ (Refused WrongState, u)
+    pub plan-state : not ranged ≡ true → plan_of b m k image u ≡ (Err WrongState, u)
     unfolding plan_of
     plan-state e = rw (← judged, fit, ← tested, e)
 
     module _ (usual : not ranged ≡ false) (missing : Bool) (looked : missing ≡ no_such_slot k b) where
-      pub plan-slot : missing ≡ true → plan_of b m k image u ≡ (Refused WrongSlot, u)
+      pub plan-slot : missing ≡ true → plan_of b m k image u ≡ (Err WrongSlot, u)
       unfolding plan_of
       plan-slot e = rw (← judged, fit, ← tested, usual, ← looked, e)
 
-      pub plan-alone : missing ≡ false → (d : Slot) (part : List ℕ) (z : Planned × List ℕ) → part ≡ bytes_at k.0 (record { bus = b; memory = m })
+      pub plan-alone : missing ≡ false → (d : Slot) (part : List ℕ) (z : Result ℕ Refusal × List ℕ) → part ≡ bytes_at k.0 (record { bus = b; memory = m })
           → alone_of (slot_after 0 (replicate 5 Tick) (get_or b.slots k.0 d)) k.0 (part_after 0 (replicate 5 Tick) (get_or b.slots k.0 d) part) image u ≡ z
           → plan_of b m k image u ≡ z
       unfolding plan_of forbidden plan_events alone_of slot_at

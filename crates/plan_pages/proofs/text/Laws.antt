@@ -1,5 +1,6 @@
 -- Laws of the listing: lines put one after another, how long they are, and each branch of the code in the definition's words.
 -- Assumes nothing.
+use Rattle.std.proofs.Common.{Result, Ok, Err}
 use mathlib.Core.Path.{◌≡◌, refl, sym, ◌∙◌, ap}
 use mathlib.Core.List.{List, [], ◌∷◌, ◌++◌}
 use Prim.Native.Nat.{ℕ, zero, suc, ◌+◌, ◌*◌, ◌≤◌, ◌<◌}
@@ -15,8 +16,6 @@ use Rattle.script_text.specs.Decimal.{decimal}
 use Rattle.script_text.specs.Letters.{line_of}
 use Rattle.script_text.proofs.letters.Decimal.{digits-most}
 use Rattle.script_text.proofs.letters.Laws.{Put, put_on, at_front, line-length}
-use Rattle.plan_rules.specs.declared.Planned.{Planned}
-use Rattle.plan_rules.specs.declared.Planned.TheVariants.{Records, Refused as NotPlanned}
 use Rattle.plan_rules.specs.Plan.{plan_value}
 use Rattle.plan_pages.specs.Listing.{count_line, hex_byte, record_line, record_lines, text_of}
 
@@ -72,19 +71,19 @@ count-length n h = omega (arith, count_room n, digits-most 3 n h)
 -- a plan's text, and a refusal's
 pub records-by : (n at end : ℕ) (bs out o p : List ℕ) → (at ≡ length (count_line n)) × (o ≡ sets out 0 (count_line n))
     → Put o at (record_lines bs n) end p
-    → (end ≡ length (text_of (Records n) bs)) × (p ≡ sets out 0 (text_of (Records n) bs))
+    → (end ≡ length (text_of (Ok n) bs)) × (p ≡ sets out 0 (text_of (Ok n) bs))
 unfolding text_of
 records-by n at end bs out o p a b =
     let f : Put out 0 (count_line n) at o = (a.0 ∙ sym (zero-add (length (count_line n))), a.1) in
     at_front out p end (count_line n ++ record_lines bs n) (put_on out o p 0 at end (count_line n) (record_lines bs n) f b)
 
-pub refused-by : (p : Planned) (r : Refusal) (end : ℕ) (bs out o : List ℕ) → p ≡ NotPlanned r → Put out 0 (line_of (Refused r)) end o
+pub refused-by : (p : Result ℕ Refusal) (r : Refusal) (end : ℕ) (bs out o : List ℕ) → p ≡ Err r → Put out 0 (line_of (Refused r)) end o
     → (end ≡ length (text_of p bs)) × (o ≡ sets out 0 (text_of p bs))
 unfolding text_of
 refused-by p r end bs out o e q = rw e (at_front out o end (line_of (Refused r)) q)
 
 -- a result's text is as long as its records make it
-pub text-length : (p : Planned) (bs : List ℕ) → plan_value p < 10000 → length (text_of p bs) ≤ 5 + 9 * plan_value p
+pub text-length : (p : Result ℕ Refusal) (bs : List ℕ) → plan_value p < 10000 → length (text_of p bs) ≤ 5 + 9 * plan_value p
 unfolding text_of plan_value
-text-length (Records n) bs h = rw (length-append (count_line n) (record_lines bs n)) (omega (arith, count-length n h, lines-nine bs n))
-text-length (NotPlanned r) bs h = omega (arith, line-length (Refused r))
+text-length (Ok n) bs h = rw (length-append (count_line n) (record_lines bs n)) (omega (arith, count-length n h, lines-nine bs n))
+text-length (Err r) bs h = omega (arith, line-length (Refused r))

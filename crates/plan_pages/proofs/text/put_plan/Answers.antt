@@ -5,12 +5,12 @@ use Rattle.plan_pages.proofs.text.put_plan.Goals as goal
 
 pub put_counted-requires : goal.put_counted-requires
 unfolding plan_value
-put_counted-requires c = rw c.in-Records.is at c.requires
+put_counted-requires c = rw c.in-Ok.is at c.requires
 
-pub returns-in-Records : goal.returns-in-Records
+pub returns-in-Ok : goal.returns-in-Ok
 unfolding plan_value
-returns-in-Records c = rw c.in-Records.is c.put_counted.ensures
+returns-in-Ok c = rw c.in-Ok.is c.put_counted.ensures
 
-pub returns-in-Refused : goal.returns-in-Refused
+pub returns-in-Err : goal.returns-in-Err
 unfolding plan_value
-returns-in-Refused c = refused-by _ _ _ _ _ _ c.in-Refused.is c.put_line.ensures
+returns-in-Err c = refused-by _ _ _ _ _ _ c.in-Err.is c.put_line.ensures
