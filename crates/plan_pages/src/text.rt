@@ -1,13 +1,11 @@
 // What the plan program writes for a result of the planner, put at the front of a lent output: the number of records and the records as lines, or
 // the refusal's line. The `requires` are about the sizes of the buffers and the number of records; the program meets them, and is proved to.
-ghost use Rattle.std.specs.Prelude.{◌≡◌, ◌+◌, ◌*◌, ◌≤◌, ◌<◌, length};
+ghost use Rattle.std.specs.Prelude.{◌≡◌, Ok, ◌+◌, ◌*◌, ◌≤◌, ◌<◌, length};
 ghost use Rattle.std.proofs.lemmas.List.Edits.{sets};
 ghost use Rattle.plan_rules.specs.Plan.{plan_value};
-ghost use Rattle.plan_rules.specs.declared.Planned.TheVariants.{Records};
 ghost use Rattle.plan_pages.specs.Listing.{count_line, hex_byte, record_line, record_lines, text_of};
 
-use plan_rules::Planned;
-use rules::Answer;
+use rules::{Answer, Refusal};
 
 // The number of records as a line, put at the beginning; the place after it.
 fn put_count(out: &mut [u8], n: usize) -> usize
@@ -56,21 +54,21 @@ fn put_records(out: &mut [u8], at: usize, records: &[u8], count: usize) -> usize
 // A plan: the number of its records, and their lines; the place after them.
 fn put_counted(out: &mut [u8], records: &[u8], count: usize) -> usize
     requires { (count < 10000) × (5 + 9 * count ≤ length out.old) × (4 * count ≤ length records.now) }
-    ensures { (result ≡ length (text_of (Records count) records.now))
-        × (out.new ≡ sets out.old 0 (text_of (Records count) records.now)) }
+    ensures { (result ≡ length (text_of (Ok count) records.now))
+        × (out.new ≡ sets out.old 0 (text_of (Ok count) records.now)) }
 {
     let at = put_count(out, count);
     put_records(out, at, records, count)
 }
 
 // What the planner gave, with the records that it put at the front of its buffer, as it is written; the place after it.
-pub fn put_plan(out: &mut [u8], p: Planned, records: &[u8]) -> usize
+pub fn put_plan(out: &mut [u8], p: Result<usize, Refusal>, records: &[u8]) -> usize
     requires { (plan_value p < 10000) × (5 + 9 * plan_value p ≤ length out.old) × (4 * plan_value p ≤ length records.now) }
     ensures { (result ≡ length (text_of p records.now))
         × (out.new ≡ sets out.old 0 (text_of p records.now)) }
 {
     match p {
-        Planned::Records(n) => put_counted(out, records, n),
-        Planned::Refused(r) => script_text::letters::put_line(out, 0, Answer::Refused(r)),
+        Ok(n) => put_counted(out, records, n),
+        Err(r) => script_text::letters::put_line(out, 0, Answer::Refused(r)),
     }
 }

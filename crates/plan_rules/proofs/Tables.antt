@@ -28,7 +28,7 @@ use Rattle.plan_rules.specs.Plan.{page_count, page_half, page_block, page_counte
 
 -- a plan for known values computes
 unfoldable pub open-plan : Unit {0}
-unfolding Plan.ticks Plan.five_ticks Plan.settled Plan.slot_at Plan.bytes_at Plan.page_at Plan.page_half Plan.page_block Plan.page_counter Plan.selecting Plan.writing Plan.same Plan.differs
+unfolding Plan.ticks Plan.five_ticks Plan.settled Plan.slot_at Plan.bytes_at Plan.page_at Plan.page_half Plan.page_block Plan.page_counter Plan.selecting Plan.writing Plan.differs
     Plan.barred Plan.barred_before Plan.half_before Plan.page_events Plan.pages_before Plan.plan_events Plan.wrong_lengths Plan.no_such_slot Plan.forbidden Plan.planned Plan.plan_of Plan.plan_number
     Plan.plan_value Records.word_of Records.record_of Records.records_of Records.laid Records.events_in record_at value_at refusal_number open-all
 open-plan = tt

@@ -1,6 +1,7 @@
 -- Request P1, "Programming planner": what a plan is, sentence by sentence, and what the planner gives for every input.
 -- Assumes nothing.
 use Rattle.std.specs.Prelude.{ℕ, zero, suc, ◌+◌, ◌*◌, ◌/◌, ◌%◌, Bool, true, false, not, cond, ◌&&◌, ◌||◌, List, [], ◌∷◌, ◌++◌, map, eqb, ltb, pos, length, get_or, replicate, Result, Ok, Err}
+use Rattle.std.specs.Str.{bytes_eq}
 use Rattle.proof_lists.specs.Parts.{part}
 use Rattle.rules.specs.declared.BlockNo.{BlockNo}
 use Rattle.rules.specs.declared.Bus.{Bus}
@@ -80,11 +81,8 @@ unfoldable pub writing : ℕ → ℕ → List ℕ → ℕ → List Event
 writing k c bytes count = start ∷ byte (0xA0 + 2 * k) ∷ byte c ∷ map byte bytes ++ stop ∷ ticks count
 
 -- the same bytes
-unfoldable pub same : List ℕ → List ℕ → Bool
-same [] [] = true
-same [] (b ∷ bs) = false
-same (a ∷ m) [] = false
-same (a ∷ m) (b ∷ bs) = eqb a b && same m bs
+abbrev pub same : List ℕ → List ℕ → Bool
+same = bytes_eq
 
 -- a slot's 512 bytes as the five ticks leave them, and the image that is wanted
 module _ (old image : List ℕ) where
