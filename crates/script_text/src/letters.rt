@@ -8,11 +8,12 @@ ghost use Rattle.script_text.specs.Letters.{hex_digit, answer_text, line_of, sho
 use rules::{Answer, Refusal};
 
 // A digit below sixteen as a hexadecimal one, in capitals.
+#[tactic(auto, unfolding(crate::specs::Letters::hex_digit))]
 pub fn hex_digit(n: u8) -> u8
     requires { n < 16 }
     ensures { result ≡ hex_digit n }
 {
-    if n < 10 { 0x30 + n } else { 0x37 + n }
+    if n < 10 { b'0' + n } else { b'A' + (n - 10) }
 }
 
 // The paper's number of a refusal.
@@ -31,6 +32,16 @@ fn number_of(r: Refusal) -> u8
         Refusal::TooShort => 9,
         Refusal::WrongForm => 10,
     }
+}
+
+// A text, or any other elements, put at a place; the place after them.
+pub fn put<T: Copy>(out: &mut [T], at: usize, text: &[T]) -> usize
+    requires { at + length text.now ≤ length out.old }
+    ensures { (result ≡ at + length text.now) × (out.new ≡ sets out.old at text.now) }
+{
+    let end = at + text.len();
+    out[at..end].copy_from_slice(text);
+    end
 }
 
 // One, two or three characters, put at a place; the place after them.
@@ -61,23 +72,13 @@ pub fn put_three(out: &mut [u8], at: usize, a: u8, b: u8, c: u8) -> usize
     at + 3
 }
 
-// A number's last decimal digit.
-fn last_digit(n: usize) -> u8
-    ensures { result ≡ digit n }
-{
-    0x30 + (n % 10) as u8
-}
-
-// A number in decimal, put at a place; the place after it. It calls itself for the digits in front of the last, nineteen at most.
+// A number in decimal, put at a place; the place after it.
 pub fn put_decimal(out: &mut [u8], at: usize, n: usize) -> usize
     requires { at + length (decimal n) ≤ length out.old }
     ensures { (result ≡ at + length (decimal n)) × (out.new ≡ sets out.old at (decimal n)) }
 {
-    if n <= 9 {
-        return put_one(out, at, last_digit(n));
-    }
-    let end = put_decimal(out, at, n / 10);
-    put_one(out, end, last_digit(n))
+    let mut buffer = itoa::Buffer::new();
+    put(out, at, buffer.format(n).as_bytes())
 }
 
 // A refusal's text, `R` and its number, put at a place; the place after it.
@@ -86,20 +87,21 @@ fn put_number(out: &mut [u8], at: usize, r: Refusal) -> usize
     ensures { (result ≡ at + length (answer_text (Answer.Refused r)))
         × (out.new ≡ sets out.old at (answer_text (Answer.Refused r))) }
 {
-    let end = put_one(out, at, b'R');
-    put_decimal(out, end, number_of(r) as usize)
+    let end = put(out, at, b"R");
+    put_decimal(out, end, usize::from(number_of(r)))
 }
 
 // An answer's text without a line's end, put at a place; the place after it.
+#[tactic(auto, unfolding(crate::specs::Letters::digits_of, rules::specs::Events::letter_of))]
 pub fn put_answer(out: &mut [u8], at: usize, a: Answer) -> usize
     requires { at + 3 ≤ length out.old }
     ensures { (result ≡ at + length (answer_text a)) × (out.new ≡ sets out.old at (answer_text a)) }
 {
     match a {
-        Answer::Nothing => put_one(out, at, b'-'),
-        Answer::Ack => put_one(out, at, b'A'),
-        Answer::Nack => put_one(out, at, b'N'),
-        Answer::Data(b) => put_three(out, at, b'D', hex_digit(b / 16), hex_digit(b % 16)),
+        Answer::Nothing => put(out, at, b"-"),
+        Answer::Ack => put(out, at, b"A"),
+        Answer::Nack => put(out, at, b"N"),
+        Answer::Data(b) => put(out, at, &[b'D', hex_digit(b / 16), hex_digit(b % 16)]),
         Answer::Refused(r) => put_number(out, at, r),
     }
 }
@@ -110,7 +112,7 @@ pub fn put_line(out: &mut [u8], at: usize, a: Answer) -> usize
     ensures { (result ≡ at + length (line_of a)) × (out.new ≡ sets out.old at (line_of a)) }
 {
     let end = put_answer(out, at, a);
-    put_one(out, end, b'\n')
+    put(out, end, b"\n")
 }
 
 // `short`, put at the beginning; the place after it.
@@ -118,22 +120,17 @@ pub fn put_short(out: &mut [u8]) -> usize
     requires { 6 ≤ length out.old }
     ensures { (result ≡ 6) × (out.new ≡ sets out.old 0 short_line) }
 {
-    out[0] = b's';
-    out[1] = b'h';
-    out[2] = b'o';
-    out[3] = b'r';
-    out[4] = b't';
-    out[5] = b'\n';
-    6
+    put(out, 0, b"short\n")
 }
 
 // A refusal's line, put at the beginning; the place after it. Any other answer puts nothing.
+#[tactic(auto, unfolding(crate::specs::Letters::refusal_line))]
 pub fn put_refusal(out: &mut [u8], a: Answer) -> usize
     requires { 4 ≤ length out.old }
     ensures { (result ≡ length (refusal_line a)) × (out.new ≡ sets out.old 0 (refusal_line a)) }
 {
-    if let Answer::Refused(_) = a {
-        return put_line(out, 0, a);
+    match a {
+        Answer::Refused(_) => put_line(out, 0, a),
+        _ => 0,
     }
-    0
 }

@@ -10,6 +10,8 @@ use borrow.Author.Tests.{lt-ltb, le-ltb, ltb-true, ltb-false}
 use lib.Dec.{ltb}
 use lib.ListN.{length, get_or, length-append, get_or-append}
 use Rattle.proof_lists.specs.Tests.{by-test}
+use Rattle.std.specs.Fmt.{decimal as std_decimal}
+use Rattle.std.proofs.lemmas.Fmt.{AppendsLastDigit, decimal_from_appends, length-decimal-le_succ}
 use Rattle.script_text.specs.Decimal.{digit, decimal_in, decimal}
 
 -- a single digit, with any number of steps
@@ -88,3 +90,12 @@ digits-most (suc k) n h = by-test (ltb n 10) (λ e. one (ltb-true n 10 e)) (λ e
 
     more : 10 ≤ n → length (decimal (n / 10)) ≤ suc k → length (decimal n) ≤ suc (suc k)
     more l m = rw (decimal-more n l, length-append) (omega arith)
+
+-- what std writes of a number are the same digits
+appended : AppendsLastDigit decimal_in
+unfolding digit
+appended = record { one = λ k n h. one-digit (suc k) n h ∙ ap (λ (d : ℕ). d ∷ []) (omega arith); more = more-digits }
+
+pub decimal-std : (n : ℕ) → n < 2 ^ 64 → std_decimal n ≡ decimal n
+unfolding decimal
+decimal-std n h = sym (enough n (suc n) n (omega arith) (omega arith) ∙ decimal_from_appends decimal_in appended (suc n) n h (omega (arith, length-decimal-le_succ n h)))

@@ -2,7 +2,7 @@
 -- Assumes nothing.
 use mathlib.Core.Path.{◌≡◌, refl, sym, ◌∙◌, ap}
 use mathlib.Core.List.{List, [], ◌∷◌, ◌++◌}
-use Prim.Native.Nat.{ℕ, ◌+◌, ◌/◌, ◌%◌, ◌≤◌, ◌<◌}
+use Prim.Native.Nat.{ℕ, ◌+◌, ◌/◌, ◌≤◌}
 use native.Mathlib.Nat.{zero-add}
 use native.Mathlib.Omega.{arith}
 use lib.ListN.{length, length-append}
@@ -14,8 +14,8 @@ use Rattle.rules.specs.declared.Refusal.{Refusal}
 use Rattle.rules.specs.declared.Refusal.TheVariants.{MemoryLength, UnknownKind, WrongSlot, WrongValue, WrongSetup, WrongState, ProtectedPage, Busy, TooShort, WrongForm}
 use Rattle.rules.specs.Events.{letter_of, refusal_number}
 use Rattle.script_text.specs.Decimal.{digit, decimal}
-use Rattle.script_text.specs.Letters.{hex_digit, digits_of, answer_text, line_of, refusal_line}
-use Rattle.script_text.proofs.letters.Decimal.{decimal-one, decimal-more, digits-most}
+use Rattle.script_text.specs.Letters.{digits_of, answer_text, line_of, refusal_line}
+use Rattle.script_text.proofs.letters.Decimal.{decimal-more, digits-most}
 
 -- a refusal's number has at most two digits
 pub refusal-small : (r : Refusal) → refusal_number r ≤ 10
@@ -61,12 +61,6 @@ pub line-length : (a : Answer) → length (line_of a) ≤ 4
 unfolding line_of
 line-length a = rw (length-append (answer_text a) (0x0A ∷ [])) (omega (arith, answer-length a))
 
--- a byte that was read
-pub data-by : (a : Answer) (b x y at end : ℕ) (out o : List ℕ) → a ≡ Data b → x ≡ hex_digit (b / 16) → y ≡ hex_digit (b % 16)
-    → Put out at (0x44 ∷ x ∷ y ∷ []) end o → Put out at (answer_text a) end o
-unfolding digits_of letter_of
-data-by a b x y at end out o e f g p = rw (e, ← f, ← g) p
-
 -- a refusal: its letter, and its number
 pub number_by : (r : Refusal) (n at mid end : ℕ) (out o p : List ℕ) → n ≡ refusal_number r → Put out at (0x52 ∷ []) mid o → Put o mid (decimal n) end p
     → Put out at (answer_text (Refused r)) end p
@@ -82,25 +76,9 @@ pub line-by : (a : Answer) (at mid end : ℕ) (out o p : List ℕ) → Put out a
 unfolding line_of
 line-by a at mid end out o p f g = put_on out o p at mid end (answer_text a) (0x0A ∷ []) f g
 
--- a number: its only digit, or a tenth of it and the last digit
-pub only-by : (n d at end : ℕ) (out o : List ℕ) → n < 10 → d ≡ digit n → Put out at (d ∷ []) end o → Put out at (decimal n) end o
-only-by n d at end out o h e p = rw (decimal-one n h, ← e) p
-
-pub digit-by : (n d at mid end : ℕ) (out o p : List ℕ) → 10 ≤ n → d ≡ digit n → Put out at (decimal (n / 10)) mid o → Put o mid (d ∷ []) end p
-    → Put out at (decimal n) end p
-digit-by n d at mid end out o p h e f g = rw (decimal-more n h, ← e) (put_on out o p at mid end (decimal (n / 10)) (d ∷ []) f g)
-
 -- a number of several digits has one more than a tenth of it
 pub more_room : (n : ℕ) → 10 ≤ n → length (decimal n) ≡ length (decimal (n / 10)) + 1
 more_room n h = rw (decimal-more n h) (length-append (decimal (n / 10)) (digit n ∷ []))
-
--- a refusal's line
-pub refusal-by : (a : Answer) (r : Refusal) (end : ℕ) (out o : List ℕ) → a ≡ Refused r → Put out 0 (line_of a) end o
-    → (end ≡ length (refusal_line a)) × (o ≡ sets out 0 (refusal_line a))
-unfolding refusal_line
-refusal-by a r end out o e p =
-    let q : refusal_line a ≡ line_of a = rw e in
-    rw q (at_front out o end (line_of a) p)
 
 -- any other answer, by its place among the variants, has none
 pub other-line : (a : Answer) → ((r : Refusal) → a ≡ Refused r → ⊥) → refusal_line a ≡ []

@@ -1,16 +1,22 @@
 -- Laws of the setup's pairs, of two's complement, and of records in pieces of their bytes.
 -- Assumes nothing.
-use mathlib.Core.Path.{◌≡◌, refl, sym, ◌∙◌, ap, ap₂}
+use mathlib.Core.Path.{◌≡◌, refl, sym, ◌∙◌, ap, ap₂, subst}
 use mathlib.Core.List.{List, [], ◌∷◌, ◌++◌}
-use Prim.Native.Nat.{ℕ, zero, suc, ◌+◌, ◌*◌, ◌≤◌, ◌<◌}
+use Prim.Native.Nat.{ℕ, zero, suc, ◌+◌, ◌-◌, ◌*◌, ◌≤◌, ◌<◌}
 use native.Mathlib.Nat.{zero-add, add-zero}
 use native.Mathlib.Omega.{arith}
 use borrow.Author.Tests.{ltb-true, ltb-false}
 use lib.IntN.{pos, negsuc, ◌-ℤ◌}
 use lib.Dec.{ltb}
-use lib.ListN.{length, get_or, set, drop, length-append, get_or-append}
+use lib.ListN.{length, get_or, drop, length-append, get_or-append}
 use lib.Seq.{get_or_at, get_or-drop}
-use Rattle.proof_lists.specs.Each.{filled, filled-step}
+use mir.Syntax.{w16}
+use mir.Val.{to_z}
+use mir.Facts.{to_z_pos, to_z-neg}
+use Rattle.std.specs.Array.{IsFromFnResultFrom, IsFromFnResult}
+use Rattle.std.proofs.lemmas.List.FromFn.{fill_by_all}
+use Rattle.std.specs.Fn.{Called}
+use denote.Param.Members.{Mut}
 use Rattle.proof_lists.specs.Tests.{by-test}
 use Rattle.rules.specs.declared.Pair.{Pair}
 use Rattle.rules.specs.Modelled.{slot_count}
@@ -20,6 +26,18 @@ use Rattle.script_text.specs.Records.{pair_at, pairs_to, pairs_of, value_at, rec
 pub below-zero : (m : ℕ) → negsuc 0 -ℤ pos m ≡ negsuc m
 below-zero zero = refl
 below-zero (suc m) = ap (λ (n : ℕ). negsuc (suc n)) (zero-add m)
+
+-- two bytes read as a number with a sign
+pub value-signed : (high low : ℕ) → high < 256 → low < 256 → to_z w16 (high * 256 + low) ≡ value_at high low
+unfolding value_at
+value-signed high low h l =
+    by-test (ltb high 128)
+    (λ e. let f : high < 128 = ltb-true high 128 e in to_z_pos w16 {n = high * 256 + low} (omega arith) ∙ rw e)
+    (λ e.
+    let f : 128 ≤ high = ltb-false high 128 e in
+    let k = 65535 - (high * 256 + low) in
+    let n : 65536 - suc k ≡ high * 256 + low = omega arith in
+    ap (to_z w16) (sym n) ∙ to_z-neg w16 k (omega arith) ∙ rw e)
 
 -- the setup's pairs
 pub length_pairs : (bs : List ℕ) (n : ℕ) → length (pairs_to bs n) ≡ n
@@ -40,16 +58,19 @@ pairs-at bs (suc n) k z h =
     let f : n ≡ k = let g : n ≤ k = ltb-false k n e in omega arith in
     get_or_at (pairs_to bs n) (pair_at bs (2 * n)) [] z k (length_pairs bs n ∙ f) ∙ ap (λ i. pair_at bs (2 * i)) f)
 
--- past the end of an array of pairs
-abbrev pub no_pair : Pair
-no_pair = record { kind = 0; length = 0 }
+-- a list made from calls at each number, none of which changes what is called
+made_from : {F B : Type 0} (g : Mut F (ℕ × Unit {0}) B) (h : ℕ → B) (f : F) → ((i : ℕ) (y : B) (q : F) → Called g f (i, tt) y q → (y ≡ h i) × (q ≡ f))
+    → (ys : List B) (n i : ℕ) → IsFromFnResultFrom g f ys i n → (k j : ℕ) (d : B) → k < n → i + k ≡ j → get_or ys j d ≡ h j
+made_from g h f step ys zero i m k j d l e = absurd (omega arith)
+made_from g h f step ys (suc n) i m zero j d l e = let here : i ≡ j = omega arith in rw (← here) (m.2.1 d ∙ (step i m.1 m.0 m.3).0)
+made_from g h f step ys (suc n) i m (suc k) j d l e =
+    made_from g h f step ys n (i + 1) (subst (λ q. IsFromFnResultFrom g q ys (i + 1) n) (step i m.1 m.0 m.3).1 m.4) k j d (omega arith) (omega arith)
 
--- the next pair of the setup, stored
-pub pairs-step : (d ps : List Pair) (bs : List ℕ) {n : ℕ} (i : ℕ) (p : Pair) → ps ≡ filled d (pairs_to bs n) i → p ≡ pair_at bs (2 * i) → i < n
-    → length d ≡ n → set ps i p ≡ filled d (pairs_to bs n) (i + 1)
-pairs-step d ps bs {n} i p e f h l =
-    ap₂ (λ (u : List Pair) (q : Pair). set u i q) e (f ∙ sym (pairs-at bs n i no_pair h))
-    ∙ filled-step d (pairs_to bs n) i no_pair (omega arith) (rw (length_pairs bs n) h)
+-- and the setup's eight pairs so
+pub pairs-made : {F : Type 0} (g : Mut F (ℕ × Unit {0}) Pair) (f : F) (bs : List ℕ) (ps : List Pair)
+    → ((i : ℕ) (p : Pair) (q : F) → Called g f (i, tt) p q → (p ≡ pair_at bs (2 * i)) × (q ≡ f)) → IsFromFnResult g f ps 8 → ps ≡ pairs_of bs
+unfolding pairs_of pairs_to
+pairs-made g f bs ps step m = fill_by_all (λ i. pair_at bs (2 * i)) ps 8 (pair_at bs 0) m.long (λ k h. made_from g (λ i. pair_at bs (2 * i)) f step ps 8 0 m.each k k _ h (omega arith))
 
 -- a record is its four bytes
 pub same-record : (p q : List ℕ) (i j : ℕ) → ((k : ℕ) → k < 4 → get_or p (i + k) 0 ≡ get_or q (j + k) 0) → record_at p i ≡ record_at q j

@@ -3,8 +3,8 @@ use native.Mathlib.Omega.{arith}
 use Rattle.script_text.proofs.letters.Laws.{answer-length, line-by}
 use Rattle.script_text.proofs.letters.put_line.Goals as goal
 
-pub put_one-requires : goal.put_one-requires
-put_one-requires c = omega (arith, answer-length c.args.a)
+pub put-requires : goal.put-requires
+put-requires c = omega (arith, answer-length c.args.a)
 
 pub returns : goal.returns
-returns c = line-by _ _ _ _ _ _ _ c.put_answer-end.ensures c.put_one.ensures
+returns c = line-by _ _ _ _ _ _ _ c.put_answer-end.ensures c.put.ensures

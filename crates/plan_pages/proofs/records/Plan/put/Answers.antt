@@ -1,7 +1,6 @@
 -- Its four bytes.
 use Rattle.std.proofs.Common.{ap, List, ℕ, ◌+◌}
 use Rattle.plan_pages.specs.declared.records.Plan.{Plan}
-use Rattle.plan_pages.specs.Laid.{with_laid}
 use Rattle.plan_pages.proofs.records.Laws.{laid_one}
 use Rattle.plan_pages.proofs.records.Plan.put.Goals as goal
 
