@@ -11,7 +11,13 @@ use rules::{Act, Refusal, Slot, SlotNo};
 
 // The plan for slot k by itself, with its own 512 bytes: pages and protection are judged as five ticks leave them, and nothing is laid before. A
 // refusal leaves the buffer as it is.
-pub fn alone(s: Slot, k: SlotNo, part: &[u8; 512], image: &[u8; 512], buffer: &mut [u8]) -> Result<usize, Refusal>
+pub fn alone(
+    s: Slot,
+    k: SlotNo,
+    part: &[u8; 512],
+    image: &[u8; 512],
+    buffer: &mut [u8],
+) -> Result<usize, Refusal>
     requires { (slot_in_range s ≡ true) × (k.0 < 8) × (length buffer.old ≡ buffer_bytes) }
     ensures { alone_of (slot_after 0 (replicate five Act.Tick) s) k.0 (part_after 0 (replicate five Act.Tick) s part.now)
         image.now buffer.old ≡ (result, buffer.new) }

@@ -24,8 +24,7 @@ pub all_pages-requires : goal.all_pages-requires
 all_pages-requires c =
     let g = c in
     let e = c.new-plan.ensures in
-    let s = laid-sizes _ _ _ c.ticks.ensures in
-    (
+    let s = laid-sizes _ _ _ c.ticks.ensures in (
       ap slot_in_range c.settle-settled.ensures.0 ∙ ticks-kept 5 g.args.s g.requires.0,
       g.requires.1,
       omega (arith, ap (λ (p : Plan). p.count) e, ap (λ (p : Plan). length p.buffer.now) e, length-ticks 5),

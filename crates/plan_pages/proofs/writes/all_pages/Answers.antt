@@ -45,11 +45,11 @@ loop-p-preserved c =
             laid = pages-more a.old.now a.image.now a.s a.k.0 a.plan.now l.p _ d l.plan i.laid _ _ w.if-differs.true i.half e;
           })
       | else-differs w ↦ record {
-          below = omega arith;
-          room = omega (arith, ap (λ (q : Plan). q.count) w.plan-is);
-          half = w.half-is ∙ half-same a.old.now a.image.now a.s l.p _ d _ w.if-differs.false i.half;
-          laid = w.plan-is ∙ pages-same a.old.now a.image.now a.s a.k.0 a.plan.now l.p _ d l.plan i.laid w.if-differs.false;
-        }
+        below = omega arith;
+        room = omega (arith, ap (λ (q : Plan). q.count) w.plan-is);
+        half = w.half-is ∙ half-same a.old.now a.image.now a.s l.p _ d _ w.if-differs.false i.half;
+        laid = w.plan-is ∙ pages-same a.old.now a.image.now a.s a.k.0 a.plan.now l.p _ d l.plan i.laid w.if-differs.false;
+      }
     ]
 
 pub returns : goal.returns
