@@ -1,7 +1,6 @@
 -- Laws of the listing: lines put one after another, how long they are, and each branch of the code in the definition's words.
 -- Assumes nothing.
-use Rattle.std.proofs.Common.{◌≡◌, refl, sym, ◌∙◌, ap, ℕ, zero, suc, ◌+◌, ◌*◌, ◌≤◌, ◌<◌, List, [], ◌∷◌, ◌++◌, length, get_or, take, drop, drop-drop, append_assoc, append-nil, zero-add, add-zero, add-one, add_comm, mul-zero, mul-suc, arith, length-append, Result, Ok, Err}
-use Rattle.std.specs.Simd.{first_chunks}
+use Rattle.std.proofs.Common.{◌≡◌, refl, sym, ◌∙◌, ap, ℕ, zero, suc, ◌+◌, ◌*◌, ◌≤◌, ◌<◌, List, [], ◌∷◌, ◌++◌, length, get_or, take, drop, append_assoc, append-nil, zero-add, add-zero, add-one, arith, length-append, Result, Ok, Err}
 use Rattle.std.proofs.Math.Seq.{take-suc}
 use Rattle.std.proofs.lemmas.List.{get_or-take, get_or-drop}
 use Rattle.std.proofs.lemmas.List.Edits.{sets}
@@ -50,13 +49,7 @@ line-of (a ∷ b ∷ c ∷ []) e = absurd (omega arith)
 line-of (a ∷ b ∷ c ∷ d ∷ []) e = refl
 line-of (a ∷ b ∷ c ∷ d ∷ x ∷ r) e = absurd (omega arith)
 
--- a record among the chunks of a buffer, and its line
-pub chunk-at : (size k i : ℕ) (bs : List ℕ) → i < k → get_or (first_chunks size k bs) i [] ≡ take size (drop (size * i) bs)
-chunk-at size zero i bs h = absurd (omega arith)
-chunk-at size (suc k) zero bs h = rw mul-zero
-chunk-at size (suc k) (suc i) bs h =
-    chunk-at size k i (drop size bs) (omega arith) ∙ ap (take size) (drop-drop (size * i) size bs ∙ ap (λ (n : ℕ). drop n bs) (add_comm size (size * i) ∙ sym (mul-suc size i)))
-
+-- the line of a record among the chunks of a buffer
 pub line-at : (bs r : List ℕ) (at : ℕ) → r ≡ take 4 (drop at bs) → record_line r 0 ≡ record_line bs at
 unfolding record_line
 line-at bs r at e = rw (e, byte 0 (omega arith), byte 1 (omega arith), byte 2 (omega arith), byte 3 (omega arith), add-zero)
