@@ -11,9 +11,8 @@ mod state; // what they hand in: a memory, and numbers of a slot
 mod words; // the tries as commands, read word by word
 
 use list_lend::text::Told;
-use plan_rules::Planned;
 use report::STDOUT_FILENO;
-use rules::{Answer, BlockNo, Bus, Event, Pair, SlotNo};
+use rules::{Answer, BlockNo, Bus, Event, Pair, Refusal, SlotNo};
 use save_rules::Saved;
 
 // What a command goes on from, beside memory and shelf: the pairs of the last setup, the bus, and how long the memory is.
@@ -162,13 +161,13 @@ fn save(bus: Bus, mem: &[u8], length: usize, shelf: &mut [u8], room: u32) {
 }
 
 // The number of records or the refusal; where the rest of the buffer begins.
-fn told(p: Planned) -> usize {
+fn told(p: Result<usize, Refusal>) -> usize {
     match p {
-        Planned::Records(n) => {
+        Ok(n) => {
             report::counted(n, names::RECORDS);
             4 * parts::least(n, 2048)
         }
-        Planned::Refused(r) => {
+        Err(r) => {
             report::answer(Answer::Refused(r));
             0
         }

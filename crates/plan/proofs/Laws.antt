@@ -1,5 +1,6 @@
 -- The answer, by what each branch of the code gives, and how long it can be.
 -- Assumes nothing.
+use Rattle.std.proofs.Common.{Result}
 use mathlib.Core.Path.{◌≡◌, refl, ap}
 use mathlib.Core.List.{List}
 use Prim.Native.Nat.{ℕ, ◌≤◌, ◌<◌}
@@ -9,10 +10,10 @@ use lib.Dec.{eqb, ltb}
 use lib.ListN.{length, replicate}
 use lib.Seq.{sets}
 use Rattle.proof_lists.specs.Tests.{cond_cases}
+use Rattle.rules.specs.declared.Refusal.{Refusal}
 use Rattle.rules.specs.declared.SlotNo.{SlotNo}
 use Rattle.rules.specs.Runs.{Bench}
 use Rattle.script_text.specs.Letters.{short_line}
-use Rattle.plan_rules.specs.declared.Planned.{Planned}
 use Rattle.plan_rules.specs.Plan.{buffer_bytes, plan_of, plan_value}
 use Rattle.plan_pages.specs.Listing.{text_of}
 use Rattle.plan_pages.proofs.text.Laws.{text-length}
@@ -29,7 +30,7 @@ module _ (x : Bench) (k : SlotNo) (image out o : List ℕ) (came left end : ℕ)
   unfolding answer_of end_text last_text
   answer-short c h p = rw (le-ltb came job_bytes c, ne_eqb left 0 h, p.0, p.1)
 
-  pub answer-plan : (p : Planned) (rs : List ℕ) → job_bytes ≤ came → left ≡ 0 → plan_of x.bus x.memory k image (replicate buffer_bytes 0) ≡ (p, rs)
+  pub answer-plan : (p : Result ℕ Refusal) (rs : List ℕ) → job_bytes ≤ came → left ≡ 0 → plan_of x.bus x.memory k image (replicate buffer_bytes 0) ≡ (p, rs)
       → (end ≡ length (text_of p rs)) × (o ≡ sets out 0 (text_of p rs)) → answer_of x k image came left out ≡ (end, o)
   unfolding answer_of end_text last_text plan_text
   answer-plan p rs c h e q = rw (le-ltb came job_bytes c, eq-eqb left 0 h, e, q.0, q.1)
@@ -38,7 +39,7 @@ module _ (x : Bench) (k : SlotNo) (image out o : List ℕ) (came left end : ℕ)
 plan-length : (x : Bench) (k : SlotNo) (image : List ℕ) → length (plan_text x k image) ≤ 9000
 unfolding plan_text
 plan-length x k image =
-    let p : Planned × List ℕ = plan_of x.bus x.memory k image (replicate buffer_bytes 0) in
+    let p : Result ℕ Refusal × List ℕ = plan_of x.bus x.memory k image (replicate buffer_bytes 0) in
     let f : plan_value p.0 ≤ 811 = plan-fits x.bus x.memory k image (replicate buffer_bytes 0) p.1 p.0 refl in
     omega (arith, text-length p.0 p.1 (omega arith))
 

@@ -1,6 +1,7 @@
 -- Request P1, of the program: what it prints for whatever it reads, and that running what it prints leaves the image. The bench comes from any setup and
 -- any records, so it has what the planner's promise asks of the program's types: eight slots, arrays of sixteen, bytes.
 -- Assumes nothing.
+use Rattle.std.proofs.Common.{Result, Ok}
 use mathlib.Core.Path.{◌≡◌, refl, sym, ◌∙◌, ap, subst}
 use mathlib.Core.Bool.{true, false, false≢true}
 use mathlib.Core.List.{List, [], ◌∷◌, ◌++◌}
@@ -33,8 +34,6 @@ use Rattle.script_text.specs.Letters.{line_of, short_line}
 use Rattle.script_text.proofs.records.Laws.{length_pairs}
 use Rattle.script_turns.specs.Frame.{bad_setup_line}
 use Rattle.script_turns.specs.Script.{bench_to, records_in}
-use Rattle.plan_rules.specs.declared.Planned.{Planned}
-use Rattle.plan_rules.specs.declared.Planned.TheVariants.{Records}
 use Rattle.plan_rules.specs.Records.{laid, events_in}
 use Rattle.plan_rules.specs.Effect.{Typed}
 use Rattle.plan_rules.specs.Plan.{bytes_at, buffer_bytes, no_such_slot, wrong_lengths, forbidden, plan_events, plan_of}
@@ -91,7 +90,7 @@ module _ (bs : List ℕ) (bytes : Every (λ b. b ≤ 255) bs) where
     planned : Printed → Wrote
 
   -- what the planner gives
-  abbrev given : Planned × List ℕ
+  abbrev given : Result ℕ Refusal × List ℕ
   given = plan_of bench.bus bench.memory slot image zeros
 
   module _ (whole : 4625 ≤ length bs) where
@@ -135,7 +134,7 @@ module _ (bs : List ℕ) (bytes : Every (λ b. b ≤ 255) bs) where
         (subst (Everywhere Sixteen) (sym run) (sixteen (pairs_of bs) (take 4096 (drop 16 bs)) (events_in more (records_in more)))) in
         record { slot = record { slots = number-of-slots; latch = arrays.0; marks = arrays.1 }; bytes = image-bytes }
 
-    module _ (n : ℕ) (there : no_such_slot slot bench.bus ≡ false) (e : given.0 ≡ Records n) where
+    module _ (n : ℕ) (there : no_such_slot slot bench.bus ≡ false) (e : given.0 ≡ Ok n) where
       promise : Promised bench.bus bench.memory slot image zeros n given.1
       promise = promised bench.bus bench.memory slot image zeros n (typed there) e
 
@@ -149,7 +148,7 @@ module _ (bs : List ℕ) (bytes : Every (λ b. b ≤ 255) bs) where
           (small_at (plan_events slot.0 bench image) zeros
           (unfold plan_events in plan-plain _ image _ slot.0 (slot-below slot bench.bus there) image-bytes) (omega (arith, long-buffer)) i (omega arith))
 
-      prints : given.1 ≡ laid (plan_events slot.0 bench image) zeros → written_for bs ≡ text_of (Records n) given.1 → Printed
+      prints : given.1 ≡ laid (plan_events slot.0 bench image) zeros → written_for bs ≡ text_of (Ok n) given.1 → Printed
       unfolding text_of
       prints laid-there t = record {
         number = n;
@@ -160,15 +159,15 @@ module _ (bs : List ℕ) (bytes : Every (λ b. b ≤ 255) bs) where
         promise = promise;
       }
 
-    said : (v : Planned × List ℕ) → Verdict bench.bus bench.memory slot image zeros v → given ≡ v → written_for bs ≡ text_of v.0 v.1 → Wrote
+    said : (v : Result ℕ Refusal × List ℕ) → Verdict bench.bus bench.memory slot image zeros v → given ≡ v → written_for bs ≡ text_of v.0 v.1 → Wrote
     unfolding text_of
     said v (row-1 q h) e t = absurd (false≢true (sym lengths ∙ h))
     said v (row-6 q h i) e t = absurd (false≢true (sym i ∙ ranged))
     said v (row-3 {r} q h i j) e t = refused-3 r q j t
     said v (row-7 {r} q h i j f) e t = refused-7 r q f t
     said v (no_row h i j f) e t =
-        let first : given.0 ≡ v.0 = ap (λ (z : Planned × List ℕ). z.0) e in
-        let second : given.1 ≡ v.1 = ap (λ (z : Planned × List ℕ). z.1) e in
+        let first : given.0 ≡ v.0 = ap (λ (z : Result ℕ Refusal × List ℕ). z.0) e in
+        let second : given.1 ≡ v.1 = ap (λ (z : Result ℕ Refusal × List ℕ). z.1) e in
         planned (prints _ j first second (t ∙ ap (text_of v.0) (sym second)))
 
   pub wrote : Wrote

@@ -1,8 +1,9 @@
 -- The plan program: what it writes for what it reads.
 -- Assumes nothing.
-use Rattle.std.specs.Prelude.{ℕ, ◌%◌, cond, List, eqb, ltb, length, take, drop, get_or, replicate}
+use Rattle.std.specs.Prelude.{ℕ, ◌%◌, cond, List, eqb, ltb, length, take, drop, get_or, replicate, Result}
 use Rattle.std.proofs.lemmas.List.Edits.{sets}
 use Rattle.std.specs.List.{list_all}
+use Rattle.rules.specs.declared.Refusal.{Refusal}
 use Rattle.rules.specs.declared.SlotNo.{SlotNo}
 use Rattle.rules.specs.Refusals.{good_pair, setup_of}
 use Rattle.rules.specs.Runs.{Bench}
@@ -10,14 +11,13 @@ use Rattle.script_text.specs.Records.{pairs_of}
 use Rattle.script_text.specs.Letters.{short_line}
 use Rattle.script_turns.specs.Frame.{bad_setup_line}
 use Rattle.script_turns.specs.Script.{bench_to, records_in}
-use Rattle.plan_rules.specs.declared.Planned.{Planned}
 use Rattle.plan_rules.specs.Plan.{buffer_bytes, plan_of}
 use Rattle.plan_pages.specs.Listing.{text_of}
 
 -- the plan for slot k of a bench and an image, in a buffer of zeros, as it is written
 unfoldable pub plan_text : Bench → SlotNo → List ℕ → List ℕ
 plan_text x k image =
-    let p : Planned × List ℕ = plan_of x.bus x.memory k image (replicate buffer_bytes 0) in
+    let p : Result ℕ Refusal × List ℕ = plan_of x.bus x.memory k image (replicate buffer_bytes 0) in
     text_of p.0 p.1
 
 -- at the input's end, where so many bytes of a record are left over: "`short` alone where the input ends [..] inside a record"

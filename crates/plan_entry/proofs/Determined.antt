@@ -1,5 +1,6 @@
 -- Any two results that the entry's contract allows are equal: of the contract's own clause, as the borrow checker reads it.
 -- Assumes nothing.
+use Rattle.std.proofs.Common.{Result}
 use mathlib.Core.Path.{◌≡◌, sym, ◌∙◌, ap}
 use mathlib.Core.List.{List}
 use Prim.Native.Nat.{ℕ}
@@ -7,7 +8,7 @@ use contract.Lifetimes.{Lfts}
 use borrow.Fn.World.{ArgsD, ResD}
 use borrow.Fn.Kinds.{ended_of}
 use denote.Triple.Clauses.{AtExit}
-use Rattle.plan_rules.specs.declared.Planned.{Planned}
+use Rattle.rules.specs.declared.Refusal.{Refusal}
 use Rattle.plan_entry.specs.contracts.plan as plan
 use Rattle.plan_entry.proofs.plan.Kinds as plan_kinds
 use Rattle.plan_entry.proofs.plan.Reads as plan_reads
@@ -17,5 +18,5 @@ pub plan-decides : (κs : Lfts 3) (a : ArgsD plan.signature κs) (r q : ResD pla
     → plan_reads.Post κs a r s → plan_reads.Post κs a q o → (r ≡ q) × (s.1.1.1.1.0.now ≡ o.1.1.1.1.0.now)
 plan-decides κs a r q s o p t = both _ _ (sym p.0 ∙ t.0)
   where
-    both : (x y : Planned × List ℕ) → x ≡ y → (x.0 ≡ y.0) × (x.1 ≡ y.1)
-    both x y e = (ap (λ (z : Planned × List ℕ). z.0) e, ap (λ (z : Planned × List ℕ). z.1) e)
+    both : (x y : Result ℕ Refusal × List ℕ) → x ≡ y → (x.0 ≡ y.0) × (x.1 ≡ y.1)
+    both x y e = (ap (λ (z : Result ℕ Refusal × List ℕ). z.0) e, ap (λ (z : Result ℕ Refusal × List ℕ). z.1) e)

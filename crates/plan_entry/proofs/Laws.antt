@@ -1,14 +1,9 @@
 -- The definitions in the form in which a function's proof asks for them: a premise for each fact of the way to a return.
 -- Assumes nothing.
-use mathlib.Core.Path.{◌≡◌, sym, ◌∙◌, ap, ap₂}
-use mathlib.Core.Bool.{Bool, true, false, not, ◌||◌}
-use mathlib.Core.List.{List, map}
-use Prim.Native.Nat.{ℕ, ◌*◌, ◌<◌, ◌≤◌}
-use native.Mathlib.Omega.{arith}
-use lib.Dec.{eqb}
-use lib.ListN.{length, get_or, take, drop, replicate, get_or-map}
-use borrow.Author.Tests.{lt-ltb, le-ltb, not-false}
-use Rattle.proof_lists.specs.Each.{list_all-at, get_d_any}
+use Rattle.std.proofs.Common.{◌≡◌, refl, sym, ◌∙◌, ap, ap₂, ℕ, ◌*◌, ◌<◌, Bool, true, false, ◌||◌, List, map, length, get_or, take, drop, replicate, Result, Err, arith}
+use Rattle.std.proofs.Math.ListN.{get_or-map}
+use borrow.Author.Tests.{lt-ltb, le-ltb}
+use Rattle.proof_lists.specs.Each.{list_all-at}
 use Rattle.proof_lists.specs.Parts.{part-flat}
 use Rattle.rules.specs.declared.Act.TheVariants.{Tick}
 use Rattle.rules.specs.declared.Bus.{Bus}
@@ -16,50 +11,54 @@ use Rattle.rules.specs.declared.Refusal.{Refusal}
 use Rattle.rules.specs.declared.Refusal.TheVariants.{MemoryLength, UnknownKind, WrongSlot, WrongValue, WrongSetup, WrongState, ProtectedPage, Busy, TooShort, WrongForm}
 use Rattle.rules.specs.declared.Slot.{Slot}
 use Rattle.rules.specs.declared.SlotNo.{SlotNo}
-use Rattle.rules.specs.Modelled.{memory_bytes}
+use Rattle.rules.specs.Modelled.{absent, older, memory_bytes, slot_bytes}
 use Rattle.rules.specs.Fresh.{fresh_slot, absent_slot}
 use Rattle.rules.specs.Events.{refusal_number}
-use Rattle.rules.specs.Refusals.{slot_in_range, kinds_of, kind_at, in_range}
+use Rattle.rules.specs.Refusals.{slot_in_range, wrong_length, kinds_of, kind_at, in_range}
 use Rattle.rules.specs.Runs.{Bench, slot_after, part_after}
-use Rattle.plan_rules.specs.declared.Planned.{Planned}
-use Rattle.plan_rules.specs.declared.Planned.TheVariants.{Refused}
 use Rattle.plan_rules.specs.Effect.{SlotTyped}
-use Rattle.plan_rules.specs.Plan.{wrong_lengths, no_such_slot, forbidden, plan_events, plan_of, plan_number, slot_at, bytes_at}
+use Rattle.plan_rules.specs.Plan.{buffer_bytes, wrong_lengths, no_such_slot, forbidden, plan_events, plan_of, plan_number, slot_at, bytes_at}
 use Rattle.plan_rules.proofs.Given.{right-lengths, slot-there}
 use Rattle.plan_rules.proofs.Settled.{settled-slot, settled-part}
 use Rattle.plan_pages.specs.Alone.{alone_of}
 
--- row 3: a number above 7, and a slot by its own kind, 0 or 3; and what its types say of it
-pub missing-above : (k : SlotNo) (b : Bus) → 7 < k.0 → true ≡ no_such_slot k b
+-- row 1: where a length is wrong, and where none is
+pub wrong-lengths : (m image u : List ℕ) → ((length m ≡ memory_bytes) × (length image ≡ slot_bytes) × (length u ≡ buffer_bytes) → ⊥) → wrong_lengths m image u ≡ true
+wrong-lengths m image u h = go (wrong_lengths m image u) refl
+  where
+    go : (t : Bool) → wrong_lengths m image u ≡ t → wrong_lengths m image u ≡ true
+    go true e = e
+    go false e = absurd (h (right-lengths m image u e))
+
+pub good-lengths : (m image u : List ℕ) → length m ≡ memory_bytes → length image ≡ slot_bytes → length u ≡ buffer_bytes → wrong_lengths m image u ≡ false
+unfolding wrong_lengths wrong_length
+good-lengths m image u e f g = rw (e, f, g)
+
+-- row 3: a number above 7, and a slot by its own kind; and what its types say of it
+pub missing-above : (k : SlotNo) (b : Bus) → 7 < k.0 → no_such_slot k b ≡ true
 unfolding no_such_slot
 missing-above k b h = rw (lt-ltb 7 k.0 h)
 
-module _ (k : SlotNo) (b : Bus) (d : Slot) (below : k.0 ≤ 7) (eight : length b.slots ≡ 8) where
-  same-slot : get_or b.slots k.0 d ≡ get_or b.slots k.0 absent_slot
-  same-slot = get_d_any b.slots k.0 d absent_slot (omega arith)
+module _ (k : SlotNo) (b : Bus) (s : Slot) (at : ℕ) (place : at ≡ k.0) (eight : length b.slots ≡ 8) (there : at < length b.slots) (found : s ≡ get_or b.slots at absent_slot) where
+  same-slot : get_or b.slots k.0 absent_slot ≡ s
+  same-slot = ap (λ (i : ℕ). get_or b.slots i absent_slot) (sym place) ∙ sym found
 
-  abbrev unplanned : ℕ → Bool
-  unplanned kind = eqb kind 0 || eqb kind 3
-
-  missing-kind : unplanned (get_or b.slots k.0 d).kind ≡ no_such_slot k b
-  unfolding no_such_slot kind_at kinds_of absent_slot fresh_slot
+  pub missing-kind : (absent s || older s) ≡ no_such_slot k b
+  unfolding no_such_slot kind_at kinds_of absent_slot fresh_slot absent older
   missing-kind =
-      let e : get_or (map (λ (s : Slot). s.kind) b.slots) k.0 0 ≡ (get_or b.slots k.0 absent_slot).kind = get_or-map (λ (s : Slot). s.kind) b.slots k.0 absent_slot in
-      rw (le-ltb 7 k.0 below, e) (ap (λ (s : Slot). unplanned s.kind) same-slot)
+      let e : get_or (map (λ (t : Slot). t.kind) b.slots) k.0 0 ≡ s.kind =
+      get_or-map (λ (t : Slot). t.kind) b.slots k.0 absent_slot ∙ ap (λ (t : Slot). t.kind) same-slot in
+      rw (le-ltb 7 k.0 (omega arith), e)
 
-  pub by_kind : (v : ℕ) → (v ≡ (get_or b.slots k.0 d).kind) × (length (get_or b.slots k.0 d).latch ≡ 16) × (length (get_or b.slots k.0 d).marks ≡ 16)
-      → (unplanned v ≡ no_such_slot k b) × (unplanned v ≡ false → SlotTyped b k)
-  by_kind v h = (
-    ap unplanned h.0 ∙ missing-kind,
-    λ e. record {
-      slots = eight;
-      latch = sym (ap (λ (s : Slot). length s.latch) same-slot) ∙ h.1;
-      marks = sym (ap (λ (s : Slot). length s.marks) same-slot) ∙ h.2;
-    },
-  )
+  pub slot-typed : (length s.latch ≡ 16) × (length s.marks ≡ 16) → SlotTyped b k
+  slot-typed h = record {
+    slots = eight;
+    latch = ap (λ (t : Slot). length t.latch) same-slot ∙ h.0;
+    marks = ap (λ (t : Slot). length t.marks) same-slot ∙ h.1;
+  }
 
 -- a refusal has a number above 0
-pub not-refused : (r : Refusal) (p : Planned) {A : Type 0} → p ≡ Refused r → plan_number p ≡ 0 → A
+pub not-refused : (r : Refusal) (p : Result ℕ Refusal) {A : Type 0} → p ≡ Err r → plan_number p ≡ 0 → A
 unfolding plan_number refusal_number
 not-refused r p e z = absurd (above r (sym (ap plan_number e) ∙ z))
   where
@@ -75,46 +74,38 @@ not-refused r p e z = absurd (above r (sym (ap plan_number e) ∙ z))
     above TooShort h = omega arith
     above WrongForm h = omega arith
 
-pub slot-ranged : (k : SlotNo) (b : Bus) (d : Slot) → no_such_slot k b ≡ false → in_range b ≡ true → slot_in_range (get_or b.slots k.0 d) ≡ true
+pub slot-ranged : (b : Bus) (s : Slot) (at : ℕ) → at < length b.slots → s ≡ get_or b.slots at absent_slot → in_range b ≡ true → slot_in_range s ≡ true
 unfolding in_range
-slot-ranged k b d h r = list_all-at slot_in_range k.0 b.slots d (slot-there k b h) r
-
-pub in-range : (b : Bus) (ranged : Bool) → ranged ≡ in_range b → not ranged ≡ false → in_range b ≡ true
-in-range b ranged e f = sym e ∙ not-false ranged f
+slot-ranged b s at h e r = ap slot_in_range e ∙ list_all-at slot_in_range at b.slots absent_slot h r
 
 -- the entry, row by row
-module _ (b : Bus) (m : List ℕ) (k : SlotNo) (image u : List ℕ) (lengths : Bool) (judged : lengths ≡ wrong_lengths m image u) where
-  pub plan-lengths : lengths ≡ true → plan_of b m k image u ≡ (Refused MemoryLength, u)
+module _ (b : Bus) (m : List ℕ) (k : SlotNo) (image u : List ℕ) where
+  pub plan-lengths : wrong_lengths m image u ≡ true → plan_of b m k image u ≡ (Err MemoryLength, u)
   unfolding plan_of
-  plan-lengths e = rw (← judged, e)
+  plan-lengths e = rw e
 
-  module _ (fit : lengths ≡ false) (ranged : Bool) (tested : ranged ≡ in_range b) where
-    pub plan-state : not ranged ≡ true → plan_of b m k image u ≡ (Refused WrongState, u)
+  module _ (fit : wrong_lengths m image u ≡ false) where
+    pub plan-state : in_range b ≡ false → plan_of b m k image u ≡ (Err WrongState, u)
     unfolding plan_of
-    plan-state e = rw (← judged, fit, ← tested, e)
+    plan-state e = rw (fit, e)
 
-    module _ (usual : not ranged ≡ false) (missing : Bool) (looked : missing ≡ no_such_slot k b) where
-      pub plan-slot : missing ≡ true → plan_of b m k image u ≡ (Refused WrongSlot, u)
+    module _ (usual : in_range b ≡ true) where
+      pub plan-slot : no_such_slot k b ≡ true → plan_of b m k image u ≡ (Err WrongSlot, u)
       unfolding plan_of
-      plan-slot e = rw (← judged, fit, ← tested, usual, ← looked, e)
+      plan-slot e = rw (fit, usual, e)
 
-      pub plan-alone : missing ≡ false → (d : Slot) (part : List ℕ) (z : Planned × List ℕ) → part ≡ bytes_at k.0 (record { bus = b; memory = m })
-          → alone_of (slot_after 0 (replicate 5 Tick) (get_or b.slots k.0 d)) k.0 (part_after 0 (replicate 5 Tick) (get_or b.slots k.0 d) part) image u ≡ z
+      pub plan-alone : (s : Slot) (part wanted : List ℕ) (z : Result ℕ Refusal × List ℕ) → no_such_slot k b ≡ false → s ≡ get_or b.slots k.0 absent_slot
+          → part ≡ take 512 (drop (512 * k.0) m) → wanted ≡ image
+          → alone_of (slot_after 0 (replicate 5 Tick) s) k.0 (part_after 0 (replicate 5 Tick) s part) wanted u ≡ z
           → plan_of b m k image u ≡ z
-      unfolding plan_of forbidden plan_events alone_of slot_at
-      plan-alone e d part z f g =
+      unfolding plan_of forbidden plan_events alone_of slot_at bytes_at
+      plan-alone s part wanted z e i f w g =
           let x : Bench = record { bus = b; memory = m } in
-          let below : k.0 < length b.slots = slot-there k b (sym looked ∙ e) in
-          let long : length m ≡ memory_bytes = (right-lengths m image u (sym judged ∙ fit)).0 in
-          let good : in_range b ≡ true = in-range b ranged tested usual in
-          let s : get_or b.slots k.0 d ≡ slot_at k.0 x = get_d_any b.slots k.0 d absent_slot below in
-          rw (← judged, fit, ← tested, usual, ← looked, e)
+          let below : k.0 < length b.slots = slot-there k b e in
+          let long : length m ≡ memory_bytes = (right-lengths m image u fit).0 in
+          let p : part ≡ bytes_at k.0 x = f ∙ sym (part-flat 512 k.0 m) in
+          rw (fit, usual, e)
           (ap₂ (λ (t : Slot) (o : List ℕ). alone_of t k.0 o image u)
-          (settled-slot k.0 x long good below ∙ ap (slot_after 0 (replicate 5 Tick)) (sym s))
-          (settled-part k.0 x long good below ∙ ap₂ (part_after 0 (replicate 5 Tick)) (sym s) (sym f))
-          ∙ g)
-
--- a slot's bytes as the code cuts them out
-pub slot-cut : (k w : ℕ) (b : Bus) (m : List ℕ) → w ≡ 512 → take w (drop (512 * k) m) ≡ bytes_at k (record { bus = b; memory = m })
-unfolding bytes_at
-slot-cut k w b m e = ap (λ (n : ℕ). take n (drop (512 * k) m)) e ∙ sym (part-flat 512 k m)
+          (settled-slot k.0 x long usual below ∙ ap (slot_after 0 (replicate 5 Tick)) (sym i))
+          (settled-part k.0 x long usual below ∙ ap₂ (part_after 0 (replicate 5 Tick)) (sym i) (sym p))
+          ∙ ap (λ (l : List ℕ). alone_of (slot_after 0 (replicate 5 Tick) s) k.0 (part_after 0 (replicate 5 Tick) s part) l u) (sym w) ∙ g)

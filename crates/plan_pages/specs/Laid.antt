@@ -1,14 +1,28 @@
--- Events laid as records from a place on: the number of records after them, and the buffer.
+-- Events laid as records at the front of a buffer, behind those that stand there.
 -- Assumes nothing.
 use Rattle.std.specs.Prelude.{ℕ, ◌+◌, ◌*◌, List, ◌∷◌, ◌++◌, [], map, length}
+use Rattle.std.specs.Borrow.{MutBor}
 use Rattle.std.proofs.lemmas.List.Edits.{sets}
 use Rattle.rules.specs.declared.Event.{Event}
 use Rattle.plan_rules.specs.Records.{records_of}
-use Rattle.plan_rules.specs.Plan.{start, byte, stop}
+use Rattle.plan_rules.specs.Plan.{start, byte, stop, tick}
+use Rattle.plan_pages.specs.declared.records.Plan.{Plan}
+use Rattle.plan_pages.specs.declared.records.Step.{Step}
+use Rattle.plan_pages.specs.declared.records.Step.TheVariants.{Start, Byte, Stop, Tick}
 
--- behind n records
-unfoldable pub laid_at : ℕ → List Event → List ℕ → ℕ × List ℕ
-laid_at n es buffer = (n + length es, sets buffer (4 * n) (records_of es))
+-- a step as the event that it is
+unfoldable pub event_of : Step → Event
+event_of Start = start
+event_of (Byte b) = byte b
+event_of Stop = stop
+event_of Tick = tick
+
+-- a plan of no records, over a buffer; and with events laid behind its records
+abbrev pub plan_over : MutBor (List ℕ) → Plan
+plan_over b = record { buffer = b; count = 0 }
+
+abbrev pub with_laid : List Event → Plan → Plan
+with_laid es p = record { buffer = record p.buffer { now = sets p.buffer.now (4 * p.count) (records_of es) }; count = p.count + length es }
 
 -- an exchange: start, control byte, the bytes behind it, stop
 unfoldable pub exchanging : ℕ → List ℕ → List Event

@@ -1,12 +1,11 @@
 -- The plan program's output: "the number of records on a line, then each record as eight hex digits in capitals on a line; or `R3`, `R5`, `R7`
 -- alone".
 -- Assumes nothing.
-use Rattle.std.specs.Prelude.{ℕ, zero, suc, ◌+◌, ◌*◌, ◌/◌, ◌%◌, List, [], ◌∷◌, ◌++◌, get_or}
+use Rattle.std.specs.Prelude.{ℕ, zero, suc, ◌+◌, ◌*◌, ◌/◌, ◌%◌, List, [], ◌∷◌, ◌++◌, get_or, Result, Ok, Err}
 use Rattle.rules.specs.declared.Answer.TheVariants.{Refused}
 use Rattle.script_text.specs.Decimal.{decimal}
 use Rattle.script_text.specs.Letters.{hex_digit, line_of}
-use Rattle.plan_rules.specs.declared.Planned.{Planned}
-use Rattle.plan_rules.specs.declared.Planned.TheVariants.{Records, Refused as NotPlanned}
+use Rattle.rules.specs.declared.Refusal.{Refusal}
 
 -- "the number of records on a line"
 unfoldable pub count_line : ℕ → List ℕ
@@ -25,6 +24,6 @@ record_lines bs zero = []
 record_lines bs (suc n) = record_lines bs n ++ record_line bs (4 * n)
 
 -- what is written for what the planner gives, with the records at the front of its buffer
-unfoldable pub text_of : Planned → List ℕ → List ℕ
-text_of (Records n) buffer = count_line n ++ record_lines buffer n
-text_of (NotPlanned r) buffer = line_of (Refused r)
+unfoldable pub text_of : Result ℕ Refusal → List ℕ → List ℕ
+text_of (Ok n) buffer = count_line n ++ record_lines buffer n
+text_of (Err r) buffer = line_of (Refused r)

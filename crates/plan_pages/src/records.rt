@@ -1,65 +1,95 @@
-// Events laid as script records into a lent buffer. Each function is told how many records stand at its front, lays its own behind them, and
-// gives back how many stand there then. The `requires` are about the room.
+// A plan's events laid as script records at the front of a lent buffer. The `requires` are about the room.
 ghost use Rattle.std.specs.Prelude.{◌≡◌, [], ◌∷◌, map, ◌+◌, ◌*◌, ◌≤◌, length};
-ghost use Rattle.plan_rules.specs.Plan.{event, byte, ticks, selecting};
-ghost use Rattle.plan_pages.specs.Laid.{laid_at, exchanging};
+ghost use Rattle.plan_rules.specs.Plan.{byte, ticks, selecting};
+ghost use Rattle.plan_rules.specs.Records.{record_of};
+ghost use Rattle.plan_pages.specs.Laid.{event_of, plan_over, with_laid, exchanging};
 
-// One event: its slot is 0, and its value one byte.
-fn put(buffer: &mut [u8], n: usize, kind: u8, value: u8) -> usize
-    requires { 4 * n + 4 ≤ length buffer.old }
-    ensures { laid_at n (event kind value ∷ []) buffer.old ≡ (result, buffer.new) }
-{
-    let at = 4 * n;
-    buffer[at] = kind;
-    buffer[at + 1] = 0;
-    buffer[at + 2] = 0;
-    buffer[at + 3] = value;
-    n + 1
+// The events that a plan is made of. What each is as a script's event: specs/Laid.
+#[derive(Clone, Copy)]
+pub enum Step {
+    Start,
+    Byte(u8),
+    Stop,
+    Tick,
 }
 
-// So many ticks.
-pub fn ticks(buffer: &mut [u8], n: usize, count: u8) -> usize
-    requires { 4 * (n + count) ≤ length buffer.old }
-    ensures { laid_at n (ticks count) buffer.old ≡ (result, buffer.new) }
-{
-    let mut end = n;
-    for _ in 0..count {
-        end = put(buffer, end, 6, 0);
+impl Step {
+    // As a record: kind, slot and value. The slot is 0, and the value one byte.
+    fn record(self) -> [u8; 4]
+        ensures { result ≡ record_of (event_of self) }
+    {
+        match self {
+            Step::Start => [1, 0, 0, 0],
+            Step::Byte(b) => [2, 0, 0, b],
+            Step::Stop => [4, 0, 0, 0],
+            Step::Tick => [6, 0, 0, 0],
+        }
     }
-    end
 }
 
-// Bytes from the master.
-fn bytes(buffer: &mut [u8], n: usize, sent: &[u8]) -> usize
-    requires { 4 * (n + length sent.now) ≤ length buffer.old }
-    ensures { laid_at n (map byte sent.now) buffer.old ≡ (result, buffer.new) }
-{
-    let mut end = n;
-    for i in 0..sent.len() {
-        end = put(buffer, end, 2, sent[i]);
+// A plan as far as it is laid: the buffer, and how many records stand at its front.
+#[derive(Drop)]
+pub struct Plan<'a> {
+    pub buffer: &'a mut [u8],
+    pub count: usize,
+}
+
+impl<'a> Plan<'a> {
+    // None yet.
+    pub fn new(buffer: &'a mut [u8]) -> Plan<'a>
+        ensures { result ≡ plan_over buffer.entry }
+    {
+        Plan { buffer, count: 0 }
     }
-    end
-}
 
-// A whole exchange: start, control byte, the bytes behind it, stop.
-pub fn exchange(buffer: &mut [u8], n: usize, control: u8, sent: &[u8]) -> usize
-    requires { 4 * (n + length sent.now + 3) ≤ length buffer.old }
-    ensures { laid_at n (exchanging control sent.now) buffer.old ≡ (result, buffer.new) }
-{
-    let first = put(buffer, n, 1, 0);
-    let second = put(buffer, first, 2, control);
-    let last = bytes(buffer, second, sent);
-    put(buffer, last, 4, 0)
-}
-
-// Half 0 or 1 is selected, by a control byte with nothing behind it; where it stands already, nothing is laid.
-pub fn selecting(buffer: &mut [u8], n: usize, stands: u8, half: u8) -> usize
-    requires { (half ≤ 1) × (4 * (n + 3) ≤ length buffer.old) }
-    ensures { laid_at n (selecting stands half) buffer.old ≡ (result, buffer.new) }
-{
-    if half == stands {
-        return n;
+    // One event.
+    fn put(&mut self, step: Step)
+        requires { 4 * self.old.count + 4 ≤ length self.old.buffer.now }
+        ensures { self.new ≡ with_laid (event_of step ∷ []) self.old }
+    {
+        let at = 4 * self.count;
+        self.buffer[at..at + 4].copy_from_slice(&step.record());
+        self.count += 1;
     }
-    let none = [0u8; 0];
-    exchange(buffer, n, 0x6C + 2 * half, &none)
+
+    // So many ticks.
+    pub fn ticks(&mut self, count: u8)
+        requires { 4 * (self.old.count + count) ≤ length self.old.buffer.now }
+        ensures { self.new ≡ with_laid (ticks count) self.old }
+    {
+        for _ in 0..count {
+            self.put(Step::Tick);
+        }
+    }
+
+    // Bytes from the master.
+    fn bytes(&mut self, sent: &[u8])
+        requires { 4 * (self.old.count + length sent.now) ≤ length self.old.buffer.now }
+        ensures { self.new ≡ with_laid (map byte sent.now) self.old }
+    {
+        for b in sent {
+            self.put(Step::Byte(*b));
+        }
+    }
+
+    // A whole exchange: start, control byte, the bytes behind it, stop.
+    pub fn exchange(&mut self, control: u8, sent: &[u8])
+        requires { 4 * (self.old.count + length sent.now + 3) ≤ length self.old.buffer.now }
+        ensures { self.new ≡ with_laid (exchanging control sent.now) self.old }
+    {
+        self.put(Step::Start);
+        self.put(Step::Byte(control));
+        self.bytes(sent);
+        self.put(Step::Stop);
+    }
+
+    // Half 0 or 1 is selected, by a control byte with nothing behind it; where it stands already, nothing is laid.
+    pub fn selecting(&mut self, stands: u8, half: u8)
+        requires { (half ≤ 1) × (4 * (self.old.count + 3) ≤ length self.old.buffer.now) }
+        ensures { self.new ≡ with_laid (selecting stands half) self.old }
+    {
+        if half != stands {
+            self.exchange(0x6C + 2 * half, &[]);
+        }
+    }
 }

@@ -3,41 +3,21 @@
 ghost use Rattle.std.specs.Prelude.{◌≡◌, ◌+◌, ◌*◌, ◌≤◌, ◌<◌, length};
 ghost use Rattle.std.proofs.lemmas.List.Edits.{sets};
 ghost use Rattle.plan_rules.specs.Plan.{plan_value};
-ghost use Rattle.plan_rules.specs.declared.Planned.TheVariants.{Records};
-ghost use Rattle.plan_pages.specs.Listing.{count_line, hex_byte, record_line, record_lines, text_of};
+ghost use Rattle.plan_pages.specs.Listing.{record_line, record_lines, text_of};
 
-use plan_rules::Planned;
-use rules::Answer;
+use rules::{Answer, Refusal};
+use script_text::letters::{hex_digit, put, put_decimal, put_line};
 
-// The number of records as a line, put at the beginning; the place after it.
-fn put_count(out: &mut [u8], n: usize) -> usize
-    requires { length (count_line n) ≤ length out.old }
-    ensures { (result ≡ length (count_line n)) × (out.new ≡ sets out.old 0 (count_line n)) }
+// A record's line, put at a place; the place after it.
+fn put_record(out: &mut [u8], at: usize, record: &[u8; 4]) -> usize
+    requires { at + 9 ≤ length out.old }
+    ensures { (result ≡ at + 9) × (out.new ≡ sets out.old at (record_line record.now 0)) }
 {
-    let end = script_text::letters::put_decimal(out, 0, n);
-    script_text::letters::put_one(out, end, b'\n')
-}
-
-// A byte as two hexadecimal digits, put at a place.
-fn put_byte(out: &mut [u8], at: usize, b: u8)
-    requires { at + 2 ≤ length out.old }
-    ensures { out.new ≡ sets out.old at (hex_byte b) }
-{
-    out[at] = script_text::letters::hex_digit(b / 16);
-    out[at + 1] = script_text::letters::hex_digit(b % 16);
-}
-
-// The line of the record that begins at `from`, put at a place; the place after it.
-fn put_record(out: &mut [u8], at: usize, records: &[u8], from: usize) -> usize
-    requires { (at + 9 ≤ length out.old) × (from + 4 ≤ length records.now) }
-    ensures { (result ≡ at + 9) × (out.new ≡ sets out.old at (record_line records.now from)) }
-{
-    put_byte(out, at, records[from]);
-    put_byte(out, at + 2, records[from + 1]);
-    put_byte(out, at + 4, records[from + 2]);
-    put_byte(out, at + 6, records[from + 3]);
-    out[at + 8] = b'\n';
-    at + 9
+    let mut end = at;
+    for b in record {
+        end = put(out, end, &[hex_digit(b / 16), hex_digit(b % 16)]);
+    }
+    put(out, end, b"\n")
 }
 
 // The lines of the first records of a buffer, put at a place; the place after them.
@@ -46,31 +26,26 @@ fn put_records(out: &mut [u8], at: usize, records: &[u8], count: usize) -> usize
     ensures { (result ≡ at + length (record_lines records.now count))
         × (out.new ≡ sets out.old at (record_lines records.now count)) }
 {
+    let (whole, _) = records.as_chunks::<4>();
     let mut end = at;
-    for i in 0..count {
-        end = put_record(out, end, records, 4 * i);
+    for r in &whole[..count] {
+        end = put_record(out, end, r);
     }
     end
 }
 
-// A plan: the number of its records, and their lines; the place after them.
-fn put_counted(out: &mut [u8], records: &[u8], count: usize) -> usize
-    requires { (count < 10000) × (5 + 9 * count ≤ length out.old) × (4 * count ≤ length records.now) }
-    ensures { (result ≡ length (text_of (Records count) records.now))
-        × (out.new ≡ sets out.old 0 (text_of (Records count) records.now)) }
-{
-    let at = put_count(out, count);
-    put_records(out, at, records, count)
-}
-
 // What the planner gave, with the records that it put at the front of its buffer, as it is written; the place after it.
-pub fn put_plan(out: &mut [u8], p: Planned, records: &[u8]) -> usize
+pub fn put_plan(out: &mut [u8], p: Result<usize, Refusal>, records: &[u8]) -> usize
     requires { (plan_value p < 10000) × (5 + 9 * plan_value p ≤ length out.old) × (4 * plan_value p ≤ length records.now) }
     ensures { (result ≡ length (text_of p records.now))
         × (out.new ≡ sets out.old 0 (text_of p records.now)) }
 {
     match p {
-        Planned::Records(n) => put_counted(out, records, n),
-        Planned::Refused(r) => script_text::letters::put_line(out, 0, Answer::Refused(r)),
+        Ok(n) => {
+            let number = put_decimal(out, 0, n);
+            let lines = put(out, number, b"\n");
+            put_records(out, lines, records, n)
+        }
+        Err(r) => put_line(out, 0, Answer::Refused(r)),
     }
 }

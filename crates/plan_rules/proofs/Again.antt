@@ -5,6 +5,7 @@ use mathlib.Core.Path.{◌≡◌, refl, ◌∙◌, ap}
 use mathlib.Core.Bool.{true, false, not}
 use mathlib.Core.List.{List, [], ◌++◌, append-nil}
 use lib.ListN.{length}
+use Rattle.std.proofs.lemmas.Slice.Eq.{bytes_eq-Decides}
 use Rattle.rules.specs.declared.Slot.{Slot}
 use Rattle.rules.specs.Modelled.{memory_bytes}
 use Rattle.rules.specs.Refusals.{in_range}
@@ -15,7 +16,6 @@ use Rattle.rules.proofs.Range.Kept.{after-in-range}
 use Rattle.plan_rules.specs.Plan.{five, five_ticks, settled, slot_at, bytes_at, page_at, page_count, differs, barred, barred_before, pages_before, plan_events, forbidden}
 use Rattle.plan_rules.proofs.Settled.{settled-part}
 use Rattle.plan_rules.proofs.Others.{ticks-passed}
-use Rattle.plan_rules.proofs.Pages.{equal-same}
 use Rattle.plan_rules.proofs.Carried.{Asked, there}
 use Rattle.plan_rules.proofs.Right.{done, is_right}
 
@@ -23,7 +23,7 @@ use Rattle.plan_rules.proofs.Right.{done, is_right}
 module _ (image : List ℕ) (s : Slot) (k : ℕ) where
   differs_none : (p : ℕ) → differs image image p ≡ false
   unfolding differs
-  differs_none p = ap not (equal-same (page_at p image))
+  differs_none p = ap not ((bytes_eq-Decides (page_at p image) (page_at p image)).1 refl)
 
   pages-none : (p : ℕ) → pages_before image image s k p ≡ []
   unfolding pages_before

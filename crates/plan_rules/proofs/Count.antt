@@ -1,5 +1,6 @@
 -- Request P1, theorem 4: "At most 811 records, their number returned": the number of a plan's records, and an instance that reaches the most.
 -- Assumes nothing.
+use Rattle.std.proofs.Common.{Ok}
 use Prim.Native.Nat.{ℕ, zero, suc, ◌+◌, ◌*◌, ◌<◌, ◌≤◌}
 use native.Mathlib.Omega.{arith}
 use native.Mathlib.Nat.{mul-add, mul-le-mul}
@@ -20,9 +21,8 @@ use Rattle.rules.specs.Control.{protects}
 use Rattle.rules.specs.Refusals.{in_range}
 use Rattle.rules.specs.Runs.{Bench}
 use Rattle.rules.proofs.Range.Kept.{facts}
-use Rattle.plan_rules.specs.Plan.{five, ticks, five_ticks, settled, slot_at, bytes_at, page_at, page_count, page_half, page_counter, selecting, writing, same, differs, half_before, page_events, pages_before, plan_events, page_block, barred, barred_before, buffer_bytes, wrong_lengths, no_such_slot, forbidden, planned, plan_of}
+use Rattle.plan_rules.specs.Plan.{five, ticks, five_ticks, settled, slot_at, bytes_at, page_at, page_count, page_half, page_counter, selecting, writing, differs, half_before, page_events, pages_before, plan_events, page_block, barred, barred_before, buffer_bytes, wrong_lengths, no_such_slot, forbidden, planned, plan_of}
 use Rattle.plan_rules.specs.Plan as Plan
-use Rattle.plan_rules.specs.declared.Planned.TheVariants.{Records}
 use Rattle.plan_rules.specs.Effect.{differing, selections_before}
 use Rattle.plan_rules.proofs.Settled.{short-cycle, settled-sound, slot-ranged, settled-number, settled-length, settled-slot, settled-part}
 use Rattle.plan_rules.proofs.Others.{ticks-passed}
@@ -173,7 +173,7 @@ pub full-plan : length (plan_events 0 full_bench full_image) ≡ 811
 unfolding plan_events
 full-plan =
     ap₂ (λ (m : List ℕ) (s : Slot). length (five_ticks ++ pages_before m full_image s 0 page_count)) full-bytes full-slot
-    ∙ unfold five_ticks ticks slot_at bytes_at page_at part page_half page_counter selecting writing same differs half_before page_events pages_before in_half fresh_slot in refl
+    ∙ unfold five_ticks ticks slot_at bytes_at page_at part page_half page_counter selecting writing differs half_before page_events pages_before in_half fresh_slot in refl
 
 -- the planner gives it
 full-lengths : wrong_lengths full_bench.memory full_image (replicate buffer_bytes 0x00) ≡ false
@@ -188,8 +188,8 @@ full-free : forbidden 0 full_bench full_image ≡ false
 unfolding forbidden
 full-free =
     ap₂ (λ (m : List ℕ) (s : Slot). barred_before m full_image s page_count) full-bytes full-slot
-    ∙ unfold slot_at bytes_at page_at part page_block protects same differs barred barred_before in_half fresh_slot in refl
+    ∙ unfold slot_at bytes_at page_at part page_block protects differs barred barred_before in_half fresh_slot in refl
 
-pub full-planned : (plan_of full_bench.bus full_bench.memory (record { 0 = 0 }) full_image (replicate buffer_bytes 0x00)).0 ≡ Records 811
+pub full-planned : (plan_of full_bench.bus full_bench.memory (record { 0 = 0 }) full_image (replicate buffer_bytes 0x00)).0 ≡ Ok 811
 unfolding plan_of planned
-full-planned = rw (full-lengths, full-ranged, full-there, full-free) (ap Records full-plan)
+full-planned = rw (full-lengths, full-ranged, full-there, full-free) (ap Ok full-plan)

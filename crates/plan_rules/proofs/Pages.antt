@@ -9,24 +9,12 @@ use lib.Dec.{eqb, ltb}
 use lib.ListN.{length, get_or}
 use lib.Seq.{ext_get_or}
 use borrow.Author.Tests.{eqb-true, eqb-false, eq-eqb, ltb-true, ltb-false, lt-ltb, le-ltb, not-false}
+use Rattle.std.proofs.lemmas.Slice.Eq.{bytes_eq-Decides}
 use Rattle.proof_lists.specs.Tests.{by-test, cond_cases, and_left, and_right}
 use Rattle.proof_lists.specs.Parts.{length_part, get_d_part, parts-ext}
 use Rattle.rules.proofs.Memory.Stored.{length-put_up_to, put-elsewhere, put-here}
 use Rattle.plan_rules.proofs.Page.{page_put}
 use Rattle.plan_rules.specs.Plan.{page_at, page_count, same, differs}
-
--- bytes that are the same
-pub same-equal : (a b : List ℕ) → same a b ≡ true → a ≡ b
-unfolding same
-same-equal [] [] e = refl
-same-equal [] (y ∷ b) e = absurd (false≢true e)
-same-equal (x ∷ a) [] e = absurd (false≢true e)
-same-equal (x ∷ a) (y ∷ b) e = ap₂ ◌∷◌ (eqb-true x y (and_left (eqb x y) (same a b) e)) (same-equal a b (and_right (eqb x y) (same a b) e))
-
-pub equal-same : (a : List ℕ) → same a a ≡ true
-unfolding same
-equal-same [] = refl
-equal-same (x ∷ a) = rw (eq-eqb x x refl) (equal-same a)
 
 -- a page of 512 bytes has sixteen
 pub page-length : (q : ℕ) (m : List ℕ) → length m ≡ 512 → q < 32 → length (page_at q m) ≡ 16
@@ -77,7 +65,7 @@ module _ (old image : List ℕ) where
     -- a page that does not differ
     alike : (p : ℕ) → differs old image p ≡ false → page_at p old ≡ page_at p image
     unfolding differs
-    alike p d = same-equal (page_at p old) (page_at p image) (not-false (same (page_at p old) (page_at p image)) d)
+    alike p d = (bytes_eq-Decides (page_at p old) (page_at p image)).0 (not-false (same (page_at p old) (page_at p image)) d)
 
     -- the pages done are the image's, and the others are as they were
     pub pages-done : (p q : ℕ) → p ≤ 32 → q < 32 → page_at q (bytes_before p) ≡ cond (ltb q p) (page_at q image) (page_at q old)

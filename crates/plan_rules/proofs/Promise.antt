@@ -1,5 +1,6 @@
 -- Request P1, put together: what the planner gives for every input, row by row; and what whoever runs the records that it gives has.
 -- Assumes nothing.
+use Rattle.std.proofs.Common.{Result, Ok, Err}
 use Prim.Native.Nat.{ℕ, ◌+◌, ◌*◌, ◌<◌, ◌≤◌}
 use native.Mathlib.Omega.{arith}
 use mathlib.Core.Path.{◌≡◌, refl, sym, ◌∙◌, ap, ap₂}
@@ -21,8 +22,6 @@ use Rattle.rules.proofs.Memory.Protection.{kinds-after}
 use Rattle.rules.proofs.Memory.Stored.{memory-length-after}
 use Rattle.rules.proofs.Range.Kept.{after-in-range}
 use Rattle.rules.proofs.Range.Judged.{refusal_of, numbered}
-use Rattle.plan_rules.specs.declared.Planned.{Planned}
-use Rattle.plan_rules.specs.declared.Planned.TheVariants.{Records, Refused}
 use Rattle.plan_rules.specs.Records.{laid, events_in}
 use Rattle.plan_rules.specs.Plan.{five_ticks, settled, slot_at, bytes_at, page_count, buffer_bytes, wrong_lengths, no_such_slot, forbidden, plan_events, planned, plan_of, plan_number, plan_value}
 use Rattle.plan_rules.specs.Effect.{Typed, differing, selections_before}
@@ -42,14 +41,14 @@ module _ (b : Bus) (m : List ℕ) (k : SlotNo) (image buffer : List ℕ) where
   plan = plan_events k.0 bench image
 
   -- "Order 1, 6, 3, 7; a refusal leaves the buffer unchanged": each row by its number, with those before it in the order not met
-  pub data Verdict : Planned × List ℕ → Type 0 where
-    row-1 : {r : Refusal} → refusal_number r ≡ 1 → wrong_lengths m image buffer ≡ true → Verdict (Refused r, buffer)
-    row-6 : {r : Refusal} → refusal_number r ≡ 6 → wrong_lengths m image buffer ≡ false → in_range b ≡ false → Verdict (Refused r, buffer)
-    row-3 : {r : Refusal} → refusal_number r ≡ 3 → wrong_lengths m image buffer ≡ false → in_range b ≡ true → no_such_slot k b ≡ true → Verdict (Refused r, buffer)
+  pub data Verdict : Result ℕ Refusal × List ℕ → Type 0 where
+    row-1 : {r : Refusal} → refusal_number r ≡ 1 → wrong_lengths m image buffer ≡ true → Verdict (Err r, buffer)
+    row-6 : {r : Refusal} → refusal_number r ≡ 6 → wrong_lengths m image buffer ≡ false → in_range b ≡ false → Verdict (Err r, buffer)
+    row-3 : {r : Refusal} → refusal_number r ≡ 3 → wrong_lengths m image buffer ≡ false → in_range b ≡ true → no_such_slot k b ≡ true → Verdict (Err r, buffer)
     row-7 : {r : Refusal} → refusal_number r ≡ 7
-        → wrong_lengths m image buffer ≡ false → in_range b ≡ true → no_such_slot k b ≡ false → forbidden k.0 bench image ≡ true → Verdict (Refused r, buffer)
+        → wrong_lengths m image buffer ≡ false → in_range b ≡ true → no_such_slot k b ≡ false → forbidden k.0 bench image ≡ true → Verdict (Err r, buffer)
     no_row : wrong_lengths m image buffer ≡ false → in_range b ≡ true → no_such_slot k b ≡ false → forbidden k.0 bench image ≡ false
-        → Verdict (Records (length plan), laid plan buffer)
+        → Verdict (Ok (length plan), laid plan buffer)
 
   pub judged : Verdict (plan_of b m k image buffer)
   unfolding plan_of planned refusal_number
@@ -60,13 +59,13 @@ module _ (b : Bus) (m : List ℕ) (k : SlotNo) (image buffer : List ℕ) where
       cond_cases Verdict (forbidden k.0 bench image) (λ f. row-7 refl h (not-false (in_range b) i) j f) (λ f. no_row h (not-false (in_range b) i) j f)
 
   -- and no other result meets a row
-  abbrev refusing : Refusal → Planned × List ℕ
-  refusing r = (Refused r, buffer)
+  abbrev refusing : Refusal → Result ℕ Refusal × List ℕ
+  refusing r = (Err r, buffer)
 
   by_number : (r : Refusal) (n : ℕ) → refusal_number r ≡ n → refusing r ≡ refusing (refusal_of n)
   by_number r n e = ap refusing (sym (numbered r) ∙ ap refusal_of e)
 
-  pub only-verdict : (v : Planned × List ℕ) → Verdict v → v ≡ plan_of b m k image buffer
+  pub only-verdict : (v : Result ℕ Refusal × List ℕ) → Verdict v → v ≡ plan_of b m k image buffer
   unfolding plan_of planned
   only-verdict v (row-1 {r} n h) = by_number r 1 n ∙ rw h
   only-verdict v (row-6 {r} n h i) = by_number r 6 n ∙ rw (h, i)
@@ -78,7 +77,7 @@ module _ (b : Bus) (m : List ℕ) (k : SlotNo) (image buffer : List ℕ) where
   pub at_most : plan_value (plan_of b m k image buffer).0 ≤ 811
   at_most = few (plan_of b m k image buffer) judged
     where
-      few : (v : Planned × List ℕ) → Verdict v → plan_value v.0 ≤ 811
+      few : (v : Result ℕ Refusal × List ℕ) → Verdict v → plan_value v.0 ≤ 811
       few v (row-1 q h) = unfold plan_value in omega arith
       few v (row-6 q h i) = unfold plan_value in omega arith
       few v (row-3 q h i j) = unfold plan_value in omega arith
@@ -114,7 +113,7 @@ module _ (b : Bus) (m : List ℕ) (k : SlotNo) (image buffer : List ℕ) where
   refused : (r : Refusal) {c : ℕ} → refusal_number r ≡ c → 0 < c → refusal_number r ≡ 0 → ⊥
   refused r q l z = omega arith
 
-  given-records : (n : ℕ) (v : Planned × List ℕ) → Verdict v → v.0 ≡ Records n
+  given-records : (n : ℕ) (v : Result ℕ Refusal × List ℕ) → Verdict v → v.0 ≡ Ok n
       → (wrong_lengths m image buffer ≡ false) × (in_range b ≡ true) × (no_such_slot k b ≡ false) × (forbidden k.0 bench image ≡ false) × (n ≡ length plan) × (v.1 ≡ laid plan buffer)
   unfolding plan_number plan_value
   given-records n v (row-1 {r} q h) e = absurd (refused r q (omega arith) (ap plan_number e))
@@ -123,7 +122,7 @@ module _ (b : Bus) (m : List ℕ) (k : SlotNo) (image buffer : List ℕ) where
   given-records n v (row-7 {r} q h i j f) e = absurd (refused r q (omega arith) (ap plan_number e))
   given-records n v (no_row h i j f) e = (h, i, j, f, sym (ap plan_value e), refl)
 
-  pub promised : (n : ℕ) → Typed b k image → (plan_of b m k image buffer).0 ≡ Records n → Promised n (plan_of b m k image buffer).1
+  pub promised : (n : ℕ) → Typed b k image → (plan_of b m k image buffer).0 ≡ Ok n → Promised n (plan_of b m k image buffer).1
   promised n typed e =
       let g = given-records n (plan_of b m k image buffer) judged e in
       let sizes = right-lengths m image buffer g.0 in
@@ -157,7 +156,7 @@ module _ (b : Bus) (m : List ℕ) (k : SlotNo) (image buffer : List ℕ) where
       }
 
   -- asked again after the run, with any buffer, the planner gives the five ticks
-  module _ (n : ℕ) (typed : Typed b k image) (e : (plan_of b m k image buffer).0 ≡ Records n) where
+  module _ (n : ℕ) (typed : Typed b k image) (e : (plan_of b m k image buffer).0 ≡ Ok n) where
     abbrev then : Bench
     then = done k.0 bench image
 

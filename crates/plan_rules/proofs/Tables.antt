@@ -1,6 +1,7 @@
 -- Request P1's rows, computed: each length with those one byte off it, each slot number with the first past the eight, each block with the ends of all; where
 -- the pages lie; the rows in their order; what is judged after the five ticks; and records as bytes.
 -- Assumes nothing.
+use Rattle.std.proofs.Common.{Result}
 use Prim.Native.Nat.{ℕ}
 use mathlib.Core.Path.{◌≡◌, refl}
 use mathlib.Core.Bool.{Bool, true, false}
@@ -11,6 +12,7 @@ use Rattle.rules.specs.declared.Act.{Act}
 use Rattle.rules.specs.declared.Act.TheVariants.{Start, Byte, Stop, Tick}
 use Rattle.rules.specs.declared.Bus.{Bus}
 use Rattle.rules.specs.declared.Event.{Event}
+use Rattle.rules.specs.declared.Refusal.{Refusal}
 use Rattle.rules.specs.declared.Slot.{Slot}
 use Rattle.rules.specs.declared.SlotNo.{SlotNo}
 use Rattle.rules.specs.Open.{open-all}
@@ -19,7 +21,6 @@ use Rattle.rules.specs.Events.{refusal_number}
 use Rattle.rules.specs.Fresh.{no_bytes, no_marks, no_blocks, fresh_slot, absent_slot}
 use Rattle.rules.specs.Runs.{Bench, after, slot_after}
 use Rattle.script_text.specs.Records.{value_at, record_at}
-use Rattle.plan_rules.specs.declared.Planned.{Planned}
 use Rattle.plan_rules.specs.Records as Records
 use Rattle.plan_rules.specs.Records.{records_of, events_in}
 use Rattle.plan_rules.specs.Plan as Plan
@@ -27,7 +28,7 @@ use Rattle.plan_rules.specs.Plan.{page_count, page_half, page_block, page_counte
 
 -- a plan for known values computes
 unfoldable pub open-plan : Unit {0}
-unfolding Plan.ticks Plan.five_ticks Plan.settled Plan.slot_at Plan.bytes_at Plan.page_at Plan.page_half Plan.page_block Plan.page_counter Plan.selecting Plan.writing Plan.same Plan.differs
+unfolding Plan.ticks Plan.five_ticks Plan.settled Plan.slot_at Plan.bytes_at Plan.page_at Plan.page_half Plan.page_block Plan.page_counter Plan.selecting Plan.writing Plan.differs
     Plan.barred Plan.barred_before Plan.half_before Plan.page_events Plan.pages_before Plan.plan_events Plan.wrong_lengths Plan.no_such_slot Plan.forbidden Plan.planned Plan.plan_of Plan.plan_number
     Plan.plan_value Records.word_of Records.record_of Records.records_of Records.laid Records.events_in record_at value_at refusal_number open-all
 open-plan = tt
@@ -93,7 +94,7 @@ row-7 = refl
 
 -- what is given, by its number and value, for slot k, an image and a buffer of n bytes
 abbrev given : Bench → ℕ → List ℕ → ℕ → ℕ × ℕ
-given x k image n = let v : Planned = (plan_of x.bus x.memory (slot k) image (zeros n)).0 in (plan_number v, plan_value v)
+given x k image n = let v : Result ℕ Refusal = (plan_of x.bus x.memory (slot k) image (zeros n)).0 in (plan_number v, plan_value v)
 
 -- images that differ from 512 zeros in no byte, in the last of block 2, and in the last of block 3
 abbrev none : List ℕ

@@ -1,5 +1,6 @@
 -- One whole plan, computed: every byte of the buffer, for a slot of two ticks that stands in half 1, with a page to be written in each half.
 -- Assumes nothing.
+use Rattle.std.proofs.Common.{Ok}
 use Prim.Native.Nat.{ℕ}
 use mathlib.Core.Path.{◌≡◌, refl}
 use mathlib.Core.List.{List, [], ◌∷◌, ◌++◌}
@@ -7,7 +8,6 @@ use lib.ListN.{replicate}
 use Rattle.rules.specs.declared.Bus.{Bus}
 use Rattle.rules.specs.Fields.{in_half}
 use Rattle.rules.specs.Fresh.{fresh_slot, absent_slot}
-use Rattle.plan_rules.specs.declared.Planned.TheVariants.{Records}
 use Rattle.plan_rules.specs.Plan.{plan_of}
 use Rattle.plan_rules.proofs.Tables.{open-plan}
 
@@ -40,7 +40,7 @@ abbrev tick : List ℕ
 tick = 6 ∷ 0 ∷ 0 ∷ 0 ∷ []
 
 pub whole-plan : plan_of bus memory (record { 0 = 2 }) image (replicate 4096 0xEE) ≡ (
-  Records 55,
+  Ok 55,
   tick ++ tick ++ tick ++ tick ++ tick
       ++ start ++ byte 0x6C ++ stop
       ++ start ++ byte 0xA4 ++ byte 0x30

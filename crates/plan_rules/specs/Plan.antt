@@ -1,10 +1,12 @@
 -- Request P1, "Programming planner": what a plan is, sentence by sentence, and what the planner gives for every input.
 -- Assumes nothing.
-use Rattle.std.specs.Prelude.{ℕ, zero, suc, ◌+◌, ◌*◌, ◌/◌, ◌%◌, Bool, true, false, not, cond, ◌&&◌, ◌||◌, List, [], ◌∷◌, ◌++◌, map, eqb, ltb, pos, length, get_or, replicate}
+use Rattle.std.specs.Prelude.{ℕ, zero, suc, ◌+◌, ◌*◌, ◌/◌, ◌%◌, Bool, true, false, not, cond, ◌&&◌, ◌||◌, List, [], ◌∷◌, ◌++◌, map, eqb, ltb, pos, length, get_or, replicate, Result, Ok, Err}
+use Rattle.std.specs.Str.{bytes_eq}
 use Rattle.proof_lists.specs.Parts.{part}
 use Rattle.rules.specs.declared.BlockNo.{BlockNo}
 use Rattle.rules.specs.declared.Bus.{Bus}
 use Rattle.rules.specs.declared.Event.{Event}
+use Rattle.rules.specs.declared.Refusal.{Refusal}
 use Rattle.rules.specs.declared.Refusal.TheVariants.{MemoryLength, WrongSlot, WrongState, ProtectedPage}
 use Rattle.rules.specs.declared.Slot.{Slot}
 use Rattle.rules.specs.declared.SlotNo.{SlotNo}
@@ -14,8 +16,6 @@ use Rattle.rules.specs.Control.{protects}
 use Rattle.rules.specs.Events.{refusal_number}
 use Rattle.rules.specs.Refusals.{wrong_length, kinds_of, kind_at, in_range}
 use Rattle.rules.specs.Runs.{Bench, after}
-use Rattle.plan_rules.specs.declared.Planned.{Planned}
-use Rattle.plan_rules.specs.declared.Planned.TheVariants.{Records, Refused}
 use Rattle.plan_rules.specs.Records.{laid}
 
 -- "script records": the four kinds of event that a plan has; every empty cell is 0
@@ -81,11 +81,8 @@ unfoldable pub writing : ℕ → ℕ → List ℕ → ℕ → List Event
 writing k c bytes count = start ∷ byte (0xA0 + 2 * k) ∷ byte c ∷ map byte bytes ++ stop ∷ ticks count
 
 -- the same bytes
-unfoldable pub same : List ℕ → List ℕ → Bool
-same [] [] = true
-same [] (b ∷ bs) = false
-same (a ∷ m) [] = false
-same (a ∷ m) (b ∷ bs) = eqb a b && same m bs
+abbrev pub same : List ℕ → List ℕ → Bool
+same = bytes_eq
 
 -- a slot's 512 bytes as the five ticks leave them, and the image that is wanted
 module _ (old image : List ℕ) where
@@ -137,24 +134,24 @@ unfoldable pub forbidden : ℕ → Bench → List ℕ → Bool
 forbidden k x image = barred_before (bytes_at k (settled x)) image (slot_at k (settled x)) page_count
 
 -- "write script records into a lent buffer [..] their number returned, the buffer past them unchanged"
-unfoldable pub planned : List Event → List ℕ → Planned × List ℕ
-planned es buffer = (Records (length es), laid es buffer)
+unfoldable pub planned : List Event → List ℕ → Result ℕ Refusal × List ℕ
+planned es buffer = (Ok (length es), laid es buffer)
 
 -- "Order 1, 6, 3, 7; a refusal leaves the buffer unchanged": what the planner gives, and the buffer after it
-unfoldable pub plan_of : Bus → List ℕ → SlotNo → List ℕ → List ℕ → Planned × List ℕ
+unfoldable pub plan_of : Bus → List ℕ → SlotNo → List ℕ → List ℕ → Result ℕ Refusal × List ℕ
 plan_of b m k image buffer =
     let x : Bench = record { bus = b; memory = m } in
-    cond (wrong_lengths m image buffer) (Refused MemoryLength, buffer)
-    (cond (not (in_range b)) (Refused WrongState, buffer)
-    (cond (no_such_slot k b) (Refused WrongSlot, buffer)
-    (cond (forbidden k.0 x image) (Refused ProtectedPage, buffer)
+    cond (wrong_lengths m image buffer) (Err MemoryLength, buffer)
+    (cond (not (in_range b)) (Err WrongState, buffer)
+    (cond (no_such_slot k b) (Err WrongSlot, buffer)
+    (cond (forbidden k.0 x image) (Err ProtectedPage, buffer)
     (planned (plan_events k.0 x image) buffer))))
 
 -- the number and the value of each result: 0 and the number of records, or the refusal's number
-unfoldable pub plan_number : Planned → ℕ
-plan_number (Records n) = 0
-plan_number (Refused r) = refusal_number r
+unfoldable pub plan_number : Result ℕ Refusal → ℕ
+plan_number (Ok n) = 0
+plan_number (Err r) = refusal_number r
 
-unfoldable pub plan_value : Planned → ℕ
-plan_value (Records n) = n
-plan_value (Refused r) = 0
+unfoldable pub plan_value : Result ℕ Refusal → ℕ
+plan_value (Ok n) = n
+plan_value (Err r) = 0

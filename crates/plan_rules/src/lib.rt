@@ -1,12 +1,3 @@
-// What a plan comes to. What a plan is, and what it does on the bus, stands in specs/ and proofs/.
+// What a plan is, and what it does on the bus: see specs/ and proofs/. No code: what comes of planning is a `Result` of how many records stand at
+// the front of the buffer, or of the refusal.
 #![tactic(auto)]
-
-use rules::Refusal;
-
-// The paper's number and value of each: specs/Plan.
-#[derive(Clone, Copy)]
-pub enum Planned {
-    // So many records stand at the front of the buffer.
-    Records(usize),
-    Refused(Refusal),
-}

@@ -11,7 +11,6 @@ pub use capture_pieces::pieces::{Checked, piece};
 pub use capture_rules::{Seen, Verdict};
 pub use list_entry::events;
 pub use plan_entry::plan;
-pub use plan_rules::Planned;
 pub use rules::{
     Answer, BlockNo, Bus, Event, Older, Outcome, Pair, Phase, Pin, Refusal, Sensor, Slot,
     SlotNo,

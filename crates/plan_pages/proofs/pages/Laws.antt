@@ -1,24 +1,23 @@
 -- The definitions in the form in which a loop's turn asks for them.
 -- Assumes nothing.
 use mathlib.Core.Path.{◌≡◌, refl, sym, ◌∙◌, ap, ap₂}
-use mathlib.Core.Bool.{Bool, true, false, not, ◌&&◌, ◌||◌, and_assoc, and-true}
-use mathlib.Core.List.{List}
+use mathlib.Core.Bool.{Bool, true, ◌||◌, or-false}
+use mathlib.Core.List.{List, [], ◌∷◌, ◌++◌}
 use Prim.Native.Nat.{ℕ, zero, suc, ◌+◌, ◌-◌, ◌*◌, ◌<◌, ◌≤◌}
-use native.Mathlib.Numerals.{add-one}
+use native.Mathlib.Nat.{add-zero, zero-add}
 use native.Mathlib.Omega.{arith}
-use lib.Dec.{eqb}
-use lib.ListN.{length, get_or, take, drop, replicate, drop_of_length-le}
-use lib.Seq.{drop-cons}
+use lib.ListN.{take, drop, replicate}
+use Rattle.std.specs.List.{list_any, range_with_len}
+use Rattle.std.proofs.lemmas.List.Folds.{list_any-append}
 use Rattle.proof_lists.specs.Parts.{part-flat}
 use Rattle.rules.specs.declared.Act.TheVariants.{Tick}
 use Rattle.rules.specs.declared.Slot.{Slot}
-use Rattle.rules.specs.Control.{protects}
 use Rattle.rules.specs.Memory.{ticked_part}
 use Rattle.rules.specs.Slot.{slot_next, part_next}
 use Rattle.rules.specs.Refusals.{slot_in_range}
 use Rattle.rules.specs.Runs.{slot_after, part_after}
 use Rattle.rules.proofs.Range.Kept.{facts, test, byte_fits, slot_kept}
-use Rattle.plan_rules.specs.Plan.{page_at, page_block, same, differs, barred, barred_before}
+use Rattle.plan_rules.specs.Plan.{page_at, barred, barred_before}
 
 -- a tick keeps the range
 pub tick-kept : (s r : Slot) → slot_in_range s ≡ true → r ≡ slot_next 0 Tick s → slot_in_range r ≡ true
@@ -53,31 +52,20 @@ pub part-last : (i : ℕ) (s : Slot) (m z : List ℕ) → 5 ≤ i → part_after
 unfolding part_after
 part-last i s m z h f = let k : 5 - i ≡ 0 = omega arith in sym (ap (λ (n : ℕ). part_after 0 (replicate n Tick) s m) k) ∙ f
 
--- the bytes passed are the same, and those to come
-pub same_step : (a b : List ℕ) (i : ℕ) (all z : Bool) → i < length a → i < length b → (all && same (drop i a) (drop i b)) ≡ z
-    → ((all && eqb (get_or a i 0) (get_or b i 0)) && same (drop (i + 1) a) (drop (i + 1) b)) ≡ z
-unfolding same
-same_step a b i all z h k e = rw (add-one, and_assoc) (rw (drop-cons a i 0 h, drop-cons b i 0 k) at e)
-
-pub same-last : (a b : List ℕ) (i : ℕ) (all z : Bool) → length a ≤ i → length b ≤ i → (all && same (drop i a) (drop i b)) ≡ z → all ≡ z
-unfolding same
-same-last a b i all z h k e = rw (drop_of_length-le a h, drop_of_length-le b k, and-true) at e
-
 -- a page as the code cuts it out
 pub page-cut : (p w : ℕ) (m : List ℕ) → w ≡ 16 → take w (drop (16 * p) m) ≡ page_at p m
 unfolding page_at
 page-cut p w m e = ap (λ (n : ℕ). take n (drop (16 * p) m)) e ∙ sym (part-flat 16 p m)
 
-pub differs-by : (old image u v : List ℕ) (p : ℕ) (r : Bool) → u ≡ page_at p old → v ≡ page_at p image → r ≡ same u v → not r ≡ differs old image p
-unfolding differs
-differs-by old image u v p r e f g = ap not (g ∙ ap₂ same e f)
+-- some page of the first ones is barred: of the list of their numbers, and as the definition goes over them
+range-more : (a n : ℕ) → range_with_len a (suc n) ≡ range_with_len a n ++ (a + n) ∷ []
+range-more a zero = rw add-zero
+range-more a (suc n) = let e : a + 1 + n ≡ a + suc n = omega arith in ap (a ∷◌) (range-more (a + 1) n ∙ ap (λ (k : ℕ). range_with_len (a + 1) n ++ k ∷ []) e)
 
--- one page more
-pub barred-none : (old image : List ℕ) (s : Slot) → false ≡ barred_before old image s 0
+pub any-barred : (old image : List ℕ) (s : Slot) (n : ℕ) → list_any (barred old image s) (range_with_len 0 n) ≡ barred_before old image s n
 unfolding barred_before
-barred-none old image s = refl
-
-pub barred-step : (old image : List ℕ) (s : Slot) (p : ℕ) (any changes closed : Bool) → any ≡ barred_before old image s p → changes ≡ differs old image p
-    → closed ≡ protects (page_block p) s → (any || (changes && closed)) ≡ barred_before old image s (p + 1)
-unfolding barred_before barred
-barred-step old image s p any changes closed e f g = rw (add-one, e, f, g)
+any-barred old image s zero = refl
+any-barred old image s (suc n) =
+    let t : ℕ → Bool = barred old image s in
+    ap (list_any t) (range-more 0 n) ∙ list_any-append t (range_with_len 0 n) ((0 + n) ∷ [])
+    ∙ ap₂ ◌||◌ (any-barred old image s n) (or-false (t (0 + n)) ∙ ap t (zero-add n))

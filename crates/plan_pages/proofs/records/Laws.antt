@@ -1,22 +1,19 @@
 -- Laws of records that are laid: one, none, and some behind others.
 -- Assumes nothing.
-use mathlib.Core.Path.{◌≡◌, refl, sym, ◌∙◌, ap, ap₂}
-use mathlib.Core.List.{List, [], ◌∷◌, ◌++◌, map, append_assoc}
-use Prim.Native.Nat.{ℕ, zero, suc, ◌+◌, ◌*◌, ◌/◌, ◌%◌, ◌≤◌, ◌<◌}
-use native.Mathlib.Nat.{add-zero}
-use native.Mathlib.Numerals.{add-one}
-use native.Mathlib.Omega.{arith}
+use Rattle.std.proofs.Common.{◌≡◌, refl, sym, ◌∙◌, ap, ℕ, zero, suc, ◌+◌, ◌-◌, ◌*◌, ◌≤◌, ◌<◌, List, [], ◌∷◌, ◌++◌, map, length, get_or, take, drop, replicate, append_assoc, add-zero, add-one, add_assoc, eqb, arith, length-append, length-take, length-drop}
+use Rattle.std.proofs.lemmas.List.{length-map}
+use Rattle.std.proofs.lemmas.List.Edits.{sets}
+use Rattle.std.proofs.Math.Seq.{length-sets, take-suc}
 use borrow.Author.Tests.{eq-eqb, ne_eqb}
-use lib.Dec.{eqb}
-use lib.ListN.{length, get_or, set, take, replicate, length-append, length-map}
-use lib.Seq.{sets, length-sets, take-suc}
-use Rattle.proof_lists.specs.Stores.{sets-append}
+use Rattle.proof_lists.specs.Stores.{sets-append, copied-over, pasted}
 use Rattle.proof_lists.specs.Tests.{cond_cases}
 use Rattle.rules.specs.declared.Event.{Event}
-use Rattle.plan_rules.specs.Records.{word_of, record_of, records_of}
-use Rattle.plan_rules.specs.Plan.{event, start, byte, stop, ticks, selecting}
+use Rattle.plan_rules.specs.Records.{record_of, records_of}
+use Rattle.plan_rules.specs.Plan.{start, byte, stop, tick, ticks, selecting}
 use Rattle.plan_rules.proofs.Back.{records-length}
-use Rattle.plan_pages.specs.Laid.{laid_at, exchanging}
+use Rattle.plan_pages.specs.declared.records.Plan.{Plan}
+use Rattle.plan_pages.specs.declared.records.Step.{Step}
+use Rattle.plan_pages.specs.Laid.{event_of, with_laid, exchanging}
 
 -- records after records, and four bytes for each
 records-append : (es fs : List Event) → records_of (es ++ fs) ≡ records_of es ++ records_of fs
@@ -25,96 +22,68 @@ records-append [] fs = refl
 records-append (e ∷ es) fs = ap (λ (l : List ℕ). record_of e ++ l) (records-append es fs) ∙ sym (append_assoc (record_of e) (records_of es) (records_of fs))
 
 -- none
-pub laid_none : (n : ℕ) (b : List ℕ) → laid_at n [] b ≡ (n, b)
-unfolding laid_at records_of
-laid_none n b = rw add-zero
+pub laid_none : (p : Plan) → p ≡ with_laid [] p
+unfolding records_of
+laid_none p = rw add-zero
 
--- one, as its four bytes are stored
-pub laid_one : (n kind value : ℕ) (b : List ℕ) → value < 256
-    → laid_at n (event kind value ∷ []) b ≡ (n + 1, set (set (set (set b (4 * n) kind) (4 * n + 1) 0) (4 * n + 2) 0) (4 * n + 3) value)
-unfolding laid_at records_of record_of word_of
-laid_one n kind value b h =
-    let v : value / 256 ≡ 0 = omega arith in
-    let w : value % 256 ≡ value = omega arith in
-    let e : 4 * n + 1 ≡ suc (4 * n) = omega arith in
-    let f : 4 * n + 2 ≡ suc (suc (4 * n)) = omega arith in
-    let g : 4 * n + 3 ≡ suc (suc (suc (4 * n))) = omega arith in
-    rw (v, w, e, f, g)
+-- one, as its four bytes are copied
+pub laid_one : (p : Plan) (e : Step) (bytes part : List ℕ) → bytes ≡ record_of (event_of e) → 4 * p.count + 4 ≤ length p.buffer.now → part ≡ bytes
+    → take (4 * p.count) p.buffer.now ++ (part ++ drop (4 * p.count + 4 - 4 * p.count) (drop (4 * p.count) p.buffer.now))
+    ≡ (with_laid (event_of e ∷ []) p).buffer.now
+unfolding records_of record_of
+laid_one p e bytes part g h f =
+    let at : ℕ = 4 * p.count in
+    let four : length bytes ≡ 4 = ap length g in
+    let own : length (take (at + 4 - at) (drop at p.buffer.now)) ≤ length bytes = simp (length-take, length-drop) (omega arith) in
+    pasted p.buffer.now bytes part at (at + 4) (omega arith) h (copied-over part bytes _ f own) ∙ ap (sets p.buffer.now at) g
 
--- what is laid, and how many records stand there then
-pub laid-count : (n m : ℕ) (es : List Event) (b o : List ℕ) → laid_at n es b ≡ (m, o) → m ≡ n + length es
-unfolding laid_at
-laid-count n m es b o p = sym (ap (λ (z : ℕ × List ℕ). z.0) p)
-
-pub laid-length : (n m : ℕ) (es : List Event) (b o : List ℕ) → laid_at n es b ≡ (m, o) → length o ≡ length b
-unfolding laid_at
-laid-length n m es b o p = ap length (sym (ap (λ (z : ℕ × List ℕ). z.1) p)) ∙ length-sets b (4 * n) (records_of es)
-
--- the same under other names
-pub laid_as : (n m r : ℕ) (es : List Event) (b o q : List ℕ) → laid_at n es b ≡ (m, o) → r ≡ m → q ≡ o → laid_at n es b ≡ (r, q)
-laid_as n m r es b o q p e f = p ∙ (λ i. (sym e i, sym f i))
+-- how many records stand there then, and the buffer's length
+pub laid-sizes : (es : List Event) (p q : Plan) → q ≡ with_laid es p → (q.count ≡ p.count + length es) × (length q.buffer.now ≡ length p.buffer.now)
+laid-sizes es p q e = (
+  ap (λ (x : Plan). x.count) e,
+  ap (λ (x : Plan). length x.buffer.now) e ∙ length-sets p.buffer.now (4 * p.count) (records_of es),
+)
 
 -- some behind others
-pub laid_then : (n m r : ℕ) (es fs : List Event) (b o q : List ℕ) → laid_at n es b ≡ (m, o) → laid_at m fs o ≡ (r, q) → laid_at n (es ++ fs) b ≡ (r, q)
-unfolding laid_at
-laid_then n m r es fs b o q p t =
-    let c : n + length es ≡ m = ap (λ (z : ℕ × List ℕ). z.0) p in
-    let d : sets b (4 * n) (records_of es) ≡ o = ap (λ (z : ℕ × List ℕ). z.1) p in
-    let k : n + length (es ++ fs) ≡ m + length fs = rw length-append (omega arith) in
-    let i : 4 * n + length (records_of es) ≡ 4 * m = omega (arith, records-length es) in
-    let s : sets b (4 * n) (records_of (es ++ fs)) ≡ sets o (4 * m) (records_of fs) =
-    ap (sets b (4 * n)) (records-append es fs) ∙ sets-append b (4 * n) (records_of es) (records_of fs) ∙ ap₂ (λ (l : List ℕ) (j : ℕ). sets l j (records_of fs)) d i in
-    (λ x. (k x, s x)) ∙ t
+pub laid_then : (es fs : List Event) (p : Plan) → with_laid fs (with_laid es p) ≡ with_laid (es ++ fs) p
+laid_then es fs p =
+    let i : 4 * p.count + length (records_of es) ≡ 4 * (p.count + length es) = omega (arith, records-length es) in
+    rw (length-append es fs, records-append es fs, sets-append p.buffer.now (4 * p.count) (records_of es) (records_of fs), i, add_assoc p.count (length es) (length fs))
 
--- one tick more
-ticks-more : (i : ℕ) → ticks (i + 1) ≡ ticks i ++ event 6 0 ∷ []
+-- one tick more, and one byte more
+pub ticks-more : (i : ℕ) (p : Plan) → with_laid (tick ∷ []) (with_laid (ticks i) p) ≡ with_laid (ticks (i + 1)) p
 unfolding ticks
-ticks-more i = rw add-one (go i)
+ticks-more i p = laid_then (ticks i) (tick ∷ []) p ∙ ap (λ (es : List Event). with_laid es p) (rw add-one (go i))
   where
-    go : (i : ℕ) → replicate (suc i) (event 6 0) ≡ replicate i (event 6 0) ++ event 6 0 ∷ []
+    go : (i : ℕ) → replicate i tick ++ tick ∷ [] ≡ replicate (suc i) tick
     go zero = refl
-    go (suc i) = ap (λ (l : List Event). event 6 0 ∷ l) (go i)
+    go (suc i) = ap (λ (l : List Event). tick ∷ l) (go i)
 
-pub ticks-none : (n : ℕ) (b : List ℕ) → laid_at n (ticks 0) b ≡ (n, b)
-unfolding ticks
-ticks-none n b = laid_none n b
-
-pub ticks-step : (n m r i : ℕ) (b o q : List ℕ) → laid_at n (ticks i) b ≡ (m, o) → laid_at m (event 6 0 ∷ []) o ≡ (r, q) → laid_at n (ticks (i + 1)) b ≡ (r, q)
-ticks-step n m r i b o q p t = rw ticks-more (laid_then n m r (ticks i) (event 6 0 ∷ []) b o q p t)
-
--- one byte more
-bytes-more : (s : List ℕ) (i : ℕ) → i < length s → map byte (take (i + 1) s) ≡ map byte (take i s) ++ byte (get_or s i 0) ∷ []
-bytes-more s i h = rw (add-one, take-suc s i 0) (go (take i s) (get_or s i 0))
+pub bytes-more : (i : ℕ) (s : List ℕ) (p : Plan) → i < length s → with_laid (byte (get_or s i 0) ∷ []) (with_laid (map byte (take i s)) p) ≡ with_laid (map byte (take (i + 1) s)) p
+bytes-more i s p h = laid_then (map byte (take i s)) (byte (get_or s i 0) ∷ []) p ∙ ap (λ (es : List Event). with_laid es p) (rw (add-one, take-suc s i 0) (go (take i s) (get_or s i 0)))
   where
-    go : (p : List ℕ) (v : ℕ) → map byte (p ++ v ∷ []) ≡ map byte p ++ byte v ∷ []
+    go : (q : List ℕ) (v : ℕ) → map byte q ++ byte v ∷ [] ≡ map byte (q ++ v ∷ [])
     go [] v = refl
-    go (a ∷ p) v = ap (λ (l : List Event). byte a ∷ l) (go p v)
+    go (a ∷ q) v = ap (λ (l : List Event). byte a ∷ l) (go q v)
 
-pub bytes-step : (n m r i : ℕ) (s b o q : List ℕ) → i < length s → laid_at n (map byte (take i s)) b ≡ (m, o) → laid_at m (byte (get_or s i 0) ∷ []) o ≡ (r, q)
-    → laid_at n (map byte (take (i + 1) s)) b ≡ (r, q)
-bytes-step n m r i s b o q h p t = rw (bytes-more s i h) (laid_then n m r (map byte (take i s)) (byte (get_or s i 0) ∷ []) b o q p t)
-
--- an exchange from its parts
-pub exchange-by : (n f s l r control : ℕ) (sent b o p u q : List ℕ) → laid_at n (start ∷ []) b ≡ (f, o) → laid_at f (byte control ∷ []) o ≡ (s, p)
-    → laid_at s (map byte sent) p ≡ (l, u) → laid_at l (stop ∷ []) u ≡ (r, q) → laid_at n (exchanging control sent) b ≡ (r, q)
+-- an exchange from its parts, and how many records it has
+pub exchange-by : (control : ℕ) (sent : List ℕ) (p : Plan)
+    → with_laid (stop ∷ []) (with_laid (map byte sent) (with_laid (byte control ∷ []) (with_laid (start ∷ []) p))) ≡ with_laid (exchanging control sent) p
 unfolding exchanging
-exchange-by n f s l r control sent b o p u q d e g h =
-    laid_then n f r (start ∷ []) (byte control ∷ map byte sent ++ stop ∷ []) b o q d
-    (laid_then f s r (byte control ∷ []) (map byte sent ++ stop ∷ []) o p q e (laid_then s l r (map byte sent) (stop ∷ []) p u q g h))
+exchange-by control sent p = simp laid_then
 
 pub length-exchange : (control : ℕ) (sent : List ℕ) → length (exchanging control sent) ≡ length sent + 3
 unfolding exchanging
 length-exchange control sent = rw (length-append (map byte sent) (stop ∷ []), length-map sent byte) (omega arith)
 
 -- the half stands already, or another one does
-pub selecting-none : (n stands half : ℕ) (b : List ℕ) → half ≡ stands → laid_at n (selecting stands half) b ≡ (n, b)
+pub selecting-none : (stands half : ℕ) → half ≡ stands → selecting stands half ≡ []
 unfolding selecting
-selecting-none n stands half b e = rw (eq-eqb half stands e) (laid_none n b)
+selecting-none stands half e = rw (eq-eqb half stands e)
 
-pub selecting-other : (n r stands half : ℕ) (b q : List ℕ) → (half ≡ stands → ⊥) → laid_at n (exchanging (0x6C + 2 * half) []) b ≡ (r, q)
-    → laid_at n (selecting stands half) b ≡ (r, q)
+pub selecting-other : (stands half : ℕ) → (half ≡ stands → ⊥) → selecting stands half ≡ exchanging (0x6C + 2 * half) []
 unfolding selecting exchanging
-selecting-other n r stands half b q h p = rw (ne_eqb half stands h) p
+selecting-other stands half h = rw (ne_eqb half stands h)
 
 pub length-selecting : (stands half : ℕ) → length (selecting stands half) ≤ 3
 unfolding selecting

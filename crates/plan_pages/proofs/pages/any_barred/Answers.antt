@@ -1,24 +1,14 @@
--- After each turn one page more is judged.
-use mathlib.Core.Path.{◌≡◌, ◌∙◌, ap}
-use native.Mathlib.Omega.{arith}
-use Rattle.plan_rules.specs.Plan.{page_block, barred_before}
-use Rattle.plan_pages.proofs.pages.Laws.{barred-none, barred-step}
+-- Each of the 32 pages is judged.
+use Rattle.std.proofs.Common.{rules, tests, refl, ◌∙◌}
+use Rattle.std.proofs.lemmas.Iterator.{YieldsList-from_range}
+use Rattle.std.proofs.lemmas.Iterator.Search.{any_from_yields_List}
+use Rattle.plan_rules.specs.Plan.{barred, page_block}
+use Rattle.plan_pages.proofs.pages.Laws.{any-barred}
 use Rattle.plan_pages.proofs.pages.any_barred.Goals as goal
 
-pub loop-p-init : goal.loop-p-init
-unfolding page_block
-loop-p-init c = (omega arith, c.requires.0, c.requires.1, barred-none _ _ _)
-
-pub loop-p-preserved : goal.loop-p-preserved
-unfolding page_block
-loop-p-preserved c =
-    let l = c.loop-p in
-    (omega arith, l.invariant.1, l.invariant.2, barred-step _ _ _ l.p _ _ _ l.invariant.3 c.differs-changes.ensures c.protects-closed.ensures)
-
 pub returns : goal.returns
-unfolding page_block
+unfolding barred page_block
 returns c =
-    let l = c.loop-p in
     let a = c.args in
-    let e : l.p ≡ 32 = omega arith in
-    l.invariant.3 ∙ ap (barred_before a.old.now a.image.now a.s) e
+    any_from_yields_List (barred a.old.now a.image.now a.s) _ _ _ c.any.ensures.ran (YieldsList-from_range 0 32 32 refl refl) (λ x b q k. search (rules, tests))
+    ∙ any-barred a.old.now a.image.now a.s 32

@@ -6,7 +6,7 @@ use Rattle.plan_pages.proofs.pages.Laws.{tick-kept, slot_step, part_step, slot-l
 use Rattle.plan_pages.proofs.pages.settle.Goals as goal
 
 pub loop-init : goal.loop-init
-loop-init c = (omega arith, c.requires.0, c.requires.1, refl, refl)
+loop-init c = (omega arith, c.requires, c.told-part, refl, refl)
 
 pub tick-next-requires : goal.tick-next-requires
 tick-next-requires c = let l = c.loop in (l.invariant.1, l.invariant.2)

@@ -13,6 +13,3 @@ abbrev pub invariant-loop : goal.invariant-loop
 invariant-loop l = (l.counter ≤ 5) × (slot_in_range l.next ≡ true) × (length l.part ≡ slot_bytes)
     × (slot_after 0 (replicate (5 - l.counter) Tick) l.next ≡ slot_after 0 (replicate 5 Tick) l.initial.next)
     × (part_after 0 (replicate (5 - l.counter) Tick) l.next l.part ≡ part_after 0 (replicate 5 Tick) l.initial.next l.initial.part)
-
-abbrev pub decreases-loop : goal.decreases-loop
-decreases-loop l = 5 - l.counter

@@ -1,27 +1,30 @@
 -- The half, the write and the ticks, one behind the other.
-use native.Mathlib.Omega.{arith}
-use Rattle.plan_rules.specs.Plan.{page_half, page_counter}
-use Rattle.plan_pages.proofs.writes.Laws.{sent-length, most-selected, count-written, page-by}
+use Rattle.std.proofs.Common.{◌+◌, ◌*◌, ◌∙◌, ap, arith}
+use Rattle.plan_rules.specs.Plan.{ticks, page_half, page_counter}
+use Rattle.plan_pages.specs.Laid.{with_laid, exchanging}
+use Rattle.plan_pages.proofs.records.Laws.{laid-sizes, length-exchange, length-selecting}
+use Rattle.plan_pages.proofs.writes.Laws.{sent-length, page-by}
 use Rattle.plan_pages.proofs.writes.page.Goals as goal
 
-pub exchange-written-requires : goal.exchange-written-requires
+pub exchange-requires : goal.exchange-requires
 unfolding page_half page_counter
-exchange-written-requires c =
-    let k = c in
-    let g = k in
-    omega (arith, most-selected _ _ _ _ _ _ k.selecting-selected.ensures, sent-length _ _ _ _ g.requires.2 g.requires.1 k.sent-bytes.ensures, g.requires.4)
+exchange-requires c =
+    let a = c.args in
+    let s = laid-sizes _ _ _ c.selecting.ensures in
+    omega (arith, length-selecting a.stands (page_half a.p), sent-length _ _ _ _ c.requires.1 c.told-image c.sent.ensures)
 
 pub ticks-requires : goal.ticks-requires
 unfolding page_half page_counter
 ticks-requires c =
-    let j = c in
-    let k = j in
-    let g = k in
-    omega (arith, count-written _ _ _ _ _ _ j.exchange-written.ensures, most-selected _ _ _ _ _ _ k.selecting-selected.ensures, sent-length _ _ _ _ g.requires.2 g.requires.1 k.sent-bytes.ensures, g.requires.3, g.requires.4)
+    let a = c.args in
+    let s = laid-sizes _ _ _ c.selecting.ensures in
+    let t = laid-sizes _ _ _ c.exchange.ensures in
+    omega (arith, length-selecting a.stands (page_half a.p), length-exchange (0xA0 + 2 * a.k.0) c.sent.result, sent-length _ _ _ _ c.requires.1 c.told-image c.sent.ensures)
 
 pub returns : goal.returns
 unfolding page_half page_counter
 returns c =
-    let j = c in
-    let k = j in
-    page-by _ _ _ _ _ _ _ _ _ _ _ _ _ _ _ k.sent-bytes.ensures k.selecting-selected.ensures j.exchange-written.ensures c.ticks.ensures
+    let a = c.args in
+    c.ticks.ensures
+    ∙ ap (with_laid (ticks a.count)) (c.exchange.ensures ∙ ap (with_laid (exchanging (0xA0 + 2 * a.k.0) c.sent.result)) c.selecting.ensures)
+    ∙ page-by a.k.0 _ a.count a.stands (page_half a.p) _ _ a.plan.now c.sent.ensures
