@@ -14,7 +14,6 @@ use list_lend::text::Told;
 use plan_rules::Planned;
 use report::STDOUT_FILENO;
 use rules::{Answer, BlockNo, Bus, Event, Pair, SlotNo};
-use save_rules::Saved;
 
 // What a command goes on from, beside memory and shelf: the pairs of the last setup, the bus, and how long the memory is.
 #[derive(Clone, Copy)]
@@ -156,8 +155,8 @@ fn look(b: Bench, mem: &[u8; 8192], shelf: &[u8; 8192], t: [u32; 38]) {
 fn save(bus: Bus, mem: &[u8], length: usize, shelf: &mut [u8], room: u32) {
     let kept = parts::front(shelf, room as usize);
     match save_entry::save(bus, parts::first(mem, length), kept) {
-        Saved::Form(n) => report::counted(n, names::BYTES),
-        Saved::Refused(r) => report::answer(Answer::Refused(r)),
+        Ok(n) => report::counted(n, names::BYTES),
+        Err(r) => report::answer(Answer::Refused(r)),
     }
 }
 

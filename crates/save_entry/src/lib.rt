@@ -10,7 +10,6 @@ ghost use Rattle.save_rules.specs.Saving.{is_idle, quiet, save_of};
 ghost use Rattle.save_rules.specs.Reading.{begins};
 
 use rules::{Bus, Phase, Refusal, Slot};
-use save_rules::Saved;
 
 // In no exchange.
 fn is_idle(p: Phase) -> bool
@@ -95,22 +94,22 @@ fn put_form(slots: [Slot; 8], memory: &[u8], out: &mut [u8]) -> usize
 
 // The bench's form at the front of the buffer, and its length; what stands behind it stays. Whatever is handed in is saved or refused, by the rows
 // 1, 6, 8, 9 in this order, and a refusal leaves the buffer as it is.
-pub fn save(bus: Bus, memory: &[u8], buffer: &mut [u8]) -> Saved
+pub fn save(bus: Bus, memory: &[u8], buffer: &mut [u8]) -> Result<usize, Refusal>
     ensures { save_of bus memory.now buffer.old ≡ (result, buffer.new) }
 {
     let slots = bus.slots;
     if memory.len() != Bus::MEMORY {
-        return Saved::Refused(Refusal::MemoryLength);
+        return Err(Refusal::MemoryLength);
     }
     if !bus_refusals::ranges::in_range(slots) {
-        return Saved::Refused(Refusal::WrongState);
+        return Err(Refusal::WrongState);
     }
     if !all_quiet(slots) {
-        return Saved::Refused(Refusal::Busy);
+        return Err(Refusal::Busy);
     }
     if buffer.len() < save_fields::offsets::begins(6, slots) {
-        return Saved::Refused(Refusal::TooShort);
+        return Err(Refusal::TooShort);
     }
     let n = put_form(slots, memory, buffer);
-    Saved::Form(n)
+    Ok(n)
 }
