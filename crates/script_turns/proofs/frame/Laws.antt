@@ -9,7 +9,8 @@ use borrow.Author.Tests.{lt-ltb, le-ltb, eq-eqb, ne_eqb}
 use lib.Dec.{eqb, ltb}
 use lib.ListN.{length, get_or, set, take, drop, replicate, length-drop}
 use lib.Seq.{sets, sets-eq, take-append_seam, get_or-drop, get_or-append-add, length-take-le}
-use Rattle.proof_lists.specs.Each.{all_of, filled, filled-step}
+use Rattle.proof_lists.specs.Each.{filled, filled-step}
+use Rattle.std.specs.List.{list_all}
 use Rattle.proof_lists.specs.Tests.{by-test, cond_cases}
 use Rattle.rules.specs.declared.Bus.{Bus}
 use Rattle.rules.specs.declared.Outcome.{Outcome}
@@ -24,12 +25,12 @@ use Rattle.script_text.specs.Letters.{line_of, digits_of, short_line, refusal_li
 use Rattle.script_turns.specs.Frame.{bad_setup_line, starting_memory, cut_setup, first_line, goes_on, first_bus, begin_of, last_line, finish_of}
 
 -- the line of a setup's answer, and whether there is one
-refusal-line : (ps : List Pair) → refusal_line (setup_of ps).answer ≡ cond (all_of good_pair ps) [] bad_setup_line
+refusal-line : (ps : List Pair) → refusal_line (setup_of ps).answer ≡ cond (list_all good_pair ps) [] bad_setup_line
 unfolding setup_of refusal_line line_of letter_of digits_of refusal_number decimal decimal_in digit
-refusal-line ps = by-test (all_of good_pair ps) (λ e. rw e) (λ e. rw e)
+refusal-line ps = by-test (list_all good_pair ps) (λ e. rw e) (λ e. rw e)
 
-refusal-none : (ps : List Pair) → eqb (length (refusal_line (setup_of ps).answer)) 0 ≡ all_of good_pair ps
-refusal-none ps = by-test (all_of good_pair ps) (λ e. rw (refusal-line ps, e)) (λ e. rw (refusal-line ps, e))
+refusal-none : (ps : List Pair) → eqb (length (refusal_line (setup_of ps).answer)) 0 ≡ list_all good_pair ps
+refusal-none ps = by-test (list_all good_pair ps) (λ e. rw (refusal-line ps, e)) (λ e. rw (refusal-line ps, e))
 
 -- the beginning: a setup that is cut
 pub begin-cut : (bs m n out o : List ℕ) (b : Bus) (end : ℕ) → length m ≡ memory_bytes → n ≡ replicate (length m) 0xFF → length bs < 16
@@ -45,10 +46,10 @@ pub begin-whole : (bs m n out o : List ℕ) (r : Outcome) (end : ℕ) → length
 unfolding begin_of first_bus first_line goes_on cut_setup starting_memory
 begin-whole bs m n out o r end l f h e p =
     let ps : List Pair = pairs_of bs in
-    let a : refusal_line r.answer ≡ cond (all_of good_pair ps) [] bad_setup_line = ap (λ (z : Outcome). refusal_line z.answer) e ∙ refusal-line ps in
-    let q : end ≡ length (cond (all_of good_pair ps) [] bad_setup_line) = p.0 ∙ ap length a in
-    let t : eqb end 0 ≡ all_of good_pair ps = ap (λ k. eqb k 0) (p.0 ∙ ap (λ (z : Outcome). length (refusal_line z.answer)) e) ∙ refusal-none ps in
-    let s : o ≡ sets out 0 (cond (all_of good_pair ps) [] bad_setup_line) = p.1 ∙ ap (sets out 0) a in
+    let a : refusal_line r.answer ≡ cond (list_all good_pair ps) [] bad_setup_line = ap (λ (z : Outcome). refusal_line z.answer) e ∙ refusal-line ps in
+    let q : end ≡ length (cond (list_all good_pair ps) [] bad_setup_line) = p.0 ∙ ap length a in
+    let t : eqb end 0 ≡ list_all good_pair ps = ap (λ k. eqb k 0) (p.0 ∙ ap (λ (z : Outcome). length (refusal_line z.answer)) e) ∙ refusal-none ps in
+    let s : o ≡ sets out 0 (cond (list_all good_pair ps) [] bad_setup_line) = p.1 ∙ ap (sets out 0) a in
     let c : ltb (length bs) 16 ≡ false = le-ltb (length bs) 16 h in
     rw c (λ i. (record { bus = (sym e i).bus; end = sym q i; on = sym t i }, sym (f ∙ ap (λ k. replicate k 0xFF) l) i, sym s i))
 
@@ -66,7 +67,7 @@ pub first-length : (bs : List ℕ) → length (first_line bs) ≤ 6
 unfolding first_line
 first-length bs =
     cond_cases (λ (l : List ℕ). length l ≤ 6) (cut_setup bs) (λ e. omega arith)
-    (λ e. cond_cases (λ (l : List ℕ). length l ≤ 6) (all_of good_pair (pairs_of bs)) (λ e. omega arith) (λ e. omega arith))
+    (λ e. cond_cases (λ (l : List ℕ). length l ≤ 6) (list_all good_pair (pairs_of bs)) (λ e. omega arith) (λ e. omega arith))
 
 pub last-length : (n : ℕ) → length (last_line n) ≤ 6
 unfolding last_line
@@ -74,7 +75,7 @@ last-length n = by-test (eqb n 0) (λ e. rw e (omega arith)) (λ e. rw e (omega 
 
 -- the bus of a refused setup is in range
 pub empty-in-range : in_range empty_bus ≡ true
-unfolding setup_of all_of good_pair
+unfolding setup_of good_pair
 empty-in-range = setup-in-range (record { kind = 4; length = 0 } ∷ [])
 
 -- past what has been filled stands what stood there
