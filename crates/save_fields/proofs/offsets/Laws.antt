@@ -86,3 +86,13 @@ row_below State = lit< tt
 row_below Sensor = lit< tt
 row_below Pending = lit< tt
 row_below Older = lit< tt
+
+-- the fields stand in the order of the rows
+pub row_at : (t : ℕ) → t < field_count → row_of (get_or all_fields t Setup) ≡ t
+row_at zero h = refl
+row_at (suc zero) h = refl
+row_at (suc (suc zero)) h = refl
+row_at (suc (suc (suc zero))) h = refl
+row_at (suc (suc (suc (suc zero)))) h = refl
+row_at (suc (suc (suc (suc (suc zero))))) h = refl
+row_at (suc (suc (suc (suc (suc (suc t)))))) h = absurd (omega arith)
