@@ -36,7 +36,7 @@ fn counted(bus: Bus, counter: u8) -> Bus {
 fn save_laps(bus: Bus, mem: &mut [u8; 4096], form: &mut [u8; FORM], count: u64) {
     let mut at = bus;
     for _ in 0..count {
-        save_entry::save(at, mem, form);
+        let _ = save_entry::save(at, mem, form);
         mem[0] = up(form[FIRST]);
         at = counted(at, up(form[COUNTER]));
     }
@@ -83,7 +83,7 @@ pub fn run(letter: u8, count: u64) {
     let bus = made.bus;
     let mut mem = [0xFFu8; 4096];
     let mut form = [0u8; FORM];
-    save_entry::save(bus, &mem, &mut form);
+    let _ = save_entry::save(bus, &mem, &mut form);
     match letter {
         b's' => save_laps(bus, &mut mem, &mut form, count),
         b'r' => restore_laps(bus, &mut mem, &mut form, count),

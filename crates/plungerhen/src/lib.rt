@@ -17,4 +17,3 @@ pub use rules::{
 };
 pub use save_entry::save;
 pub use save_restore::restore;
-pub use save_rules::Saved;

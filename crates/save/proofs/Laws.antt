@@ -9,6 +9,7 @@ use borrow.Author.Tests.{eq-eqb, ne_eqb, ltb-false}
 use lib.Dec.{eqb, ltb}
 use lib.ListN.{length}
 use lib.Seq.{sets}
+use Rattle.std.specs.Prelude.{Result, Ok, Err}
 use Rattle.proof_lists.specs.Tests.{cond_cases}
 use Rattle.rules.specs.declared.Answer.TheVariants as answer
 use Rattle.rules.specs.declared.Bus.{Bus}
@@ -18,8 +19,6 @@ use Rattle.rules.specs.Refusals.{wrong_length, in_range}
 use Rattle.rules.specs.Runs.{Bench}
 use Rattle.script_text.specs.Letters.{line_of, short_line}
 use Rattle.script_text.proofs.letters.Laws.{Put, at_front, line-length}
-use Rattle.save_rules.specs.declared.Saved.{Saved}
-use Rattle.save_rules.specs.declared.Saved.TheVariants.{Form, Refused}
 use Rattle.save_rules.specs.Form.{form_of}
 use Rattle.save_rules.specs.Saving.{all_quiet, save_of}
 use Rattle.save.specs.declared.Answered.{Answered}
@@ -31,11 +30,11 @@ module _ (x : Bench) (left : ℕ) (out o : List ℕ) where
   unfolding answer_of
   answer-short end h p = rw (ne_eqb left 0 h, p.0, p.1)
 
-  pub answer-form : (n : ℕ) (s : Saved) → left ≡ 0 → save_of x.bus x.memory out ≡ (s, o) → s ≡ Form n → answer_of x left out ≡ (record { end = n; form = true }, o)
+  pub answer-form : (n : ℕ) (s : Result ℕ Refusal) → left ≡ 0 → save_of x.bus x.memory out ≡ (s, o) → s ≡ Ok n → answer_of x left out ≡ (record { end = n; form = true }, o)
   unfolding answer_of saved_answer
   answer-form n s h e f = rw (eq-eqb left 0 h, e, f)
 
-  pub answer-refused : (r : Refusal) (s : Saved) (kept : List ℕ) (end : ℕ) → left ≡ 0 → save_of x.bus x.memory out ≡ (s, kept) → s ≡ Refused r
+  pub answer-refused : (r : Refusal) (s : Result ℕ Refusal) (kept : List ℕ) (end : ℕ) → left ≡ 0 → save_of x.bus x.memory out ≡ (s, kept) → s ≡ Err r
       → Put kept 0 (line_of (answer.Refused r)) end o → answer_of x left out ≡ (record { end = end; form = false }, o)
   unfolding answer_of saved_answer
   answer-refused r s kept end h e f p =
@@ -49,7 +48,7 @@ Lies room a = a.0.end ≤ room
 saved-lies : (b : Bus) (m out : List ℕ) → 4 ≤ length out → Lies (length out) (saved_answer (save_of b m out).0 (save_of b m out).1)
 unfolding save_of saved_answer
 saved-lies b m out h =
-    let P : Saved × List ℕ → Type 0 = λ s. Lies (length out) (saved_answer s.0 s.1) in
+    let P : Result ℕ Refusal × List ℕ → Type 0 = λ s. Lies (length out) (saved_answer s.0 s.1) in
     cond_cases P (wrong_length m) (λ _. omega (arith, line-length (answer.Refused MemoryLength)))
     (λ _. cond_cases P (not (in_range b)) (λ _. omega (arith, line-length (answer.Refused WrongState)))
     (λ _. cond_cases P (not (all_quiet b)) (λ _. omega (arith, line-length (answer.Refused Busy)))

@@ -9,6 +9,7 @@ use borrow.Author.Tests.{lt-ltb, le-ltb, eq-eqb}
 use lib.Dec.{eqb, ltb}
 use lib.ListN.{length, drop, length-append, length-replicate}
 use lib.Seq.{sets, take-append_seam, drop_at}
+use Rattle.std.specs.Prelude.{Err}
 use Rattle.std.specs.List.{list_all}
 use Rattle.proof_lists.specs.Tests.{by-test}
 use Rattle.rules.specs.declared.Bus.{Bus}
@@ -29,7 +30,6 @@ use Rattle.script_turns.specs.Program.{Read, input_of}
 use Rattle.script_turns.proofs.turns.Onward.{bench-in-range, bench-length}
 use Rattle.script_streams.specs.Reading.{Ran, begun}
 use Rattle.script_streams.proofs.reading.Whole.{turns-left}
-use Rattle.save_rules.specs.declared.Saved.TheVariants.{Refused}
 use Rattle.save_rules.specs.Form.{form_of}
 use Rattle.save_rules.specs.Saving.{all_quiet, save_of}
 use Rattle.save_rules.proofs.Back.{saves-form}
@@ -40,7 +40,7 @@ use Rattle.save.specs.Asked.{longest_form, busy_line, bench_text, end_text, save
 use Rattle.save.specs.Program.{Served, fronted, serve_writes, save_writes}
 
 -- a bench in range with its whole memory: it is saved, or refused with 8
-saved-busy : (b : Bus) (m out : List ℕ) → length m ≡ memory_bytes → in_range b ≡ true → all_quiet b ≡ false → save_of b m out ≡ (Refused Busy, out)
+saved-busy : (b : Bus) (m out : List ℕ) → length m ≡ memory_bytes → in_range b ≡ true → all_quiet b ≡ false → save_of b m out ≡ (Err Busy, out)
 unfolding save_of wrong_length
 saved-busy b m out l r q = rw (eq-eqb (length m) memory_bytes l, r, q)
 

@@ -1,8 +1,9 @@
 -- The save program: what it writes for what it reads.
 -- Assumes nothing.
-use Rattle.std.specs.Prelude.{ℕ, ◌%◌, true, false, cond, List, [], ◌∷◌, eqb, ltb, length, drop}
+use Rattle.std.specs.Prelude.{ℕ, ◌%◌, true, false, cond, List, [], ◌∷◌, eqb, ltb, length, drop, Result, Ok, Err}
 use Rattle.std.proofs.lemmas.List.Edits.{sets}
 use Rattle.std.specs.List.{list_all}
+use Rattle.rules.specs.declared.Refusal.{Refusal}
 use Rattle.rules.specs.declared.Answer.TheVariants as answer
 use Rattle.rules.specs.Refusals.{good_pair}
 use Rattle.rules.specs.Runs.{Bench}
@@ -10,8 +11,6 @@ use Rattle.script_text.specs.Records.{pairs_of}
 use Rattle.script_text.specs.Letters.{line_of, short_line}
 use Rattle.script_turns.specs.Frame.{bad_setup_line}
 use Rattle.script_turns.specs.Script.{bench_to, records_in, begun_at}
-use Rattle.save_rules.specs.declared.Saved.{Saved}
-use Rattle.save_rules.specs.declared.Saved.TheVariants.{Form, Refused}
 use Rattle.save_rules.specs.Form.{form_of}
 use Rattle.save_rules.specs.Saving.{all_quiet, save_of}
 use Rattle.script_streams.specs.Written.{Written, on_output, on_errors}
@@ -36,13 +35,13 @@ unfoldable pub end_text : Bench → ℕ → Written
 end_text x left = cond (eqb left 0) (bench_text x) (on_errors short_line)
 
 -- what the code leaves: how much is written of the output, and where, and the output
-unfoldable pub saved_answer : Saved → List ℕ → Answered × List ℕ
-saved_answer (Form n) buffer = (record { end = n; form = true }, buffer)
-saved_answer (Refused r) buffer = (record { end = length (line_of (answer.Refused r)); form = false }, sets buffer 0 (line_of (answer.Refused r)))
+unfoldable pub saved_answer : Result ℕ Refusal → List ℕ → Answered × List ℕ
+saved_answer (Ok n) buffer = (record { end = n; form = true }, buffer)
+saved_answer (Err r) buffer = (record { end = length (line_of (answer.Refused r)); form = false }, sets buffer 0 (line_of (answer.Refused r)))
 
 unfoldable pub answer_of : Bench → ℕ → List ℕ → Answered × List ℕ
 answer_of x left out =
-    let s : Saved × List ℕ = save_of x.bus x.memory out in
+    let s : Result ℕ Refusal × List ℕ = save_of x.bus x.memory out in
     cond (eqb left 0) (saved_answer s.0 s.1) (record { end = length short_line; form = false }, sets out 0 short_line)
 
 -- "standard input is a script (setup and records, memory FFh at the start)"; "`R5` before `short` before `R8`"; a setup that is cut is `short`: all

@@ -10,7 +10,6 @@ ghost use Rattle.save.specs.Asked.{longest_form, answer_of};
 ghost use Rattle.save.specs.Program.{Served};
 
 use rules::{Answer, Bus};
-use save_rules::Saved;
 use script_streams::opening::STDERR_FILENO;
 use std::io::Stdin;
 
@@ -36,10 +35,9 @@ fn answer(bus: Bus, mem: &[u8], left: usize, out: &mut [u8]) -> Answered
         let end = script_text::letters::put_short(out);
         return Answered { end, form: false };
     }
-    let saved = save_entry::save(bus, mem, out);
-    match saved {
-        Saved::Form(n) => Answered { end: n, form: true },
-        Saved::Refused(why) => {
+    match save_entry::save(bus, mem, out) {
+        Ok(end) => Answered { end, form: true },
+        Err(why) => {
             let end = script_text::letters::put_line(out, 0, Answer::Refused(why));
             Answered { end, form: false }
         }

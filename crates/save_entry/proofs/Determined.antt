@@ -7,7 +7,8 @@ use contract.Lifetimes.{Lfts}
 use borrow.Fn.World.{ArgsD, ResD}
 use borrow.Fn.Kinds.{ended_of}
 use denote.Triple.Clauses.{AtExit}
-use Rattle.save_rules.specs.declared.Saved.{Saved}
+use Rattle.std.specs.Prelude.{Result}
+use Rattle.rules.specs.declared.Refusal.{Refusal}
 use Rattle.save_entry.specs.contracts.save as save
 use Rattle.save_entry.proofs.save.Kinds as save_kinds
 use Rattle.save_entry.proofs.save.Reads as save_reads
@@ -17,5 +18,5 @@ pub save-decides : (κs : Lfts 2) (a : ArgsD save.signature κs) (r q : ResD sav
     → save_reads.Post κs a r s → save_reads.Post κs a q o → (r ≡ q) × (s.1.1.0.now ≡ o.1.1.0.now)
 save-decides κs a r q s o p t = both _ _ (sym p ∙ t)
   where
-    both : (x y : Saved × List ℕ) → x ≡ y → (x.0 ≡ y.0) × (x.1 ≡ y.1)
-    both x y e = (ap (λ (z : Saved × List ℕ). z.0) e, ap (λ (z : Saved × List ℕ). z.1) e)
+    both : (x y : Result ℕ Refusal × List ℕ) → x ≡ y → (x.0 ≡ y.0) × (x.1 ≡ y.1)
+    both x y e = (ap (λ (z : Result ℕ Refusal × List ℕ). z.0) e, ap (λ (z : Result ℕ Refusal × List ℕ). z.1) e)

@@ -9,10 +9,13 @@ use native.Mathlib.Omega.{arith}
 use borrow.Author.Tests.{eq-eqb, ne_eqb, lt-ltb, le-ltb}
 use lib.ListN.{length, get_or, take, drop, length-append}
 use lib.Seq.{sets, sets-eq}
+use denote.Enum.Bare.{sameb}
+use Rattle.std.specs.Prelude.{Ok, Err}
 use Rattle.proof_lists.specs.Each.{get_d_any}
 use Rattle.std.specs.List.{list_all}
 use Rattle.proof_lists.specs.Parts.{part, part-flat}
 use Rattle.script_text.proofs.letters.Laws.{Put, put_on}
+use Rattle.rules.specs.contracts.Phase as phase
 use Rattle.rules.specs.declared.Bus.{Bus}
 use Rattle.rules.specs.declared.Phase.{Phase}
 use Rattle.rules.specs.declared.Phase.TheVariants.{Idle, Control, Deaf, MemoryCounter, MemoryData, MemoryRead, HalfSelected, CommandAddress, CommandData, CommandStop, SensorPointer, SensorHigh, SensorLow, SensorReadHigh, SensorReadLow}
@@ -21,30 +24,29 @@ use Rattle.rules.specs.declared.Slot.{Slot}
 use Rattle.rules.specs.Modelled.{slot_count, slot_bytes, memory_bytes}
 use Rattle.rules.specs.Fresh.{absent_slot}
 use Rattle.rules.specs.Refusals.{wrong_length, slot_in_range, in_range}
-use Rattle.save_rules.specs.declared.Saved.TheVariants.{Form, Refused}
 use Rattle.save_rules.specs.Form.{word_of, field_count, field_at, share_of, shares, whole_field, is_there, field_bytes, form_to, form_of}
 use Rattle.save_rules.specs.Reading.{offset, span, begins}
 use Rattle.save_rules.specs.Saving.{is_idle, quiet, all_quiet, save_of}
 use Rattle.save_rules.proofs.Places.{length-shares, length_whole, field-there, field-none, length-field, length-form, length-form_of, offset_up, begins-up}
 
--- any other phase, by its place among the variants, is not idle
-pub not-idle : (p : Phase) → (p ≡ Idle → ⊥) → false ≡ is_idle p
+-- idle, as `==` tells it
+pub idle_same : (p : Phase) → sameb phase.the_type p Idle ≡ is_idle p
 unfolding is_idle
-not-idle Idle h = absurd (h refl)
-not-idle Control h = refl
-not-idle Deaf h = refl
-not-idle MemoryCounter h = refl
-not-idle MemoryData h = refl
-not-idle MemoryRead h = refl
-not-idle HalfSelected h = refl
-not-idle CommandAddress h = refl
-not-idle CommandData h = refl
-not-idle CommandStop h = refl
-not-idle SensorPointer h = refl
-not-idle SensorHigh h = refl
-not-idle SensorLow h = refl
-not-idle SensorReadHigh h = refl
-not-idle SensorReadLow h = refl
+idle_same Idle = refl
+idle_same Control = refl
+idle_same Deaf = refl
+idle_same MemoryCounter = refl
+idle_same MemoryData = refl
+idle_same MemoryRead = refl
+idle_same HalfSelected = refl
+idle_same CommandAddress = refl
+idle_same CommandData = refl
+idle_same CommandStop = refl
+idle_same SensorPointer = refl
+idle_same SensorHigh = refl
+idle_same SensorLow = refl
+idle_same SensorReadHigh = refl
+idle_same SensorReadLow = refl
 
 -- nothing is put yet
 pub shares-none : (t at : ℕ) (ss : List Slot) (m out : List ℕ) → Put out at (shares t 0 ss m) at out
@@ -119,21 +121,21 @@ form-room t ss m l h = omega (arith, length-form ss m l t, length-field ss m l t
 
 -- the entry, row by row
 module _ (b : Bus) (m buffer : List ℕ) where
-  pub save-memory : (length m ≡ memory_bytes → ⊥) → save_of b m buffer ≡ (Refused MemoryLength, buffer)
+  pub save-memory : (length m ≡ memory_bytes → ⊥) → save_of b m buffer ≡ (Err MemoryLength, buffer)
   unfolding save_of wrong_length
   save-memory h = rw (ne_eqb (length m) memory_bytes h)
 
-  pub save-state : (r : Bool) → length m ≡ memory_bytes → r ≡ list_all slot_in_range b.slots → not r ≡ true → save_of b m buffer ≡ (Refused WrongState, buffer)
+  pub save-state : (r : Bool) → length m ≡ memory_bytes → r ≡ list_all slot_in_range b.slots → not r ≡ true → save_of b m buffer ≡ (Err WrongState, buffer)
   unfolding save_of wrong_length in_range
   save-state r sized ranged e = rw (eq-eqb (length m) memory_bytes sized, ← ranged, e)
 
   pub save-busy : (r q : Bool) → length m ≡ memory_bytes → r ≡ list_all slot_in_range b.slots → not r ≡ false → q ≡ list_all quiet b.slots → not q ≡ true
-      → save_of b m buffer ≡ (Refused Busy, buffer)
+      → save_of b m buffer ≡ (Err Busy, buffer)
   unfolding save_of wrong_length in_range all_quiet
   save-busy r q sized ranged e calm f = rw (eq-eqb (length m) memory_bytes sized, ← ranged, e, ← calm, f)
 
   pub save-short : (r q : Bool) (n : ℕ) → length m ≡ memory_bytes → r ≡ list_all slot_in_range b.slots → not r ≡ false → q ≡ list_all quiet b.slots → not q ≡ false
-      → n ≡ begins field_count b.slots → length buffer < n → save_of b m buffer ≡ (Refused TooShort, buffer)
+      → n ≡ begins field_count b.slots → length buffer < n → save_of b m buffer ≡ (Err TooShort, buffer)
   unfolding save_of wrong_length in_range all_quiet
   save-short r q n sized ranged e calm f g h =
       let l : length buffer < length (form_of b m) = omega (arith, length-form_of b m sized) in
@@ -141,11 +143,11 @@ module _ (b : Bus) (m buffer : List ℕ) where
 
   pub save-form : (r q : Bool) (n k : ℕ) (o : List ℕ) → length m ≡ memory_bytes → r ≡ list_all slot_in_range b.slots → not r ≡ false → q ≡ list_all quiet b.slots → not q ≡ false
       → n ≡ begins field_count b.slots → n ≤ length buffer
-      → (k ≡ length (form_to field_count b.slots m)) × (o ≡ sets buffer 0 (form_to field_count b.slots m)) → save_of b m buffer ≡ (Form k, o)
+      → (k ≡ length (form_to field_count b.slots m)) × (o ≡ sets buffer 0 (form_to field_count b.slots m)) → save_of b m buffer ≡ (Ok k, o)
   unfolding save_of wrong_length in_range all_quiet form_of
   save-form r q n k o sized ranged e calm f g h p =
       let form = form_to field_count b.slots m in
       let l : length form ≡ begins field_count b.slots = length-form b.slots m sized field_count in
       let z : 0 + length form ≡ length form = omega arith in
       let s : o ≡ form ++ drop (length form) buffer = p.1 ∙ sets-eq form buffer 0 (omega arith) ∙ ap (λ (j : ℕ). form ++ drop j buffer) z in
-      rw (eq-eqb (length m) memory_bytes sized, ← ranged, e, ← calm, f, le-ltb (length buffer) (length form) (omega arith)) (λ i. (Form (sym p.0 i), sym s i))
+      rw (eq-eqb (length m) memory_bytes sized, ← ranged, e, ← calm, f, le-ltb (length buffer) (length form) (omega arith)) (λ i. (Ok (sym p.0 i), sym s i))

@@ -1,54 +1,59 @@
 // Which fields a saved form has, where they stand, and the shares in them: by the table of fields, the slots' kinds and what they need.
-ghost use Rattle.std.specs.Prelude.{◌≡◌, ◌≤◌};
-ghost use Rattle.save_rules.specs.Form.{is_there};
+ghost use Rattle.std.specs.Prelude.{◌≡◌, ◌≤◌, length};
+ghost use Rattle.rules.specs.Modelled.{slot_count};
+ghost use Rattle.save_rules.specs.Form.{field_count, is_there};
 ghost use Rattle.save_rules.specs.Reading.{offset, span, begins};
+ghost use Rattle.save_fields.specs.Rows.{row_of, taken};
 
-use super::shares;
+use super::shares::Field;
 use rules::Slot;
 
-// Whether the field in row t is there: some slot needs it.
-pub fn is_there(t: usize, slots: [Slot; 8]) -> bool
-    ensures { result ≡ is_there t slots }
-{
-    let mut there = false;
-    for i in 0..8usize {
-        let s = slots[i];
-        there = there | shares::needed(t, s);
+impl Field {
+    // Whether the field is there: some slot needs it.
+    pub fn is_there(self, slots: &[Slot; 8]) -> bool
+        ensures { result ≡ is_there (row_of self) slots.now }
+    {
+        slots.iter().any(|s| self.needed(s))
     }
-    there
+
+    // How many bytes some slots have in the field, the first so many of a bench or all of them.
+    pub fn offset(self, slots: &[Slot]) -> usize
+        requires { length slots.now ≤ slot_count }
+        ensures { result ≡ offset (row_of self) (length slots.now) slots.now }
+    {
+        slots.iter().map(|s| self.size(s)).sum()
+    }
+
+    // How many bytes the field takes: a tag and a length of two bytes before the shares; none if it is not there.
+    pub fn span(self, slots: &[Slot; 8]) -> usize
+        ensures { result ≡ span (row_of self) slots.now }
+    {
+        if self.is_there(slots) {
+            3 + self.offset(slots)
+        } else {
+            0
+        }
+    }
+
+    // Where the field begins: behind those before it.
+    pub fn begins(self, slots: &[Slot; 8]) -> usize
+        ensures { result ≡ begins (row_of self) slots.now }
+    {
+        taken(&Field::ALL[..self.row()], slots)
+    }
 }
 
-// How many bytes slots 0 to k - 1 have in the field in row t.
-pub fn offset(t: usize, slots: [Slot; 8], k: usize) -> usize
-    requires { k ≤ 8 }
-    ensures { result ≡ offset t k slots }
+// How many bytes some of the fields take.
+fn taken(fields: &[Field], slots: &[Slot; 8]) -> usize
+    requires { length fields.now ≤ field_count }
+    ensures { result ≡ taken fields.now slots.now }
 {
-    let mut n = 0;
-    for i in 0..k {
-        let s = slots[i];
-        n += shares::size(t, s.kind);
-    }
-    n
+    fields.iter().map(|field| field.span(slots)).sum()
 }
 
-// How many bytes the field in row t takes: a tag and a length of two bytes before the shares; none if it is not there.
-pub fn span(t: usize, slots: [Slot; 8]) -> usize
-    ensures { result ≡ span t slots }
+// How long a form is.
+pub fn form_length(slots: &[Slot; 8]) -> usize
+    ensures { result ≡ begins field_count slots.now }
 {
-    if is_there(t, slots) {
-        return 3 + offset(t, slots, 8);
-    }
-    0
-}
-
-// Where the field in row t begins: behind those in the rows before it.
-pub fn begins(t: usize, slots: [Slot; 8]) -> usize
-    requires { t ≤ 6 }
-    ensures { result ≡ begins t slots }
-{
-    let mut at = 0;
-    for u in 0..t {
-        at += span(u, slots);
-    }
-    at
+    taken(&Field::ALL, slots)
 }

@@ -1,149 +1,179 @@
-// A slot's share of each field of a saved form: how many bytes it is, put into a lent output, and read from a form. The table of fields stands in the
-// crate `save_rules`, and its rows are 0 to 5; the row of a field is its tag less 1.
-ghost use Rattle.std.specs.Prelude.{◌≡◌, cond, ◌+◌, min, ◌≤◌, eqb, length, get_or};
+// The fields of a saved form, and a slot's share of each: how many bytes, put into a lent output, and read from a form. What each is stands in the
+// crate `save_rules`, in a table whose rows are the fields in this order (`row_of`).
+ghost use Rattle.std.specs.Prelude.{◌≡◌, ◌+◌, ◌^◌, ◌<◌, ◌≤◌, eqb, length, get_or, take};
 ghost use Rattle.std.proofs.lemmas.List.Edits.{sets};
-ghost use Rattle.rules.specs.Modelled.{absent, sensing, older, bytes_of};
-ghost use Rattle.rules.specs.Fields.{with_sensor, with_pending, with_old};
+ghost use Rattle.rules.specs.Modelled.{bytes_of};
+ghost use Rattle.rules.specs.Fields.{with_pending};
 ghost use Rattle.rules.specs.Fresh.{setup_slot};
 ghost use Rattle.script_text.specs.Records.{pair_at};
-ghost use Rattle.save_rules.specs.Form.{word_of, word_at, bits_of, bits_in, state_from, registers_to, sensor_from, older_byte, older_from, field_at, share_of};
+ghost use Rattle.save_rules.specs.Form.{word_of, word_at, bits_of, bits_in, state_from, registers_to, sensor_bytes, sensor_from, older_byte, older_from, field_at, share_of};
+ghost use Rattle.save_fields.specs.Rows.{row_of};
 
 use rules::{Older, Pair, Sensor, Slot};
+use script_text::letters::put;
 
-// The tag of the field in row t.
-pub fn tag(t: usize) -> u8
-    ensures { result ≡ (field_at t).tag }
-{
-    match t {
-        1 => 2,
-        2 => 3,
-        3 => 4,
-        4 => 5,
-        5 => 6,
-        _ => 1,
-    }
-}
-
-// Whether a slot needs the field in row t: P5's every slot, the fifth one with a sensor in which a change is pending, the sixth an older one that is
-// permanently protected or has its pin on.
-pub fn needed(t: usize, s: Slot) -> bool
-    ensures { result ≡ (field_at t).needed s }
-{
-    match t {
-        4 => (s.kind == 2) & s.sensor.pending,
-        5 => (s.kind == 3) & (s.old.permanent | s.old.pin),
-        _ => true,
-    }
-}
-
-// One number where the test holds, and otherwise the other.
-fn choose(test: bool, yes: usize, no: usize) -> usize
-    ensures { result ≡ cond test yes no }
-{
-    if test { yes } else { no }
-}
-
-// The smaller of two numbers.
-fn least(a: usize, b: usize) -> usize
-    ensures { result ≡ min a b }
-{
-    if a < b { a } else { b }
+// Each numbered by its tag.
+#[derive(Clone, Copy, PartialEq, Eq)]
+pub enum Field {
+    // A slot's kind and length.
+    Setup = 1,
+    // Its memory: its own bytes.
+    Memory,
+    // Its protection, half, counter and high voltage.
+    State,
+    // The sensor's pointer and registers.
+    Sensor,
+    // Whether a change is pending in the sensor.
+    Pending,
+    // Whether an older slot is permanently protected, and its pin.
+    Older,
 }
 
 // The bytes of an older slot.
 const OLDER: usize = 256;
 
 // How many bytes of its 512 are a slot's own.
-fn own_bytes(kind: u8) -> usize
-    ensures { result ≡ bytes_of kind }
+#[tactic(auto, unfolding(crate::proofs::Open::table))]
+fn own_bytes(s: &Slot) -> usize
+    ensures { result ≡ bytes_of s.now.kind }
 {
-    choose(kind == 3, OLDER, Slot::BYTES)
+    if s.is_older() { OLDER } else { Slot::BYTES }
 }
 
-// How many bytes a slot of a kind has in the field in row t.
-pub fn size(t: usize, kind: u8) -> usize
-    ensures { result ≡ (field_at t).size kind }
-{
-    match t {
-        1 => choose(kind == 0, 0, own_bytes(kind)),
-        2 => choose(kind == 0, 0, 4),
-        3 => choose(kind == 2, 15, 0),
-        4 => choose(kind == 2, 1, 0),
-        5 => choose(kind == 3, 1, 0),
-        _ => 2,
+impl Field {
+    // As they stand in the form.
+    pub const ALL: [Field; 6] = [
+        Field::Setup,
+        Field::Memory,
+        Field::State,
+        Field::Sensor,
+        Field::Pending,
+        Field::Older,
+    ];
+
+    #[tactic(auto, unfolding(crate::proofs::Open::table))]
+    pub fn tag(self) -> u8
+        ensures { result ≡ (field_at (row_of self)).tag }
+    {
+        self as u8
+    }
+
+    // How many fields stand before it in the table.
+    pub fn row(self) -> usize
+        ensures { result ≡ row_of self }
+    {
+        self as usize - 1
+    }
+
+    // Whether a slot needs the field: P5's every slot, the fifth one with a sensor in which a change is pending, the sixth an older one that is
+    // permanently protected or has its pin on.
+    #[tactic(auto, unfolding(crate::proofs::Open::table))]
+    pub fn needed(self, s: &Slot) -> bool
+        ensures { result ≡ (field_at (row_of self)).needed s.now }
+    {
+        match self {
+            Field::Pending => s.has_sensor() & s.sensor.pending,
+            Field::Older => s.is_older() & (s.old.permanent | s.old.pin),
+            _ => true,
+        }
+    }
+
+    // How many bytes a slot has in the field; its kind alone says so.
+    #[tactic(auto, unfolding(crate::proofs::Open::table))]
+    pub fn size(self, s: &Slot) -> usize
+        ensures { result ≡ (field_at (row_of self)).size s.now.kind }
+    {
+        match self {
+            Field::Setup => 2,
+            Field::Memory if !s.is_absent() => own_bytes(s),
+            Field::State if !s.is_absent() => 4,
+            Field::Sensor if s.has_sensor() => 15,
+            Field::Pending if s.has_sensor() => 1,
+            Field::Older if s.is_older() => 1,
+            _ => 0,
+        }
+    }
+
+    // A slot's share, with the slot's memory, put at a place; the place after it.
+    #[tactic(auto, unfolding(crate::proofs::Open::table))]
+    pub fn put(self, s: &Slot, memory: &[u8], out: &mut [u8], at: usize) -> usize
+        requires { at + length (share_of (row_of self) s.now memory.now) ≤ length out.old }
+        ensures { (result ≡ at + length (share_of (row_of self) s.now memory.now))
+            × (out.new ≡ sets out.old at (share_of (row_of self) s.now memory.now)) }
+    {
+        match self {
+            Field::Setup => put(out, at, &[s.kind, s.length]),
+            Field::Memory if !s.is_absent() => put(out, at, front(memory, own_bytes(s))),
+            Field::State if !s.is_absent() => put(
+                out,
+                at,
+                &[bits(&s.protection), s.half, s.counter, u8::from(s.voltage)],
+            ),
+            Field::Sensor if s.has_sensor() => put_sensor(s.sensor, out, at),
+            Field::Pending if s.has_sensor() => put(out, at, &[u8::from(s.sensor.pending)]),
+            Field::Older if s.is_older() => put(out, at, &[older_byte(s.old)]),
+            _ => at,
+        }
+    }
+
+    // A slot with what its share, from a place of a form on, says of it.
+    #[tactic(auto, unfolding(crate::proofs::Open::table))]
+    pub fn read(self, form: &[u8], at: usize, s: Slot) -> Slot
+        requires { at ≤ 65520 }
+        ensures { result ≡ (field_at (row_of self)).reads form.now at s }
+    {
+        match self {
+            Field::Setup => read_setup(form, at),
+            Field::State if !s.is_absent() => read_state(form, at, s),
+            Field::Sensor if s.has_sensor() => Slot {
+                sensor: sensor_at(form, at),
+                ..s
+            },
+            Field::Pending if s.has_sensor() => Slot {
+                sensor: pending_at(form, at, s.sensor),
+                ..s
+            },
+            Field::Older if s.is_older() => Slot {
+                old: older_at(form, at),
+                ..s
+            },
+            _ => s,
+        }
     }
 }
 
-// A number of two bytes, the high byte first, put at a place; the place after it.
-pub fn put_word(out: &mut [u8], at: usize, v: u16) -> usize
-    requires { at + 2 ≤ length out.old }
-    ensures { (result ≡ at + 2) × (out.new ≡ sets out.old at (word_of v)) }
+// The first so many bytes of some, or all of them.
+fn front(bytes: &[u8], count: usize) -> &[u8]
+    ensures { result.now ≡ take count bytes.now }
 {
-    script_text::letters::put_two(out, at, (v / 256) as u8, (v % 256) as u8)
+    &bytes[..count.min(bytes.len())]
 }
 
-// One or none.
-fn bit(on: bool) -> u8
-    ensures { (result ≡ cond on 1 0) × (result ≤ 1) }
+// A number of two bytes, the high byte first.
+#[tactic(auto, unfolding(save_rules::specs::Form::word_of))]
+pub fn word(v: u16) -> [u8; 2]
+    ensures { result ≡ word_of v }
 {
-    if on { 1 } else { 0 }
+    v.to_be_bytes()
 }
 
-// Four blocks as bits of a byte, block b as bit b.
-fn bits(blocks: [bool; 4]) -> u8
-    ensures { result ≡ bits_of blocks }
+// Up to eight bits as a byte, the lowest first.
+fn bits(on: &[bool]) -> u8
+    requires { length on.now ≤ 8 }
+    ensures { (result ≡ bits_of on.now) × (result < 2 ^ length on.now) }
 {
-    bit(blocks[0]) + 2 * (bit(blocks[1]) + 2 * (bit(blocks[2]) + 2 * bit(blocks[3])))
-}
-
-// The four lowest bits of a byte as blocks.
-fn bits_in(v: u8) -> [bool; 4]
-    ensures { result ≡ bits_in 4 v }
-{
-    [
-        v % 2 == 1,
-        v / 2 % 2 == 1,
-        v / 2 / 2 % 2 == 1,
-        v / 2 / 2 / 2 % 2 == 1,
-    ]
-}
-
-// A slot's kind and length.
-fn put_setup(s: Slot, memory: &[u8], out: &mut [u8], at: usize) -> usize
-    requires { at + length (share_of 0 s memory.now) ≤ length out.old }
-    ensures { (result ≡ at + length (share_of 0 s memory.now))
-        × (out.new ≡ sets out.old at (share_of 0 s memory.now)) }
-{
-    script_text::letters::put_two(out, at, s.kind, s.length)
-}
-
-// Its memory: its own bytes.
-fn put_memory(s: Slot, memory: &[u8], out: &mut [u8], at: usize) -> usize
-    requires { at + length (share_of 1 s memory.now) ≤ length out.old }
-    ensures { (result ≡ at + length (share_of 1 s memory.now))
-        × (out.new ≡ sets out.old at (share_of 1 s memory.now)) }
-{
-    if s.kind == 0 {
-        return at;
+    match on {
+        [] => 0,
+        [first, rest @ ..] => u8::from(*first) + 2 * bits(rest),
     }
-    let n = least(memory.len(), own_bytes(s.kind));
-    let to = at + n;
-    out[at..to].copy_from_slice(&memory[..n]);
-    to
 }
 
-// Its protection, half, counter and high voltage.
-fn put_state(s: Slot, memory: &[u8], out: &mut [u8], at: usize) -> usize
-    requires { at + length (share_of 2 s memory.now) ≤ length out.old }
-    ensures { (result ≡ at + length (share_of 2 s memory.now))
-        × (out.new ≡ sets out.old at (share_of 2 s memory.now)) }
+// The lowest bits of a byte.
+fn bits_in<const N: usize>(v: u8) -> [bool; N]
+    requires { N ≤ 8 }
+    ensures { result ≡ bits_in N v }
 {
-    if s.kind == 0 {
-        return at;
-    }
-    let blocks = s.protection;
-    let half = script_text::letters::put_two(out, at, bits(blocks), s.half);
-    script_text::letters::put_two(out, half, s.counter, bit(s.voltage))
+    std::array::from_fn(|k| (v >> k) % 2 == 1)
 }
 
 // The registers that are saved.
@@ -154,92 +184,49 @@ fn put_registers(x: Sensor, out: &mut [u8], at: usize) -> usize
     ensures { (result ≡ at + length (registers_to 7 x)) × (out.new ≡ sets out.old at (registers_to 7 x)) }
 {
     let mut end = at;
-    for i in 0..7usize {
-        end = put_word(out, end, bus_sensor::registers::register(x, SAVED[i]));
+    for register in SAVED {
+        end = put(
+            out,
+            end,
+            &word(bus_sensor::registers::register(x, register)),
+        );
     }
     end
 }
 
-// The sensor's pointer and registers.
-fn put_sensor(s: Slot, memory: &[u8], out: &mut [u8], at: usize) -> usize
-    requires { at + length (share_of 3 s memory.now) ≤ length out.old }
-    ensures { (result ≡ at + length (share_of 3 s memory.now))
-        × (out.new ≡ sets out.old at (share_of 3 s memory.now)) }
+fn put_sensor(x: Sensor, out: &mut [u8], at: usize) -> usize
+    requires { at + 15 ≤ length out.old }
+    ensures { (result ≡ at + length (sensor_bytes x)) × (out.new ≡ sets out.old at (sensor_bytes x)) }
 {
-    if s.kind != 2 {
-        return at;
-    }
-    let x = s.sensor;
-    let end = script_text::letters::put_one(out, at, x.pointer);
-    put_registers(x, out, end)
-}
-
-// Whether a change is pending in the sensor.
-fn put_pending(s: Slot, memory: &[u8], out: &mut [u8], at: usize) -> usize
-    requires { at + length (share_of 4 s memory.now) ≤ length out.old }
-    ensures { (result ≡ at + length (share_of 4 s memory.now))
-        × (out.new ≡ sets out.old at (share_of 4 s memory.now)) }
-{
-    if s.kind != 2 {
-        return at;
-    }
-    script_text::letters::put_one(out, at, bit(s.sensor.pending))
+    let registers = put(out, at, &[x.pointer]);
+    put_registers(x, out, registers)
 }
 
 // Whether an older slot is permanently protected, and its pin.
 fn older_byte(old: Older) -> u8
     ensures { result ≡ older_byte old }
 {
-    bit(old.permanent) + 2 * bit(old.pin)
-}
-
-fn put_older(s: Slot, memory: &[u8], out: &mut [u8], at: usize) -> usize
-    requires { at + length (share_of 5 s memory.now) ≤ length out.old }
-    ensures { (result ≡ at + length (share_of 5 s memory.now))
-        × (out.new ≡ sets out.old at (share_of 5 s memory.now)) }
-{
-    if s.kind != 3 {
-        return at;
-    }
-    let old = s.old;
-    script_text::letters::put_one(out, at, older_byte(old))
-}
-
-// A slot's share of the field in row t, with the slot's memory, put at a place; the place after it.
-pub fn put(t: usize, s: Slot, memory: &[u8], out: &mut [u8], at: usize) -> usize
-    requires { at + length (share_of t s memory.now) ≤ length out.old }
-    ensures { (result ≡ at + length (share_of t s memory.now))
-        × (out.new ≡ sets out.old at (share_of t s memory.now)) }
-{
-    match t {
-        1 => put_memory(s, memory, out, at),
-        2 => put_state(s, memory, out, at),
-        3 => put_sensor(s, memory, out, at),
-        4 => put_pending(s, memory, out, at),
-        5 => put_older(s, memory, out, at),
-        _ => put_setup(s, memory, out, at),
-    }
+    bits(&[old.permanent, old.pin])
 }
 
 // The byte at a place of a form, and 0 behind its end.
 pub fn byte_at(form: &[u8], at: usize) -> u8
     ensures { result ≡ get_or form.now at 0 }
 {
-    if at < form.len() {
-        return form[at];
-    }
-    0
+    form.get(at).copied().unwrap_or(0)
 }
 
 // The number of two bytes there.
+#[tactic(auto, unfolding(save_rules::specs::Form::word_at))]
 fn word_at(form: &[u8], at: usize) -> u16
     requires { at ≤ 65536 }
     ensures { result ≡ word_at form.now at }
 {
-    256 * (byte_at(form, at) as u16) + (byte_at(form, at + 1) as u16)
+    u16::from_be_bytes([byte_at(form, at), byte_at(form, at + 1)])
 }
 
 // A fresh slot of the kind and length there.
+#[tactic(auto, unfolding(script_text::specs::Records::pair_at))]
 fn read_setup(form: &[u8], at: usize) -> Slot
     requires { at ≤ 65536 }
     ensures { result ≡ setup_slot (pair_at form.now at) }
@@ -252,26 +239,19 @@ fn read_setup(form: &[u8], at: usize) -> Slot
 // A slot with the protection, half, counter and high voltage there.
 fn read_state(form: &[u8], at: usize, s: Slot) -> Slot
     requires { at ≤ 65536 }
-    ensures { result ≡ cond (absent s) s (state_from form.now at s) }
+    ensures { result ≡ state_from form.now at s }
 {
-    if s.kind == 0 {
-        return s;
-    }
     let protection = bits_in(byte_at(form, at));
-    let half = byte_at(form, at + 1);
-    let counter = byte_at(form, at + 2);
-    let voltage = byte_at(form, at + 3) == 1;
-    let was = s.old;
     let old = Older {
         lasting: false,
-        ..was
+        ..s.old
     };
     Slot {
-        half,
-        counter,
+        half: byte_at(form, at + 1),
+        counter: byte_at(form, at + 2),
         protection,
         coming: protection,
-        voltage,
+        voltage: byte_at(form, at + 3) == 1,
         old,
         ..s
     }
@@ -282,80 +262,39 @@ fn sensor_at(form: &[u8], at: usize) -> Sensor
     requires { at ≤ 65520 }
     ensures { result ≡ sensor_from form.now at }
 {
-    let pointer = byte_at(form, at);
-    let configuration = word_at(form, at + 1);
-    let high = word_at(form, at + 3);
-    let low = word_at(form, at + 5);
-    let critical = word_at(form, at + 7);
-    let temperature = word_at(form, at + 9);
-    let resolution = byte_at(form, at + 12);
-    let timeout = byte_at(form, at + 14);
     Sensor {
-        pointer,
-        configuration,
-        high,
-        low,
-        critical,
-        temperature,
-        resolution,
-        timeout,
+        pointer: byte_at(form, at),
+        configuration: word_at(form, at + 1),
+        high: word_at(form, at + 3),
+        low: word_at(form, at + 5),
+        critical: word_at(form, at + 7),
+        temperature: word_at(form, at + 9),
+        resolution: byte_at(form, at + 12),
+        timeout: byte_at(form, at + 14),
         word: 0,
         pending: false,
     }
 }
 
-// A slot with the sensor there, if it has one.
-fn read_sensor(form: &[u8], at: usize, s: Slot) -> Slot
-    requires { at ≤ 65520 }
-    ensures { result ≡ cond (sensing s) (with_sensor (sensor_from form.now at) s) s }
+// A slot's sensor with what is pending there.
+#[tactic(auto, unfolding(rules::specs::Fields::with_pending))]
+fn pending_at(form: &[u8], at: usize, x: Sensor) -> Sensor
+    ensures { result ≡ with_pending (eqb (get_or form.now at 0) 1) x }
 {
-    if s.kind != 2 {
-        return s;
+    Sensor {
+        pending: byte_at(form, at) == 1,
+        ..x
     }
-    let sensor = sensor_at(form, at);
-    Slot { sensor, ..s }
 }
 
-// A slot with what is pending there, if it has a sensor.
-fn read_pending(form: &[u8], at: usize, s: Slot) -> Slot
-    ensures { result ≡ cond (sensing s) (with_sensor (with_pending (eqb (get_or form.now at 0) 1) s.sensor) s) s }
+// What is permanent there, and the pin.
+fn older_at(form: &[u8], at: usize) -> Older
+    ensures { result ≡ older_from (get_or form.now at 0) }
 {
-    if s.kind != 2 {
-        return s;
-    }
-    let pending = byte_at(form, at) == 1;
-    let old = s.sensor;
-    let sensor = Sensor { pending, ..old };
-    Slot { sensor, ..s }
-}
-
-// A slot with what is permanent there, and its pin, if it is an older one.
-fn read_older(form: &[u8], at: usize, s: Slot) -> Slot
-    ensures { result ≡ cond (older s) (with_old (older_from (get_or form.now at 0)) s) s }
-{
-    if s.kind != 3 {
-        return s;
-    }
-    let v = byte_at(form, at);
-    let old = Older {
-        permanent: v % 2 == 1,
+    let [permanent, pin] = bits_in::<2>(byte_at(form, at));
+    Older {
+        permanent,
         lasting: false,
-        pin: v / 2 % 2 == 1,
-    };
-    Slot { old, ..s }
-}
-
-// A slot with what its share of the field in row t, from a place of a form on, says of it.
-pub fn read(t: usize, form: &[u8], at: usize, s: Slot) -> Slot
-    requires { at ≤ 65520 }
-    ensures { result ≡ (field_at t).reads form.now at s }
-{
-    match t {
-        1 => s,
-        2 => read_state(form, at, s),
-        3 => read_sensor(form, at, s),
-        4 => read_pending(form, at, s),
-        5 => read_older(form, at, s),
-        _ => read_setup(form, at),
+        pin,
     }
 }

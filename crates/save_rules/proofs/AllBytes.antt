@@ -6,7 +6,9 @@ use mathlib.Core.Path.{◌≡◌, refl}
 use mathlib.Core.Bool.{Bool, true, false}
 use mathlib.Core.List.{List, [], ◌∷◌, map, ◌++◌}
 use lib.ListN.{take, set, replicate}
+use Rattle.std.specs.Prelude.{Result, Ok, Err}
 use Rattle.proof_lists.specs.Each.{map_from}
+use Rattle.rules.specs.declared.Refusal.{Refusal}
 use Rattle.rules.specs.declared.Answer.TheVariants as answer
 use Rattle.rules.specs.declared.Bus.{Bus}
 use Rattle.rules.specs.declared.Phase.TheVariants.{Control, Deaf}
@@ -18,8 +20,6 @@ use Rattle.rules.specs.Events.{refusal_number}
 use Rattle.rules.specs.Refusals.{wrong_length}
 use Rattle.rules.specs.Fields.{in_phase, with_left, pointing, with_configuration, with_pending}
 use Rattle.rules.specs.Fresh.{no_blocks, fresh_sensor, fresh_older, absent_slot, at_rest}
-use Rattle.save_rules.specs.declared.Saved.{Saved}
-use Rattle.save_rules.specs.declared.Saved.TheVariants.{Form, Refused}
 use Rattle.save_rules.specs.Form.{form_of}
 use Rattle.save_rules.specs.Saving.{save_of, saved_number, saved_value}
 use Rattle.save_rules.specs.Reading.{bus_in, memory_in, accepted, restore_of}
@@ -53,7 +53,7 @@ blank = replicate memory_bytes 0
 -- what it is saved as, bytes past the form staying; that this is accepted; and what it restores to, bytes of absent slots staying
 pub record Sample : Type 0 where
   pub form : form_of sample_bus sample_memory ≡ sample_form
-  pub saved : save_of sample_bus sample_memory (replicate 1080 0xEE) ≡ (Form 1075, sample_form ++ replicate 5 0xEE)
+  pub saved : save_of sample_bus sample_memory (replicate 1080 0xEE) ≡ (Ok 1075, sample_form ++ replicate 5 0xEE)
   pub accepts : accepted sample_form blank ≡ true
   pub bus : bus_in sample_form ≡ sample_bus
   pub memory : memory_in sample_form blank ≡ replicate 512 0xA0 ++ replicate 512 0 ++ replicate 512 0xA2 ++ replicate 2560 0
@@ -135,14 +135,14 @@ abbrev with_slots : Slot → Slot → Bus
 with_slots s r = record { slots = s ∷ r ∷ replicate 6 absent_slot }
 
 pub record Savings : Type 0 where
-  pub in-cycle : save_of (with_slots absent_slot (with_left 1 memory_one)) blank [] ≡ (Refused Busy, [])
-  pub in-exchange : save_of (with_slots absent_slot (in_phase Control memory_one)) blank [] ≡ (Refused Busy, [])
-  pub deaf : save_of (with_slots absent_slot (in_phase Deaf memory_one)) blank [] ≡ (Refused Busy, [])
-  pub wrong-memory : save_of (with_slots absent_slot (with_left 9 memory_one)) [] [] ≡ (Refused MemoryLength, [])
-  pub wrong-state : save_of (with_slots absent_slot (with_left 9 memory_one)) blank [] ≡ (Refused WrongState, [])
-  pub short : save_of (with_slots (in_phase Deaf absent_slot) memory_one) blank (replicate 543 0xEE) ≡ (Refused TooShort, replicate 543 0xEE)
-  pub long-enough : (save_of (with_slots (in_phase Deaf absent_slot) memory_one) blank (replicate 544 0xEE)).0 ≡ Form 544
-  pub none : (save_of (with_slots absent_slot absent_slot) blank (replicate 28 0xEE)).0 ≡ Form 28
+  pub in-cycle : save_of (with_slots absent_slot (with_left 1 memory_one)) blank [] ≡ (Err Busy, [])
+  pub in-exchange : save_of (with_slots absent_slot (in_phase Control memory_one)) blank [] ≡ (Err Busy, [])
+  pub deaf : save_of (with_slots absent_slot (in_phase Deaf memory_one)) blank [] ≡ (Err Busy, [])
+  pub wrong-memory : save_of (with_slots absent_slot (with_left 9 memory_one)) [] [] ≡ (Err MemoryLength, [])
+  pub wrong-state : save_of (with_slots absent_slot (with_left 9 memory_one)) blank [] ≡ (Err WrongState, [])
+  pub short : save_of (with_slots (in_phase Deaf absent_slot) memory_one) blank (replicate 543 0xEE) ≡ (Err TooShort, replicate 543 0xEE)
+  pub long-enough : (save_of (with_slots (in_phase Deaf absent_slot) memory_one) blank (replicate 544 0xEE)).0 ≡ Ok 544
+  pub none : (save_of (with_slots absent_slot absent_slot) blank (replicate 28 0xEE)).0 ≡ Ok 28
 
 pub savings : Savings
 unfolding open-saved
@@ -369,7 +369,7 @@ readings = record {
 }
 
 -- The number and the value of each result of saving.
-pub numbers : map {B = ℕ × ℕ} (λ (r : Saved). (saved_number r, saved_value r)) (Refused MemoryLength ∷ Refused WrongState ∷ Refused Busy ∷ Refused TooShort ∷ Form 1075 ∷ [])
+pub numbers : map {B = ℕ × ℕ} (λ (r : Result ℕ Refusal). (saved_number r, saved_value r)) (Err MemoryLength ∷ Err WrongState ∷ Err Busy ∷ Err TooShort ∷ Ok 1075 ∷ [])
     ≡ (1, 0) ∷ (6, 0) ∷ (8, 0) ∷ (9, 0) ∷ (0, 1075) ∷ []
 unfolding saved_number saved_value refusal_number
 numbers = refl
@@ -403,10 +403,10 @@ abbrev full_form : List ℕ
 full_form = calm_form ++ 0x05 ∷ 0x00 ∷ 0x08 ∷ 1 ∷ 1 ∷ 0 ∷ 1 ∷ 0 ∷ 0 ∷ 0 ∷ 1 ∷ []
 
 pub record Full : Type 0 where
-  pub saved : save_of full_bus full_memory (replicate 4287 0xEE) ≡ (Form 4287, full_form)
-  pub short : save_of full_bus full_memory (replicate 4286 0xEE) ≡ (Refused TooShort, replicate 4286 0xEE)
+  pub saved : save_of full_bus full_memory (replicate 4287 0xEE) ≡ (Ok 4287, full_form)
+  pub short : save_of full_bus full_memory (replicate 4286 0xEE) ≡ (Err TooShort, replicate 4286 0xEE)
   pub bus : bus_in full_form ≡ full_bus
-  pub calm-saved : save_of calm_bus full_memory (replicate 4276 0xEE) ≡ (Form 4276, calm_form)
+  pub calm-saved : save_of calm_bus full_memory (replicate 4276 0xEE) ≡ (Ok 4276, calm_form)
   pub calm-bus : bus_in calm_form ≡ calm_bus
 
 pub full : Full

@@ -9,11 +9,13 @@ use lib.Dec.{eqb}
 use lib.ListN.{length, get_or, take, drop, length-take, get_or-replicate, length-map, get_or-map}
 use lib.Seq.{ext_get_or, take_all, take_at, drop_at, take-append_seam}
 use borrow.Author.Tests.{eq-eqb, le-ltb}
+use Rattle.std.specs.Prelude.{Result, Ok}
 use Rattle.proof_lists.specs.Alike.{list_all-map}
 use Rattle.proof_lists.specs.Each.{list_all-at, every-at}
 use Rattle.proof_lists.specs.Parts.{part}
 use Rattle.proof_lists.specs.Same.{same, same_refl}
 use Rattle.proof_lists.specs.Tests.{by-test, both}
+use Rattle.rules.specs.declared.Refusal.{Refusal}
 use Rattle.rules.specs.declared.Answer.TheVariants as answer
 use Rattle.rules.specs.declared.Bus.{Bus}
 use Rattle.rules.specs.declared.Slot.{Slot}
@@ -21,8 +23,6 @@ use Rattle.rules.specs.Modelled.{slot_count, slot_bytes, memory_bytes, absent, o
 use Rattle.rules.specs.Fresh.{fresh_slot, absent_slot}
 use Rattle.rules.specs.Refusals.{wrong_length, slot_in_range, in_range}
 use Rattle.rules.proofs.Range.Kept.{InRange, facts, test}
-use Rattle.save_rules.specs.declared.Saved.{Saved}
-use Rattle.save_rules.specs.declared.Saved.TheVariants.{Form}
 use Rattle.save_rules.specs.Form.{field_count, field_at, share_of, is_there, form_of}
 use Rattle.save_rules.specs.Saving.{all_quiet, save_of, saved_value}
 use Rattle.save_rules.specs.Reading.{size_in, begins, place, tagged, read_to, bus_in, memory_row, memory_in, accepted, restore_of}
@@ -209,7 +209,7 @@ reads-back b m n t r l w = record {
 
 -- a bench that nothing refuses, saved into a buffer with room; and a form that is accepted, read
 pub saves-form : (b : Bus) (m buffer : List ℕ) → length m ≡ memory_bytes → in_range b ≡ true → all_quiet b ≡ true → length (form_of b m) ≤ length buffer
-    → save_of b m buffer ≡ (Form (length (form_of b m)), form_of b m ++ drop (length (form_of b m)) buffer)
+    → save_of b m buffer ≡ (Ok (length (form_of b m)), form_of b m ++ drop (length (form_of b m)) buffer)
 unfolding save_of wrong_length
 saves-form b m buffer l r q room = rw (eq-eqb (length m) memory_bytes l, r, q, le-ltb (length buffer) (length (form_of b m)) room)
 
@@ -221,7 +221,7 @@ restores-form c n f l a = rw (eq-eqb (length n) memory_bytes l, a)
 -- The same of the two entries: saving into a buffer with room gives the form's length and the form at the buffer's front, and reading these bytes back,
 -- on any bus with any memory, gives that bench.
 pub record RoundTrip (b c : Bus) (m n buffer : List ℕ) : Type 0 where
-  pub saves : save_of b m buffer ≡ (Form (length (form_of b m)), form_of b m ++ drop (length (form_of b m)) buffer)
+  pub saves : save_of b m buffer ≡ (Ok (length (form_of b m)), form_of b m ++ drop (length (form_of b m)) buffer)
   pub front : take (saved_value (save_of b m buffer).0) (save_of b m buffer).1 ≡ form_of b m
   pub restores : restore_of c n (form_of b m) ≡ (record { bus = rested_bus b; answer = answer.Nothing }, memory_in (form_of b m) n)
 
@@ -230,10 +230,10 @@ pub round_trip : (b c : Bus) (m n buffer : List ℕ) → Typed b → in_range b 
 unfolding saved_value
 round_trip b c m n buffer t r q l w room =
     let f = form_of b m in
-    let s : save_of b m buffer ≡ (Form (length f), f ++ drop (length f) buffer) = saves-form b m buffer l r q room in
+    let s : save_of b m buffer ≡ (Ok (length f), f ++ drop (length f) buffer) = saves-form b m buffer l r q room in
     let back : ReadsBack b m n = reads-back b m n t r l w in
     record {
       saves = s;
-      front = ap (λ (o : Saved × List ℕ). take (saved_value o.0) o.1) s ∙ take-append_seam f (drop (length f) buffer);
+      front = ap (λ (o : Result ℕ Refusal × List ℕ). take (saved_value o.0) o.1) s ∙ take-append_seam f (drop (length f) buffer);
       restores = restores-form c n f w back.accepts ∙ (λ i. (record { bus = back.bus i; answer = answer.Nothing }, memory_in f n));
     }

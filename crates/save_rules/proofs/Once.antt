@@ -6,6 +6,7 @@ use mathlib.Core.Bool.{true, or-true}
 use mathlib.Core.List.{List, [], ◌∷◌, map, ◌++◌}
 use lib.Dec.{eqb}
 use lib.ListN.{length, get_or, drop}
+use Rattle.std.specs.Prelude.{Ok}
 use Rattle.proof_lists.specs.Each.{Every, every-map_from, every-replicate}
 use Rattle.std.specs.List.{list_all}
 use Rattle.proof_lists.specs.Same.{same, same-eq}
@@ -17,7 +18,6 @@ use Rattle.rules.specs.Open.{open-fields}
 use Rattle.rules.specs.Fresh.{fresh_slot, setup_slot, absent_slot, at_rest}
 use Rattle.rules.specs.Refusals.{in_range}
 use Rattle.rules.specs.Runs.{Bench}
-use Rattle.save_rules.specs.declared.Saved.TheVariants.{Form}
 use Rattle.save_rules.specs.Form.{setup_field, memory_field, state_from, state_field, sensor_field, pending_field, older_field, fields, field_count, field_at, form_of}
 use Rattle.save_rules.specs.Saving.{is_idle, quiet, all_quiet, save_of}
 use Rattle.save_rules.specs.Reading.{begins, place, tagged, read_shares, read_field, read_to, bus_in, memory_in, restored, accepted}
@@ -96,11 +96,11 @@ module _ (f n : List ℕ) (accepts : accepted f n ≡ true) where
     restored-quiet = ap (λ (b : Bus). list_all quiet b.slots) restored-rested ∙ all-quiet (bus_in f).slots
 
     -- Saving the restored bench gives the same form again, into every buffer with room for it.
-    pub saved-again : (buffer : List ℕ) → length f ≤ length buffer → save_of (restored f n).bus (restored f n).memory buffer ≡ (Form (length f), f ++ drop (length f) buffer)
+    pub saved-again : (buffer : List ℕ) → length f ≤ length buffer → save_of (restored f n).bus (restored f n).memory buffer ≡ (Ok (length f), f ++ drop (length f) buffer)
     unfolding restored
     saved-again buffer room =
         saves-form (bus_in f) (memory_in f n) buffer length-restored accepted-in-range restored-quiet (rw written-again room)
-        ∙ ap (λ (g : List ℕ). (Form (length g), g ++ drop (length g) buffer)) written-again
+        ∙ ap (λ (g : List ℕ). (Ok (length g), g ++ drop (length g) buffer)) written-again
 
     accepted-elsewhere : (o : List ℕ) → length o ≡ memory_bytes → accepted f o ≡ true
     unfolding restored

@@ -10,7 +10,9 @@ use lib.Dec.{eqb, ltb}
 use lib.ListN.{length, drop, length-append, length-drop}
 use lib.Seq.{drop-append_seam}
 use borrow.Author.Tests.{eqb-true, ltb-false}
+use Rattle.std.specs.Prelude.{Result}
 use Rattle.proof_lists.specs.Tests.{cond_cases, by-test, and_left, and_right}
+use Rattle.rules.specs.declared.Refusal.{Refusal}
 use Rattle.rules.specs.declared.Bus.{Bus}
 use Rattle.rules.specs.declared.Phase.{Phase}
 use Rattle.rules.specs.declared.Phase.TheVariants.{Idle, Control, Deaf, MemoryCounter, MemoryData, MemoryRead, HalfSelected, CommandAddress, CommandData, CommandStop, SensorPointer, SensorHigh, SensorLow, SensorReadHigh, SensorReadLow}
@@ -18,7 +20,6 @@ use Rattle.rules.specs.declared.Slot.{Slot}
 use Rattle.rules.specs.Modelled.{absent}
 use Rattle.rules.specs.Events.{refusal_number}
 use Rattle.rules.specs.Refusals.{wrong_length, in_range}
-use Rattle.save_rules.specs.declared.Saved.{Saved}
 use Rattle.save_rules.specs.Form.{form_of}
 use Rattle.save_rules.specs.Saving.{is_idle, quiet, all_quiet, save_of, saved_number, saved_value}
 
@@ -65,7 +66,7 @@ saving-number b m buffer = by-test (wrong_length m) (λ e. rw e) λ e.
 
 -- Refused or not, the bytes from the returned value on stay: all of the buffer where it is refused, and those past the form where it is not. And the
 -- buffer stays as long as it was.
-pub record Stays (buffer : List ℕ) (o : Saved × List ℕ) : Type 0 where
+pub record Stays (buffer : List ℕ) (o : Result ℕ Refusal × List ℕ) : Type 0 where
   pub rest : drop (saved_value o.0) o.1 ≡ drop (saved_value o.0) buffer
   pub long : length o.1 ≡ length buffer
 
@@ -81,5 +82,5 @@ saving-stays b m buffer =
     let l : length f ≤ length buffer = ltb-false (length buffer) (length f) e in
     record { rest = drop-append_seam f (drop (length f) buffer); long = rw (length-append, length-drop) (omega arith) })
   where
-    kept : {r : Saved} → Stays buffer (r, buffer)
+    kept : {r : Result ℕ Refusal} → Stays buffer (r, buffer)
     kept = record { rest = refl; long = refl }

@@ -5,8 +5,8 @@ use Rattle.save.proofs.answer.Goals as goal
 pub returns-then-left-ne0 : goal.returns-then-left-ne0
 returns-then-left-ne0 c = search answer-short
 
-pub returns-in-Form : goal.returns-in-Form
-returns-in-Form c = search answer-form
+pub returns-in-Ok : goal.returns-in-Ok
+returns-in-Ok c = search answer-form
 
-pub returns-in-Refused : goal.returns-in-Refused
-returns-in-Refused c = search answer-refused
+pub returns-in-Err : goal.returns-in-Err
+returns-in-Err c = search answer-refused

@@ -15,11 +15,11 @@ returns-then-not-in_range c = search save-state
 pub returns-then-not-all_quiet : goal.returns-then-not-all_quiet
 returns-then-not-all_quiet c = search save-busy
 
-pub returns-then-buffer-begins : goal.returns-then-buffer-begins
-returns-then-buffer-begins c = search save-short
+pub returns-then-buffer-form_length : goal.returns-then-buffer-form_length
+returns-then-buffer-form_length c = search save-short
 
-pub put_form-n-requires : goal.put_form-n-requires
-put_form-n-requires c = let a = c.args in (search rules, omega (arith, length-form a.bus.slots a.memory.now (search rules) field_count))
+pub put_form-requires : goal.put_form-requires
+put_form-requires c = let a = c.args in omega (arith, length-form a.bus.slots a.memory.now (search rules) field_count)
 
 pub returns : goal.returns
 returns c = search save-form

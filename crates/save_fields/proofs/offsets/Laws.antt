@@ -1,19 +1,19 @@
--- Laws of places: one share and one field more, and how far they reach; and whether a field is there, one slot more.
+-- Laws of places: sums and tests over slots and fields as the law says them, and how far they reach.
 -- Assumes nothing.
-use mathlib.Core.Path.{◌≡◌, refl}
-use mathlib.Core.Bool.{Bool, true, false, ◌||◌}
-use mathlib.Core.List.{List}
-use Prim.Native.Nat.{ℕ, zero, suc, ◌+◌, ◌*◌, ◌≤◌, ◌<◌}
-use native.Mathlib.Numerals.{add-one}
-use native.Mathlib.Omega.{arith}
-use lib.ListN.{length, get_or}
-use Rattle.proof_lists.specs.Each.{get_d_any}
+use Rattle.std.proofs.Common.{◌≡◌, ℕ, zero, suc, ◌+◌, ◌*◌, ◌<◌, ◌≤◌, true, false, ◌||◌, List, [], ◌∷◌, length, get_or, take, refl, sym, ◌∙◌, ap, add-one, sum_by, lit<, arith}
+use Rattle.std.proofs.lemmas.List.{take_all}
+use Rattle.std.proofs.lemmas.List.Folds.{list_any_more}
+use Rattle.std.proofs.lemmas.List.Sums.{fold_more}
+use Rattle.std.specs.List.{list_any}
 use Rattle.rules.specs.declared.Slot.{Slot}
 use Rattle.rules.specs.Modelled.{slot_count, slot_bytes}
 use Rattle.rules.specs.Fresh.{absent_slot}
-use Rattle.save_rules.specs.Form.{field_at, needed_to, is_there}
+use Rattle.save_rules.specs.Form.{field_count, field_at, needed_to, is_there}
 use Rattle.save_rules.specs.Reading.{size_in, offset, span, begins}
 use Rattle.save_rules.proofs.Places.{span-most, size-most, most-all}
+use Rattle.save_fields.specs.declared.shares.Field.{Field}
+use Rattle.save_fields.specs.declared.shares.Field.TheVariants.{Setup, Memory, State, Sensor, Pending, Older}
+use Rattle.save_fields.specs.Rows.{row_of, taken}
 
 -- a slot has at most its 512 bytes in a field
 pub size_fits : (t kind n : ℕ) → n ≡ (field_at t).size kind → n ≤ slot_bytes
@@ -32,44 +32,67 @@ unfolding begins
 begins-small zero ss = omega arith
 begins-small (suc t) ss = omega (arith, begins-small t ss, span_small t (span t ss) ss refl)
 
--- one slot more that may need the field
-pub needed-none : (t : ℕ) (ss : List Slot) → false ≡ needed_to t 0 ss
+-- whether some slot needs the field
+needed-front : (t k : ℕ) (ss : List Slot) → k ≤ length ss → list_any (field_at t).needed (take k ss) ≡ needed_to t k ss
 unfolding needed_to
-needed-none t ss = refl
+needed-front t zero ss h = refl
+needed-front t (suc k) ss h =
+    let more = rw (add-one k) at (list_any_more (field_at t).needed ss k absent_slot (omega arith)) in
+    more ∙ ap (λ b. b || (field_at t).needed (get_or ss k absent_slot)) (needed-front t k ss (omega arith))
 
-pub needed-step : (t k : ℕ) (ss : List Slot) (d : Slot) (there r : Bool) → k < length ss → there ≡ needed_to t k ss → r ≡ (field_at t).needed (get_or ss k d)
-    → (there || r) ≡ needed_to t (k + 1) ss
-unfolding needed_to
-needed-step t k ss d there r h e f = rw (add-one, e, f, get_d_any ss k d absent_slot h)
-
-pub needed-all : (t k : ℕ) (ss : List Slot) (there : Bool) → k ≡ slot_count → there ≡ needed_to t k ss → there ≡ is_there t ss
+pub any-needed : (t : ℕ) (ss : List Slot) → length ss ≡ slot_count → list_any (field_at t).needed ss ≡ is_there t ss
 unfolding is_there
-needed-all t k ss there h e = rw h at e
+any-needed t ss l = ap (list_any (field_at t).needed) (sym (take_all slot_count ss (omega arith))) ∙ needed-front t slot_count ss (omega arith)
+
+-- how many bytes slots have in it
+offset-front : (t k : ℕ) (ss : List Slot) → k ≤ length ss → sum_by (λ (s : Slot). (field_at t).size s.kind) (take k ss) ≡ offset t k ss
+unfolding offset size_in
+offset-front t zero ss h = refl
+offset-front t (suc k) ss h =
+    let more = rw (add-one k) at (fold_more (λ a (s : Slot). a + (field_at t).size s.kind) 0 ss k absent_slot (omega arith)) in
+    more ∙ ap (λ n. n + (field_at t).size (get_or ss k absent_slot).kind) (offset-front t k ss (omega arith))
+
+pub offset-all : (t : ℕ) (ss : List Slot) → sum_by (λ (s : Slot). (field_at t).size s.kind) ss ≡ offset t (length ss) ss
+offset-all t ss = ap (sum_by (λ (s : Slot). (field_at t).size s.kind)) (sym (take_all (length ss) ss (omega arith))) ∙ offset-front t (length ss) ss (omega arith)
 
 -- what a field takes
-pub spans : (t n : ℕ) (ss : List Slot) (there : Bool) → there ≡ is_there t ss → there ≡ true → n ≡ offset t slot_count ss → 3 + n ≡ span t ss
+pub spans : (t n : ℕ) (ss : List Slot) → is_there t ss ≡ true → n ≡ offset t slot_count ss → 3 + n ≡ span t ss
 unfolding span
-spans t n ss there e i f = rw (← e, i, f)
+spans t n ss i f = rw (i, f)
 
-pub spans-none : (t : ℕ) (ss : List Slot) (there : Bool) → there ≡ is_there t ss → there ≡ false → 0 ≡ span t ss
+pub spans-none : (t : ℕ) (ss : List Slot) → is_there t ss ≡ false → 0 ≡ span t ss
 unfolding span
-spans-none t ss there e i = rw (← e, i)
+spans-none t ss i = rw i
 
--- one slot more, and one field more
-pub offset-none : (t : ℕ) (ss : List Slot) → 0 ≡ offset t 0 ss
-unfolding offset
-offset-none t ss = refl
+-- the fields before one, or all of them
+abbrev pub all_fields : List Field
+all_fields = Setup ∷ Memory ∷ State ∷ Sensor ∷ Pending ∷ Older ∷ []
 
--- (the slot is there, whatever would stand for one that is not)
-pub offset_step : (t k n size : ℕ) (ss : List Slot) (d : Slot) → k < length ss → n ≡ offset t k ss → size ≡ (field_at t).size (get_or ss k d).kind
-    → n + size ≡ offset t (k + 1) ss
-unfolding offset size_in
-offset_step t k n size ss d h e f = rw (e, f, get_d_any ss k d absent_slot h, add-one)
-
-pub begins-none : (ss : List Slot) → 0 ≡ begins 0 ss
+pub begins-front : (t : ℕ) (ss : List Slot) → t ≤ field_count → taken (take t all_fields) ss ≡ begins t ss
 unfolding begins
-begins-none ss = refl
+begins-front zero ss h = refl
+begins-front (suc zero) ss h = refl
+begins-front (suc (suc zero)) ss h = refl
+begins-front (suc (suc (suc zero))) ss h = refl
+begins-front (suc (suc (suc (suc zero)))) ss h = refl
+begins-front (suc (suc (suc (suc (suc zero))))) ss h = refl
+begins-front (suc (suc (suc (suc (suc (suc zero)))))) ss h = refl
+begins-front (suc (suc (suc (suc (suc (suc (suc t))))))) ss h = absurd (omega arith)
 
-pub begins-step : (t at n : ℕ) (ss : List Slot) → at ≡ begins t ss → n ≡ span t ss → at + n ≡ begins (t + 1) ss
-unfolding begins
-begins-step t at n ss e f = rw (e, f, add-one)
+pub row_below : (f : Field) → row_of f < field_count
+row_below Setup = lit< tt
+row_below Memory = lit< tt
+row_below State = lit< tt
+row_below Sensor = lit< tt
+row_below Pending = lit< tt
+row_below Older = lit< tt
+
+-- the fields stand in the order of the rows
+pub row_at : (t : ℕ) → t < field_count → row_of (get_or all_fields t Setup) ≡ t
+row_at zero h = refl
+row_at (suc zero) h = refl
+row_at (suc (suc zero)) h = refl
+row_at (suc (suc (suc zero))) h = refl
+row_at (suc (suc (suc (suc zero)))) h = refl
+row_at (suc (suc (suc (suc (suc zero))))) h = refl
+row_at (suc (suc (suc (suc (suc (suc t)))))) h = absurd (omega arith)

@@ -1,8 +1,7 @@
 -- Bit by bit.
-use mathlib.Core.Path.{refl}
-use Rattle.save_rules.specs.Form.{bits_in}
+use Rattle.std.proofs.Common.{rules}
+use Rattle.save_fields.proofs.shares.Laws.{bits-from}
 use Rattle.save_fields.proofs.shares.bits_in.Goals as goal
 
 pub returns : goal.returns
-unfolding bits_in
-returns c = refl
+returns g c = bits-from _ _ _ _ (λ k y q h. search rules) _ c.from_fn.ensures.items.long c.from_fn.ensures.items.each

@@ -1,6 +1,7 @@
--- Two bits of a byte.
-use Rattle.save_fields.proofs.shares.Laws.{older-bits}
+-- Two bits.
+use Rattle.save_rules.specs.Form.{older_byte}
 use Rattle.save_fields.proofs.shares.older_byte.Goals as goal
 
 pub returns : goal.returns
-returns c = older-bits _ _ _ c.bit.ensures.0 c.bit-2.ensures.0
+unfolding older_byte
+returns c = c.bits.ensures.0
