@@ -1,29 +1,24 @@
-// What the tries of `edges` hand in: a memory, and numbers of a slot. These are counted 1 to 57, in the order of `watch_text::numbers`: kind,
-// length, ticks left, half, counter, place, voltage and phase, protection from 9, what is to come from 13, the latch from 17 and its marks from 33,
-// and the sensor from 49; 58 is whether a change is pending, and 59 to 61 are an older module's, whether protection is permanent, whether what is to
-// come will be, and the write-protect pin. These four a try hands in, and tells, of slots of every kind.
+// What the tries of `edges` hand in: a memory, and numbers of a slot.
 ghost use Rattle.std.specs.Prelude.{◌≤◌};
 
-use super::names::{MISSING, UNKNOWN, WORD};
+use super::commands::NotUnderstood;
+use super::names::PHASES;
+use super::words::Word;
 use rules::{Older, Phase, Sensor, Slot};
+use std::array;
 
-fn phase(n: u16) -> Phase {
-    match n {
-        0 => Phase::Idle,
-        1 => Phase::Control,
-        2 => Phase::Deaf,
-        3 => Phase::MemoryCounter,
-        4 => Phase::MemoryData,
-        5 => Phase::MemoryRead,
-        6 => Phase::HalfSelected,
-        7 => Phase::CommandAddress,
-        8 => Phase::CommandData,
-        9 => Phase::CommandStop,
-        10 => Phase::SensorPointer,
-        11 => Phase::SensorHigh,
-        12 => Phase::SensorLow,
-        13 => Phase::SensorReadHigh,
-        _ => Phase::SensorReadLow,
+// A slot, number by number, in the order of `names::NUMBERS`. The last four a try hands in, and tells, of slots of every kind.
+#[derive(Clone, Copy, PartialEq, Eq)]
+pub struct Numbers(pub [u16; 61]);
+
+impl From<Slot> for Numbers {
+    fn from(s: Slot) -> Numbers {
+        let mut all = array::from_fn(|k| watch_text::numbers::number(s, k));
+        all[57] = u16::from(s.sensor.pending);
+        all[58] = u16::from(s.old.permanent);
+        all[59] = u16::from(s.old.lasting);
+        all[60] = u16::from(s.old.pin);
+        Numbers(all)
     }
 }
 
@@ -31,159 +26,96 @@ fn low(v: u16) -> u8 {
     (v % 256) as u8
 }
 
-pub fn wide(b: u8) -> u16 {
-    b as u16
+fn phase(n: u16) -> Phase {
+    PHASES.get(usize::from(n)).map_or(Phase::Idle, |(_, p)| *p)
 }
 
-// What a slot holds, by such a number; 0 where there is none.
-pub fn peek(s: Slot, k: usize) -> u16 {
-    if k == 0 {
-        return 0;
-    }
-    if k <= watch_text::numbers::COMMON {
-        return watch_text::numbers::number(s, k - 1);
-    }
-    if holds(s, k) { 1 } else { 0 }
-}
-
-// Those that its kind may leave out of its line.
-fn holds(s: Slot, k: usize) -> bool {
-    let x = s.sensor;
-    let y = s.old;
-    match k {
-        58 => x.pending,
-        59 => y.permanent,
-        60 => y.lasting,
-        61 => y.pin,
-        _ => false,
+fn sensor(n: &[u16; 61]) -> Sensor {
+    Sensor {
+        pointer: low(n[48]),
+        configuration: n[49],
+        high: n[50],
+        low: n[51],
+        critical: n[52],
+        temperature: n[53],
+        resolution: low(n[54]),
+        timeout: low(n[55]),
+        word: n[56],
+        pending: n[57] != 0,
     }
 }
 
-fn poke_number(old: Slot, k: usize, v: u16) -> Slot {
-    let mut s = old;
-    match k {
-        1 => s.kind = low(v),
-        2 => s.length = low(v),
-        3 => s.left = low(v),
-        4 => s.half = low(v),
-        5 => s.counter = low(v),
-        6 => s.place = low(v),
-        _ => s.voltage = v != 0,
-    }
-    s
-}
-
-fn poke_blocks(old: Slot, k: usize, v: bool) -> Slot {
-    let mut s = old;
-    let i = (k % 4 + 3) % 4;
-    if k < 13 {
-        s.protection[i] = v;
-        return s;
-    }
-    s.coming[i] = v;
-    s
-}
-
-fn poke_page(old: Slot, k: usize, v: u16) -> Slot {
-    let mut s = old;
-    let i = (k % 16 + 15) % 16;
-    if k < 33 {
-        s.latch[i] = low(v);
-        return s;
-    }
-    s.marks[i] = v != 0;
-    s
-}
-
-fn poke_sensor(old: Sensor, k: usize, v: u16) -> Sensor {
-    let mut x = old;
-    match k {
-        49 => x.pointer = low(v),
-        50 => x.configuration = v,
-        51 => x.high = v,
-        52 => x.low = v,
-        53 => x.critical = v,
-        54 => x.temperature = v,
-        55 => x.resolution = low(v),
-        56 => x.timeout = low(v),
-        57 => x.word = v,
-        58 => x.pending = v != 0,
-        _ => {}
-    }
-    x
-}
-
-fn poke_older(old: Older, k: usize, v: bool) -> Older {
-    let mut x = old;
-    match k {
-        59 => x.permanent = v,
-        60 => x.lasting = v,
-        61 => x.pin = v,
-        _ => {}
-    }
-    x
-}
-
-fn sensing(old: Slot, k: usize, v: u16) -> Slot {
-    let mut s = old;
-    let x = s.sensor;
-    let y = poke_sensor(x, k, v);
-    s.sensor = y;
-    s
-}
-
-fn aging(old: Slot, k: usize, v: u16) -> Slot {
-    let mut s = old;
-    let x = s.old;
-    let y = poke_older(x, k, v != 0);
-    s.old = y;
-    s
-}
-
-// The slot with one number handed in.
-fn poke(s: Slot, k: usize, v: u16) -> Slot {
-    match k {
-        1..=7 => poke_number(s, k, v),
-        8 => bus_slot::phase::in_phase(phase(v), s),
-        9..=16 => poke_blocks(s, k, v != 0),
-        17..=48 => poke_page(s, k, v),
-        49..=58 => sensing(s, k, v),
-        _ => aging(s, k, v),
+fn older(n: &[u16; 61]) -> Older {
+    Older {
+        permanent: n[58] != 0,
+        lasting: n[59] != 0,
+        pin: n[60] != 0,
     }
 }
 
-// The slot with what a command hands in, and whether all of it is there and fits.
-#[derive(Clone, Copy)]
-pub struct Handed {
-    pub slot: Slot,
-    pub ok: bool,
-}
-
-// A name, and the numbers that go there and behind. What reads back as it was handed in fits.
-pub fn hand_in(old: Slot, t: [u32; 38]) -> Handed {
-    let mut slot = old;
-    let mut ok = (t[1] < 8) & (t[3] < WORD) & (t[37] == MISSING);
-    let mut at = 0;
-    for i in 2..38usize {
-        let v = t[i];
-        if v < WORD {
-            slot = poke(slot, at, v as u16);
-            ok = ok & (0 < at) & (at < 62) & (peek(slot, at) == v as u16);
-            at = at % 64 + 1;
-        } else {
-            ok = ok & (v != UNKNOWN);
-            at = (v % WORD) as usize;
+// The slot that has these numbers, as far as they fit.
+impl From<Numbers> for Slot {
+    fn from(numbers: Numbers) -> Slot {
+        let n = numbers.0;
+        Slot {
+            kind: low(n[0]),
+            length: low(n[1]),
+            left: low(n[2]),
+            half: low(n[3]),
+            counter: low(n[4]),
+            place: low(n[5]),
+            voltage: n[6] != 0,
+            phase: phase(n[7]),
+            protection: array::from_fn(|i| n[8 + i] != 0),
+            coming: array::from_fn(|i| n[12 + i] != 0),
+            latch: array::from_fn(|i| low(n[16 + i])),
+            marks: array::from_fn(|i| n[32 + i] != 0),
+            sensor: sensor(&n),
+            old: older(&n),
         }
     }
-    Handed { slot, ok }
 }
 
-// The byte at a place: its slot in the high digit; in the low one its block, and 8 more if it is the block's last byte, 4 more if it is
-// neither first nor last.
-fn pattern(at: usize) -> u8 {
-    let slot = (at / 512 % 16) as u8;
-    let block = (at / 128 % 4) as u8;
-    16 * slot + block + edge(at % 128)
+// The slot with one number handed in, if it fits: then it reads back as it was handed in.
+fn with_number(old: Slot, at: usize, v: u16) -> Option<Slot> {
+    let mut numbers = Numbers::from(old);
+    *numbers.0.get_mut(at)? = v;
+    let slot = Slot::from(numbers);
+    if Numbers::from(slot) == numbers {
+        Some(slot)
+    } else {
+        None
+    }
+}
+
+// The slot with names and behind each the numbers that go there and to the places that follow, if all of them are understood and fit.
+fn with_words(old: Slot, words: &[Word]) -> Option<Slot> {
+    let mut slot = old;
+    let mut at = None;
+    for word in words {
+        match *word {
+            Word::Missing => at = None,
+            Word::Name(place) => at = Some(place),
+            Word::Number(v) => {
+                let place = at?;
+                slot = with_number(slot, place, v)?;
+                at = place.checked_add(1);
+            }
+            Word::Unknown => return None,
+        }
+    }
+    Some(slot)
+}
+
+// What is handed in needs a name and a number, and no more words than a command has.
+pub fn hand_in(old: Slot, words: &[Word; 37]) -> Result<Slot, NotUnderstood> {
+    match words {
+        [_, Word::Name(_), Word::Number(_), .., Word::Missing] => with_words(
+            old,
+            &words[1..],
+        ).ok_or(NotUnderstood),
+        _ => Err(NotUnderstood),
+    }
 }
 
 fn edge(i: usize) -> u8
@@ -196,8 +128,15 @@ fn edge(i: usize) -> u8
     }
 }
 
-pub fn fill(mem: &mut [u8; 8192]) {
-    for i in 0..8192usize {
-        mem[i] = pattern(i);
-    }
+// The byte at a place: its slot in the high digit; in the low one its block, and 8 more if it is the block's last byte, 4 more if it is
+// neither first nor last.
+fn pattern(at: usize) -> u8 {
+    let slot = (at / 512 % 16) as u8;
+    let block = (at / 128 % 4) as u8;
+    16 * slot + block + edge(at % 128)
+}
+
+// A memory or a shelf, filled anew.
+pub fn filled() -> [u8; 8192] {
+    array::from_fn(pattern)
 }
