@@ -31,10 +31,11 @@ fn at_signal(next: Phase, s: Slot) -> Change
     ensures { result ≡ cond (absent s) Change.Nothing
         (cond ((traits (standing s)).sensor || (traits (standing s)).command || (traits (standing s)).takes) Change.More (Change.To next)) }
 {
-    let t = bus_slot::phase::traits(bus_slot::phase::standing(s));
     if s.is_absent() {
-        Change::Nothing
-    } else if t.sensor | t.command | t.takes {
+        return Change::Nothing;
+    }
+    let t = bus_slot::phase::traits(bus_slot::phase::standing(s));
+    if t.sensor | t.command | t.takes {
         Change::More
     } else {
         Change::To(next)
