@@ -3,7 +3,7 @@
 
 ghost use Rattle.std.specs.Prelude.{◌≡◌};
 ghost use Rattle.bus_control.specs.Rows.{found_in};
-ghost use Rattle.rules.specs.Control.{heard_of, command_of, raised_command, own_command, older_command, heard_by};
+ghost use Rattle.rules.specs.Control.{select_of, is_read, heard_of, command_of, raised_command, own_command, older_command, heard_by};
 
 use rules::{BlockNo, Heard, Slot, SlotNo};
 
@@ -54,19 +54,34 @@ fn command(b: u8) -> Heard
     look_up(&COMMANDS, b)
 }
 
+// Its select bits, 3:1, and its read bit, 0.
+#[tactic(auto, unfolding(rules::specs::Control::select_of))]
+fn select(b: u8) -> SlotNo
+    ensures { result ≡ select_of b }
+{
+    SlotNo(b / 2 % 8)
+}
+
+#[tactic(auto, unfolding(rules::specs::Control::is_read))]
+fn is_read(b: u8) -> bool
+    ensures { result ≡ is_read b }
+{
+    b % 2 == 1
+}
+
 // What a control byte asks for: the families 1010, 0011 and 0110 by their ranges, the commands of 0110 by the table.
-#[tactic(auto, unfolding(rules::specs::Control::heard_of, rules::specs::Control::select_of, rules::specs::Control::is_read))]
+#[tactic(auto, unfolding(rules::specs::Control::heard_of))]
 pub fn hear(b: u8) -> Heard
     ensures { result ≡ heard_of b }
 {
     match b {
         0xA0..=0xAF => Heard::Memory {
-            select: SlotNo(b / 2 % 8),
-            read: b % 2 == 1,
+            select: select(b),
+            read: is_read(b),
         },
         0x30..=0x3F => Heard::Sensor {
-            select: SlotNo(b / 2 % 8),
-            read: b % 2 == 1,
+            select: select(b),
+            read: is_read(b),
         },
         0x60..=0x6F => command(b),
         _ => Heard::Nothing,
@@ -88,13 +103,13 @@ fn raised(b: u8) -> Heard
 }
 
 // With it off the slot's select number protects for ever, and with the read bit asks the same.
-#[tactic(auto, unfolding(rules::specs::Control::own_command, rules::specs::Control::select_of, rules::specs::Control::is_read))]
+#[tactic(auto, unfolding(rules::specs::Control::own_command))]
 fn own(n: SlotNo, b: u8) -> Heard
     ensures { result ≡ own_command n.0 b }
 {
-    if b / 2 % 8 != n.0 {
+    if select(b) != n {
         Heard::Nothing
-    } else if b % 2 == 1 {
+    } else if is_read(b) {
         Heard::ReadProtection(BlockNo(0))
     } else {
         Heard::ProtectForEver

@@ -1,7 +1,7 @@
 // A read at one slot: whether the slot drives a byte, which, and what it does then.
 #![tactic(auto, unfolding(rules::specs::Slot::read_in))]
 
-ghost use Rattle.std.specs.Prelude.{◌≡◌, true, false, ◌/◌, ◌%◌, length, get_or};
+ghost use Rattle.std.specs.Prelude.{◌≡◌, ◌/◌, ◌%◌, get_or};
 ghost use Rattle.rules.specs.Modelled.{address_of};
 ghost use Rattle.rules.specs.Memory.{fetched};
 ghost use Rattle.rules.specs.Slot.{lost, read_in};

@@ -31,10 +31,11 @@ fn at_signal(next: Phase, s: Slot) -> Change
     ensures { result ≡ cond (absent s) Change.Nothing
         (cond ((traits (standing s)).sensor || (traits (standing s)).command || (traits (standing s)).takes) Change.More (Change.To next)) }
 {
-    let t = bus_slot::phase::traits(bus_slot::phase::standing(s));
     if s.is_absent() {
-        Change::Nothing
-    } else if t.sensor | t.command | t.takes {
+        return Change::Nothing;
+    }
+    let t = bus_slot::phase::traits(bus_slot::phase::standing(s));
+    if t.sensor | t.command | t.takes {
         Change::More
     } else {
         Change::To(next)
@@ -85,7 +86,9 @@ pub fn glance(line: Line, n: SlotNo, s: Slot) -> Change
     match line.act {
         Act::Start => at_signal(Phase::Control, s),
         Act::Byte(b) => at_control(b, line.heard, n, s),
-        Act::Stop | Act::Timeout => at_signal(Phase::Idle, s),
+        // Kept: an arm each for stop and timeout, since must-fail/foreseen_stop_leaves_the_slot_deaf changes that of the stop alone.
+        Act::Stop => at_signal(Phase::Idle, s),
+        Act::Timeout => at_signal(Phase::Idle, s),
         Act::Tick => at_tick(n, s),
         Act::Read(_) | Act::Power(_) => Change::More,
         Act::Apply(k, _) => at_one(k, n),

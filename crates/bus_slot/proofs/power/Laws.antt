@@ -13,11 +13,12 @@ use Rattle.proof_lists.specs.Tests.{or_cases, or_left_false, or_right_false}
 use Rattle.rules.specs.declared.Cut.{Cut}
 use Rattle.rules.specs.declared.Act.TheVariants.{Power}
 use Rattle.rules.specs.declared.Slot.{Slot}
-use Rattle.rules.specs.Modelled.{absent, older}
+use Rattle.rules.specs.Modelled.{absent, sensing, older}
 use Rattle.rules.specs.Fresh.{powered}
 use Rattle.rules.specs.Memory.{emptied, permanent_then, brought, ended, stored}
-use Rattle.rules.specs.Open.{open-fields}
+use Rattle.rules.specs.Open.{open-fields, open-refusals}
 use Rattle.rules.specs.Power.{running, latched_below, first_of, cut, finished, power_cut, cut_part}
+use Rattle.rules.specs.Refusals.{slot_in_range}
 use Rattle.rules.specs.Slot.{present_next, slot_next, part_next}
 use Rattle.rules.proofs.Document.Cut.{no-cycle, with_none}
 
@@ -57,6 +58,11 @@ chosen-all k marks i first below l c = c.0 ∙ map_to-full (chosen k marks) 0 i 
 cut-ends : (k : Cut) (s : Slot) → ended (cut k s) ≡ ended s
 unfolding ended emptied brought permanent_then older cut open-fields
 cut-ends k s = refl
+
+-- it is no further out of range
+pub cut-in-range : (k : Cut) (s : Slot) → slot_in_range s ≡ true → slot_in_range (cut k s) ≡ true
+unfolding cut open-fields open-refusals sensing older
+cut-in-range k s e = e
 
 -- a power cycle: the slot after it, and its bytes
 abbrev pub AfterCut : Cut → Slot → List ℕ → Slot → List ℕ → Type 0
