@@ -1,8 +1,8 @@
 // What an event is refused for, by document 01's rows 2, 3 and 4, and what one that passes them is taken for.
-ghost use Rattle.std.specs.Prelude.{◌≡◌, false, cond};
-ghost use Rattle.rules.specs.Events.{act_of};
+ghost use Rattle.std.specs.Prelude.{◌≡◌, cond, pos, nat_abs, Ok, Err};
+ghost use Rattle.rules.specs.Events.{is_one, act_of};
 ghost use Rattle.rules.specs.Refusals.{kind_at, wrong_slot, outside, wrong_value, ruled_for};
-ghost use Rattle.bus_refusals.specs.Kinds.{kinds_in};
+ghost use Rattle.bus_refusals.specs.Kinds.{kinds_in, Decodes, event_with};
 
 use rules::{Act, Applied, Cut, Event, Refusal, Slot, SlotNo};
 
@@ -13,56 +13,102 @@ pub fn kind_at(slots: [Slot; 8], n: SlotNo) -> u8
     slots.get(usize::from(n.0)).map_or(0, |s| s.kind)
 }
 
-// Row 3, by the kind of the slot that the event names: a voltage for one that is not there, a temperature for one without a sensor, or a
-// write-protect pin of one that is no older module.
-fn wrong_slot(kind: u8, e: Event) -> bool
-    ensures { result ≡ wrong_slot kind e }
-{
-    let n = e.slot;
-    ((e.kind == 7) | (e.kind == 9) | (e.kind == 10)) & ((7 < n.0) | (kind == 0))
-        | (e.kind == 9) & (kind != 2)
-        | (e.kind == 10) & (kind != 3)
+// The kinds of events that there are. The number of each, by which an event names it: specs/Kinds.
+#[derive(Clone, Copy)]
+enum Kind {
+    Start,
+    Byte,
+    Read,
+    Stop,
+    Timeout,
+    Tick,
+    Voltage,
+    Power,
+    Temperature,
+    WriteProtect,
 }
 
-// A value outside a range.
-fn outside(least: i16, most: i16, v: i16) -> bool
-    ensures { result ≡ outside least most v }
-{
-    (v < least) | (most < v)
-}
+// Row 2: the kind is not 1 to 10.
+impl TryFrom<u8> for Kind {
+    type Error = Refusal;
 
-// Row 4: the value is outside its kind's range.
-fn wrong_value(e: Event) -> bool
-    ensures { result ≡ wrong_value e }
-{
-    let v = e.value;
-    match e.kind {
-        2 => outside(0, 255, v),
-        3 | 7 | 10 => outside(0, 1, v),
-        8 => outside(0, 16, v),
-        9 => outside(-640, 2000, v),
-        _ => false,
+    ghost try_from_gives = { Decodes };
+
+    fn try_from(number: u8) -> Result<Self, Refusal> {
+        match number {
+            1 => Ok(Kind::Start),
+            2 => Ok(Kind::Byte),
+            3 => Ok(Kind::Read),
+            4 => Ok(Kind::Stop),
+            5 => Ok(Kind::Timeout),
+            6 => Ok(Kind::Tick),
+            7 => Ok(Kind::Voltage),
+            8 => Ok(Kind::Power),
+            9 => Ok(Kind::Temperature),
+            10 => Ok(Kind::WriteProtect),
+            _ => Err(Refusal::UnknownKind),
+        }
     }
 }
 
-// What an event with a value in range does.
-fn act_of(e: Event) -> Act
-    requires { wrong_value e ≡ false }
-    ensures { result ≡ act_of e }
+// A value in a range, or row 4.
+fn within(least: i16, most: i16, v: i16) -> Result<i16, Refusal>
+    ensures { result ≡ cond (outside least most v) (Err Refusal.WrongValue) (Ok v) }
 {
-    let n = e.slot;
-    let v = e.value;
-    match e.kind {
-        1 => Act::Start,
-        2 => Act::Byte(v as u8),
-        3 => Act::Read(0 < v),
-        4 => Act::Stop,
-        5 => Act::Timeout,
-        6 => Act::Tick,
-        7 => Act::Apply(n, Applied::Voltage(0 < v)),
-        8 => Act::Power(Cut(v as u8)),
-        9 => Act::Apply(n, Applied::Temperature(v)),
-        _ => Act::Apply(n, Applied::WriteProtect(0 < v)),
+    if (v < least) | (most < v) {
+        return Err(Refusal::WrongValue);
+    }
+    Ok(v)
+}
+
+// A number from 0 to the most that there may be, or row 4.
+fn number(most: u8, v: i16) -> Result<u8, Refusal>
+    ensures { result ≡ cond (outside (pos 0) (pos most) v) (Err Refusal.WrongValue) (Ok (nat_abs v)) }
+{
+    match u8::try_from(v) {
+        Ok(n) if n <= most => Ok(n),
+        _ => Err(Refusal::WrongValue),
+    }
+}
+
+// On for 1, off for 0, or row 4.
+fn switch(v: i16) -> Result<bool, Refusal>
+    ensures { result ≡ cond (outside (pos 0) (pos 1) v) (Err Refusal.WrongValue) (Ok (is_one v)) }
+{
+    Ok(number(1, v)? == 1)
+}
+
+impl Kind {
+    // Row 3, by the kind of the slot that the event names: a voltage for one that is not there, a temperature for one without a sensor, or a
+    // write-protect pin of one that is no older module.
+    // Kept: the slot's kind by its number, as the state has it; where there is no slot it is 0 (Refusals.kind_at, Refusals.wrong_slot).
+    fn wrong_slot(self, kind: u8, n: SlotNo) -> bool
+        ensures { result ≡ wrong_slot kind (event_with self n (pos 0)) }
+    {
+        match self {
+            Kind::Voltage => (7 < n.0) | (kind == 0),
+            Kind::Temperature => (7 < n.0) | (kind != 2),
+            Kind::WriteProtect => (7 < n.0) | (kind != 3),
+            _ => false,
+        }
+    }
+
+    // Row 4, and what an event with a value in range does.
+    fn act(self, n: SlotNo, v: i16) -> Result<Act, Refusal>
+        ensures { result ≡ cond (wrong_value (event_with self n v)) (Err Refusal.WrongValue) (Ok (act_of (event_with self n v))) }
+    {
+        Ok(match self {
+            Kind::Start => Act::Start,
+            Kind::Byte => Act::Byte(number(255, v)?),
+            Kind::Read => Act::Read(switch(v)?),
+            Kind::Stop => Act::Stop,
+            Kind::Timeout => Act::Timeout,
+            Kind::Tick => Act::Tick,
+            Kind::Voltage => Act::Apply(n, Applied::Voltage(switch(v)?)),
+            Kind::Power => Act::Power(Cut(number(16, v)?)),
+            Kind::Temperature => Act::Apply(n, Applied::Temperature(within(-640, 2000, v)?)),
+            Kind::WriteProtect => Act::Apply(n, Applied::WriteProtect(switch(v)?)),
+        })
     }
 }
 
@@ -70,16 +116,9 @@ fn act_of(e: Event) -> Act
 pub fn ruled(kind: u8, e: Event) -> Result<Act, Refusal>
     ensures { result ≡ ruled_for kind e }
 {
-    // Row 2: the kind is not 1 to 10.
-    if (e.kind < 1) | (10 < e.kind) {
-        return Err(Refusal::UnknownKind);
-    }
-    if wrong_slot(kind, e) {
+    let what = Kind::try_from(e.kind)?;
+    if what.wrong_slot(kind, e.slot) {
         return Err(Refusal::WrongSlot);
     }
-    if wrong_value(e) {
-        return Err(Refusal::WrongValue);
-    }
-    let a = act_of(e);
-    Ok(a)
+    what.act(e.slot, e.value)
 }

@@ -1,62 +1,147 @@
 -- What the rows' proofs share.
 -- Assumes nothing.
-use mathlib.Core.Path.{◌≡◌, refl, sym, ◌∙◌, ap}
-use mathlib.Core.Bool.{Bool, false, false≢true, cond}
-use mathlib.Core.List.{List}
-use Prim.Native.Nat.{ℕ, ◌+◌, ◌≤◌}
-use native.Mathlib.Omega.{arith}
-use borrow.Author.Tests.{eq-eqb, eqb-true, eqb-false, ltb-true, ltb-false, lt-ltb, le-ltb}
-use lib.Dec.{T, eqb, ltb}
-use lib.ListN.{length, get_or, get_or-map, get_or-eq_default, length-map}
-use lib.IntN.{ℤ, pos, negsuc, nat_abs}
-use lib.Signed.{non_neg}
-use mir.Syntax.{w8}
-use mir.Val.{Fits}
-use Rattle.proof_lists.specs.Tests.{by-test, cond_cases, or_right_false}
+use Rattle.std.proofs.Common.{◌≡◌, ◌≢◌, refl, sym, ◌∙◌, ap, subst, ℕ, zero, suc, ◌<◌, ◌≤◌, Bool, true, false, not, cond, ◌||◌, eqb, ltb, Result, Ok, Err, ℤ, pos, negsuc, nat_abs, arith}
+use Rattle.std.proofs.Math.Bool.{or-true, or-false, true≢false}
+use Rattle.std.proofs.lemmas.Result.{err_from_is_err_and}
+use Rattle.std.specs.Prelude.{IsErrAnd}
+use Rattle.std.specs.Int.{FitsUnsignedBits}
+use borrow.Author.Tests.{eqb-true, lt-ltb, le-ltb, ltb-false}
+use Rattle.proof_lists.specs.Tests.{by-test, or_right_false}
 use Rattle.rules.specs.declared.Event.{Event}
-use Rattle.rules.specs.declared.Slot.{Slot}
+use Rattle.rules.specs.declared.Refusal.{Refusal}
+use Rattle.rules.specs.declared.Refusal.TheVariants.{UnknownKind, WrongSlot, WrongValue}
 use Rattle.rules.specs.declared.SlotNo.{SlotNo}
-use Rattle.rules.specs.Refusals.{kind_at, outside, wrong_value}
-use Rattle.rules.proofs.Past.{no_slot}
-use Rattle.bus_refusals.specs.Kinds.{kinds_in}
+use Rattle.rules.specs.Events.{is_one, act_of}
+use Rattle.rules.specs.Refusals.{Ruling, unknown_kind, wrong_slot, outside, wrong_value, ruled_for}
+use Rattle.bus_refusals.specs.declared.ruling.Kind.{Kind}
+use Rattle.bus_refusals.specs.declared.ruling.Kind.TheVariants.{Start, Byte, Read, Stop, Timeout, Tick, Voltage, Power, Temperature, WriteProtect}
+use Rattle.bus_refusals.specs.Kinds.{number_of, event_with}
 
--- a value in a range of bytes is a byte
-as_byte : (most : ℕ) → most ≤ 255 → (v : ℤ) → outside (pos 0) (pos most) v ≡ false → T (non_neg v) × Fits w8 (nat_abs v)
+-- a number in a range that begins with 0
+pub number-in : (most : ℕ) (v : ℤ) → FitsUnsignedBits 8 v → nat_abs v ≤ most → outside (pos 0) (pos most) v ≡ false
 unfolding outside
-as_byte most l (pos n) e = (tt, record { fits = let h : n ≤ most = ltb-false most n (or_right_false (ltb n 0) (ltb most n) e) in omega arith })
-as_byte most l (negsuc n) e = absurd (false≢true (sym e))
+number-in most (pos n) f h = rw (le-ltb n 0 (omega arith), le-ltb most n h)
+number-in most (negsuc n) f h = absurd f
 
-pub value-as-byte : (e : Event) → e.kind ≡ 2 → wrong_value e ≡ false → T (non_neg e.value) × Fits w8 (nat_abs e.value)
-unfolding wrong_value
-value-as-byte e k w = as_byte 255 (omega arith) e.value (rw (eq-eqb e.kind 2 k) at w)
+pub number-over : (most : ℕ) (v : ℤ) → FitsUnsignedBits 8 v → most < nat_abs v → outside (pos 0) (pos most) v ≡ true
+unfolding outside
+number-over most (pos n) f h = rw (le-ltb n 0 (omega arith), lt-ltb most n h)
+number-over most (negsuc n) f h = absurd f
 
-pub value-as-number : (e : Event) → e.kind ≡ 8 → wrong_value e ≡ false → T (non_neg e.value) × Fits w8 (nat_abs e.value)
-unfolding wrong_value
-value-as-number e k w = as_byte 16 (omega arith) e.value (rw k at w)
+pub number-none : (most : ℕ) (v : ℤ) → most ≤ 255 → (FitsUnsignedBits 8 v → ⊥) → outside (pos 0) (pos most) v ≡ true
+unfolding outside
+number-none most (pos n) l f =
+    by-test (ltb most n)
+    (λ t. rw (le-ltb n 0 (omega arith), t))
+    (λ t. absurd (f (omega (arith, ltb-false most n t))))
+number-none most (negsuc n) l f = refl
 
--- the kind of slot n, looked for among the first i
-module _ (ss : List Slot) (n : SlotNo) where
-  abbrev pub kind_up_to : ℕ → ℕ
-  kind_up_to i = cond (ltb n.0 i) (kind_at (kinds_in ss) n) 0
+-- on for 1, off for 0
+pub switched : (v : ℤ) → outside (pos 0) (pos 1) v ≡ false → eqb (nat_abs v) 1 ≡ is_one v
+unfolding outside is_one
+switched (pos zero) h = refl
+switched (pos (suc zero)) h = refl
+switched (pos (suc (suc n))) h = absurd (none (ltb-false 1 (suc (suc n)) (or_right_false (ltb (suc (suc n)) 0) (ltb 1 (suc (suc n))) h)))
+  where
+    none : {i : ℕ} → suc (suc i) ≤ 1 → ⊥
+    none h = omega arith
+switched (negsuc n) h = absurd (true≢false h)
 
-  pub kind-none : kind_up_to 0 ≡ 0
-  kind-none = rw (le-ltb n.0 0 (omega arith))
+ok-not-err : {A : Type 0} {x : A} {e : Refusal} → ◌≡◌ {A = Result A Refusal} (Ok x) (Err e) → ⊥
+ok-not-err h = grind arith
 
-  pub kind-step : (i k r : ℕ) → k ≡ kind_up_to i → r ≡ cond (eqb i n.0) (get_or ss i no_slot).kind k → r ≡ kind_up_to (i + 1)
-  unfolding kind_at
-  kind-step i k r e f =
-      by-test (eqb i n.0)
-      (λ t.
-      let h : i ≡ n.0 = eqb-true i n.0 t in
-      f ∙ rw (t, lt-ltb n.0 (i + 1) (omega arith)) (sym (get_or-map (λ (s : Slot). s.kind) ss i no_slot) ∙ ap (λ (x : ℕ). get_or (kinds_in ss) x 0) h))
-      (λ t.
-      f ∙ rw t (e ∙ ap (λ (b : Bool). cond b (kind_at (kinds_in ss) n) 0)
-      (by-test (ltb n.0 i)
-      (λ u. let a = ltb-true n.0 i u in u ∙ sym (lt-ltb n.0 (i + 1) (omega arith)))
-      (λ u. let a = ltb-false n.0 i u in let d = eqb-false i n.0 t in u ∙ sym (le-ltb n.0 (i + 1) (omega arith))))))
+same-ok : {A : Type 0} {x y : A} → ◌≡◌ {A = Result A Refusal} (Ok x) (Ok y) → x ≡ y
+same-ok h = grind arith
 
-  pub kind-full : (i : ℕ) → length ss ≤ i → kind_up_to i ≡ kind_at (kinds_in ss) n
-  unfolding kind_at
-  kind-full i h =
-      cond_cases (λ (x : ℕ). x ≡ kind_at (kinds_in ss) n) (ltb n.0 i) (λ t. refl)
-      (λ t. let a = ltb-false n.0 i t in sym (get_or-eq_default (kinds_in ss) 0 (simp length-map (omega arith))))
+same-err : {A : Type 0} {d e : Refusal} → ◌≡◌ {A = Result A Refusal} (Err d) (Err e) → d ≡ e
+same-err h = grind arith
+
+-- a value that is refused, which `?` hands on, and one that is not
+module _ {A : Type 0} (bad : Bool) (x : A) (n : Result A Refusal) (is : n ≡ cond bad (Err WrongValue) (Ok x)) where
+  refused-as : (e : Refusal) → n ≡ Err e → (bad ≡ true) × (e ≡ WrongValue)
+  refused-as e was =
+      by-test bad (λ t. (t, same-err (sym was ∙ is ∙ ap (λ (b : Bool). cond b (Err WrongValue) (Ok x)) t)))
+      (λ t. absurd (ok-not-err (sym (ap (λ (b : Bool). cond b (Err WrongValue) (Ok x)) t) ∙ sym is ∙ was)))
+
+  pub err-by : {B : Type 0} (y : B) (e : Refusal) (r : Result B Refusal) → n ≡ Err e → IsErrAnd r (λ f. f ≡ e) → r ≡ cond bad (Err WrongValue) (Ok y)
+  err-by y e r was on =
+      let given = err_from_is_err_and r on in
+      let why = refused-as e was in
+      given.1 ∙ rw why.0 (ap Err (given.2 ∙ why.1))
+
+  pub ok-by : (a : A) → n ≡ Ok a → (bad ≡ false) × (a ≡ x)
+  ok-by a was = by-test bad
+      (λ t. absurd (ok-not-err (sym was ∙ is ∙ ap (λ (b : Bool). cond b (Err WrongValue) (Ok x)) t)))
+      (λ t. (t, same-ok (sym was ∙ is ∙ ap (λ (b : Bool). cond b (Err WrongValue) (Ok x)) t)))
+
+-- a kind of slot that is not there is none of the others
+none-else : (a : Bool) (k m : ℕ) → eqb 0 m ≡ false → a || not (eqb k m) ≡ (a || eqb k 0) || not (eqb k m)
+none-else a k m d = by-test (eqb k 0)
+    (λ t. rw (eqb-true k 0 t, d) (or-true a ∙ sym (or-true (a || true))))
+    (λ t. rw (t, or-false))
+
+-- row 3, kind by kind
+module _ (kind : ℕ) (n : SlotNo) where
+  pub wrong-voltage : ltb 7 n.0 || eqb kind 0 ≡ wrong_slot kind (event_with Voltage n (pos 0))
+  unfolding wrong_slot
+  wrong-voltage = sym (or-false _) ∙ sym (or-false _)
+
+  pub wrong-temperature : ltb 7 n.0 || not (eqb kind 2) ≡ wrong_slot kind (event_with Temperature n (pos 0))
+  unfolding wrong_slot
+  wrong-temperature = rw or-false (none-else (ltb 7 n.0) kind 2 refl)
+
+  pub wrong-pin : ltb 7 n.0 || not (eqb kind 3) ≡ wrong_slot kind (event_with WriteProtect n (pos 0))
+  unfolding wrong_slot
+  wrong-pin = none-else (ltb 7 n.0) kind 3 refl ∙ ap (λ (b : Bool). b || not (eqb kind 3)) (sym (or-false _))
+
+  pub no-slot : (k : Kind) → k ≢ Voltage → k ≢ Temperature → k ≢ WriteProtect → false ≡ wrong_slot kind (event_with k n (pos 0))
+  unfolding wrong_slot
+  no-slot Start a b c = refl
+  no-slot Byte a b c = refl
+  no-slot Read a b c = refl
+  no-slot Stop a b c = refl
+  no-slot Timeout a b c = refl
+  no-slot Tick a b c = refl
+  no-slot Voltage a b c = absurd (a refl)
+  no-slot Power a b c = refl
+  no-slot Temperature a b c = absurd (b refl)
+  no-slot WriteProtect a b c = absurd (c refl)
+
+-- an event whose number no kind has
+pub ruled-unknown : (kind : ℕ) (e : Event) (why : Refusal) (r : Ruling) → (why ≡ UnknownKind) × (ltb e.kind 1 || ltb 10 e.kind ≡ true) → IsErrAnd r (λ f. f ≡ why) → r ≡ ruled_for kind e
+unfolding ruled_for unknown_kind
+ruled-unknown kind e why r u on = let given = err_from_is_err_and r on in given.1 ∙ rw u.1 (ap Err (given.2 ∙ u.0))
+
+-- and one of a kind that there is
+known-kind : (k : Kind) (n : SlotNo) (v : ℤ) → unknown_kind (event_with k n v) ≡ false
+unfolding unknown_kind
+known-kind Start n v = refl
+known-kind Byte n v = refl
+known-kind Read n v = refl
+known-kind Stop n v = refl
+known-kind Timeout n v = refl
+known-kind Tick n v = refl
+known-kind Voltage n v = refl
+known-kind Power n v = refl
+known-kind Temperature n v = refl
+known-kind WriteProtect n v = refl
+
+module _ (kind : ℕ) (k : Kind) (e : Event) (named : number_of k ≡ e.kind) where
+  abbrev it : Event
+  it = event_with k e.slot e.value
+
+  same : it ≡ e
+  same = λ i. record { kind = named i; slot = e.slot; value = e.value }
+
+  -- row 3 doesn't look at the value
+  blind : wrong_slot kind it ≡ wrong_slot kind (event_with k e.slot (pos 0))
+  unfolding wrong_slot
+  blind = refl
+
+  pub ruled-slot : wrong_slot kind (event_with k e.slot (pos 0)) ≡ true → ◌≡◌ {A = Ruling} (Err WrongSlot) (ruled_for kind e)
+  unfolding ruled_for
+  ruled-slot w = subst (λ (z : Event). ◌≡◌ {A = Ruling} (Err WrongSlot) (ruled_for kind z)) same (rw (known-kind k e.slot e.value, blind ∙ w))
+
+  pub ruled-value : wrong_slot kind (event_with k e.slot (pos 0)) ≡ false → cond (wrong_value it) (Err WrongValue) (Ok (act_of it)) ≡ ruled_for kind e
+  unfolding ruled_for
+  ruled-value w = subst (λ (z : Event). cond (wrong_value it) (Err WrongValue) (Ok (act_of it)) ≡ ruled_for kind z) same (rw (known-kind k e.slot e.value, blind ∙ w))
