@@ -14,15 +14,14 @@ use rules::{Answer, Bus, Pair, Refusal};
 pub fn check(pairs: [Pair; 8], memory: &[u8], records: &[u8]) -> Verdict
     ensures { result ≡ verdict_of pairs memory.now records.now }
 {
-    if memory.len() != Bus::MEMORY {
+    let Ok(memory) = <&[u8; Bus::MEMORY]>::try_from(memory) else {
         return Verdict::Refused(Refusal::MemoryLength);
-    }
+    };
     let made = bus_setup::setup(pairs);
     if let Answer::Refused(x) = made.answer {
         return Verdict::Refused(x);
     }
-    let mut mem = [0u8; 4096];
-    mem.copy_from_slice(memory);
+    let mut mem = *memory;
     let checked = pieces::piece(made.bus, &mut mem, 0, records);
     pieces::closed(checked.verdict, records.len() % pieces::RECORD)
 }
