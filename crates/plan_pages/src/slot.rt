@@ -27,7 +27,7 @@ pub fn alone(
     if pages::any_barred(settled, &old, image) {
         return Err(Refusal::ProtectedPage);
     }
-    let mut plan = Plan::new(buffer);
+    let mut plan = Plan { buffer, count: 0 };
     plan.ticks(5);
     writes::all_pages(&mut plan, settled, k, &old, image);
     Ok(plan.count)

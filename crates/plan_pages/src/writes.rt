@@ -31,7 +31,13 @@ fn page(plan: &mut Plan, stands: u8, k: SlotNo, image: &[u8; Slot::BYTES], p: u8
 }
 
 // Those of the 32 pages that differ, in ascending order, each once. The half is selected where another one stands, and stays selected.
-pub fn all_pages(plan: &mut Plan, s: Slot, k: SlotNo, old: &[u8; Slot::BYTES], image: &[u8; Slot::BYTES])
+pub fn all_pages(
+    plan: &mut Plan,
+    s: Slot,
+    k: SlotNo,
+    old: &[u8; Slot::BYTES],
+    image: &[u8; Slot::BYTES],
+)
     requires { (slot_in_range s ≡ true) × (k.0 < 8) × (4 * (plan.old.count + 896) ≤ length plan.old.buffer.now) }
     ensures { plan.new ≡ with_laid (pages_before old.now image.now s k.0 page_count) plan.old }
 {
