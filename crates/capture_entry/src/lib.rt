@@ -5,6 +5,7 @@
 ghost use Rattle.std.specs.Prelude.{◌≡◌};
 ghost use Rattle.capture_rules.specs.Capture.{verdict_of};
 
+use capture_pieces::pieces;
 use capture_rules::Verdict;
 use rules::{Answer, Bus, Pair, Refusal};
 
@@ -13,18 +14,14 @@ use rules::{Answer, Bus, Pair, Refusal};
 pub fn check(pairs: [Pair; 8], memory: &[u8], records: &[u8]) -> Verdict
     ensures { result ≡ verdict_of pairs memory.now records.now }
 {
-    if memory.len() != Bus::MEMORY {
+    let Ok(memory) = <&[u8; Bus::MEMORY]>::try_from(memory) else {
         return Verdict::Refused(Refusal::MemoryLength);
-    }
+    };
     let made = bus_setup::setup(pairs);
-    let answer = made.answer;
-    if let Answer::Refused(x) = answer {
+    if let Answer::Refused(x) = made.answer {
         return Verdict::Refused(x);
     }
-    let bus = made.bus;
-    let mut mem = [0u8; 4096];
-    mem.copy_from_slice(memory);
-    let checked = capture_pieces::pieces::piece(bus, &mut mem, 0, records);
-    let verdict = checked.verdict;
-    capture_pieces::pieces::closed(verdict, records.len() % capture_pieces::pieces::RECORD)
+    let mut mem = *memory;
+    let checked = pieces::piece(made.bus, &mut mem, 0, records);
+    pieces::closed(checked.verdict, records.len() % pieces::RECORD)
 }

@@ -8,12 +8,13 @@ ghost use Rattle.capture_rules.specs.Agreement.{is_accepted};
 ghost use Rattle.capture_pieces.specs.Piece.{piece_of};
 
 use capture_rules::{Seen, Verdict};
-use rules::{Answer, Bus, Outcome};
+use rules::{Answer, Bus};
 
 // Bytes of a record.
 pub const RECORD: usize = 6;
 
 // Whether the model's answer is the captured one. A refusal never is.
+#[tactic(auto, unfolding(capture_rules::specs::Capture::agrees))]
 fn agrees(a: Answer, s: Seen) -> bool
     ensures { result ≡ Capture·agrees a s }
 {
@@ -21,7 +22,7 @@ fn agrees(a: Answer, s: Seen) -> bool
         Answer::Nothing => s.code == 0,
         Answer::Ack => s.code == 1,
         Answer::Nack => s.code == 2,
-        Answer::Data(b) => (s.code == 3) & (s.byte == b),
+        Answer::Data(b) => s.code == 3 && s.byte == b,
         Answer::Refused(_) => false,
     }
 }
@@ -39,55 +40,49 @@ pub fn piece(bus: Bus, mem: &mut [u8], number: usize, records: &[u8]) -> Checked
     requires { (in_range bus ≡ true) × (length mem.old ≡ memory_bytes) × (number + length records.now ≤ 18446744073709551615) }
     ensures { piece_of bus mem.old number records.now ≡ (result, mem.new) }
 {
-    let count = records.len() / RECORD;
-    let mut x = Outcome {
-        bus,
-        answer: Answer::Nothing,
-    };
-    for i in 0..count {
-        let at = RECORD * i;
-        let e = script_text::records::record_at(records, at);
+    let mut bus = bus;
+    let (whole, _) = records.as_chunks::<RECORD>();
+    for (i, r) in whole.iter().enumerate() {
+        let e = script_text::records::record_at(r, 0);
         let seen = Seen {
-            code: records[at + 4],
-            byte: records[at + 5],
+            code: r[4],
+            byte: r[5],
         };
-        x = bus_event::event_in_range(x.bus, mem, e);
+        let x = bus_event::event_in_range(bus, mem, e);
+        bus = x.bus;
         let model = x.answer;
         let same = agrees(model, seen);
         if !same {
-            let last = x.bus;
             let record = number + i;
             let verdict = Verdict::Differs {
                 record,
                 model,
                 seen,
             };
-            return Checked { bus: last, verdict };
+            return Checked { bus, verdict };
         }
     }
-    let last = x.bus;
-    let verdict = Verdict::Accepted;
-    Checked { bus: last, verdict }
+    Checked {
+        bus,
+        verdict: Verdict::Accepted,
+    }
 }
 
 // Whether all agreed.
+#[tactic(auto, unfolding(capture_rules::specs::Agreement::is_accepted))]
 pub fn accepted(v: Verdict) -> bool
     ensures { result ≡ is_accepted v }
 {
-    if let Verdict::Accepted = v {
-        return true;
-    }
-    false
+    matches!(v, Verdict::Accepted)
 }
 
 // The verdict on records that end with so many bytes of one that is cut.
+#[tactic(auto, unfolding(capture_rules::specs::Capture::closed))]
 pub fn closed(v: Verdict, left: usize) -> Verdict
     ensures { result ≡ Capture·closed left v }
 {
-    if let Verdict::Accepted = v {
-        if left != 0 {
-            return Verdict::Short;
-        }
+    match v {
+        Verdict::Accepted if left != 0 => Verdict::Short,
+        _ => v,
     }
-    v
 }

@@ -5,6 +5,7 @@
 use rules::{Answer, Refusal};
 
 // An answer as it was captured: the code of its sort, and its byte. Rubbish is welcome in both. What they mean: specs/Capture.
+// Kept: two bytes, as a chip gave them, and no enum of answers: `agrees` (specs/Capture) and `seen_text` (capture_pieces) speak of every code.
 #[derive(Clone, Copy)]
 pub struct Seen {
     pub code: u8,

@@ -27,7 +27,7 @@ pub fn plan(bus: Bus, memory: &[u8], slot: SlotNo, image: &[u8], buffer: &mut [u
     ensures buffer_value { plan_of bus memory.now slot image.now buffer.old ≡ (result, buffer.new) }
     ensures typed { plan_number result ≡ 0 → Typed bus slot image.now }
 {
-    let Ok(wanted) = <&[u8; 512]>::try_from(image) else {
+    let Ok(wanted) = <&[u8; Slot::BYTES]>::try_from(image) else {
         return Err(Refusal::MemoryLength);
     };
     if memory.len() != Bus::MEMORY || buffer.len() != BUFFER {
@@ -44,6 +44,6 @@ pub fn plan(bus: Bus, memory: &[u8], slot: SlotNo, image: &[u8], buffer: &mut [u
     if unplanned(s) {
         return Err(Refusal::WrongSlot);
     }
-    let (parts, _) = memory.as_chunks::<512>();
+    let (parts, _) = memory.as_chunks::<{ Slot::BYTES }>();
     plan_pages::slot::alone(s, slot, &parts[at], wanted, buffer)
 }

@@ -1,7 +1,6 @@
 -- Events laid as records at the front of a buffer, behind those that stand there.
 -- Assumes nothing.
 use Rattle.std.specs.Prelude.{ℕ, ◌+◌, ◌*◌, List, ◌∷◌, ◌++◌, [], map, length}
-use Rattle.std.specs.Borrow.{MutBor}
 use Rattle.std.proofs.lemmas.List.Edits.{sets}
 use Rattle.rules.specs.declared.Event.{Event}
 use Rattle.plan_rules.specs.Records.{records_of}
@@ -17,10 +16,7 @@ event_of (Byte b) = byte b
 event_of Stop = stop
 event_of Tick = tick
 
--- a plan of no records, over a buffer; and with events laid behind its records
-abbrev pub plan_over : MutBor (List ℕ) → Plan
-plan_over b = record { buffer = b; count = 0 }
-
+-- a plan with events laid behind its records
 abbrev pub with_laid : List Event → Plan → Plan
 with_laid es p = record { buffer = record p.buffer { now = sets p.buffer.now (4 * p.count) (records_of es) }; count = p.count + length es }
 

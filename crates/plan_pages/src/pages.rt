@@ -10,7 +10,7 @@ use rules::{Act, BlockNo, Slot};
 pub const COUNT: u8 = 32;
 
 // Five ticks at one slot; part is its own 512 bytes. Whatever cycle ran is over then.
-pub fn settle(s: Slot, part: &mut [u8; 512]) -> Slot
+pub fn settle(s: Slot, part: &mut [u8; Slot::BYTES]) -> Slot
     requires { slot_in_range s ≡ true }
     ensures { (result ≡ slot_after 0 (replicate five Act.Tick) s)
         × (part.new ≡ part_after 0 (replicate five Act.Tick) s part.old) }
@@ -23,7 +23,7 @@ pub fn settle(s: Slot, part: &mut [u8; 512]) -> Slot
 }
 
 // Page p is not as the image has it.
-pub fn differs(old: &[u8; 512], image: &[u8; 512], p: u8) -> bool
+pub fn differs(old: &[u8; Slot::BYTES], image: &[u8; Slot::BYTES], p: u8) -> bool
     requires { p < page_count }
     ensures { result ≡ differs old.now image.now p }
 {
@@ -33,7 +33,7 @@ pub fn differs(old: &[u8; 512], image: &[u8; 512], p: u8) -> bool
 }
 
 // Some of the 32 pages differs and lies in a protected block; eight pages are a block.
-pub fn any_barred(s: Slot, old: &[u8; 512], image: &[u8; 512]) -> bool
+pub fn any_barred(s: Slot, old: &[u8; Slot::BYTES], image: &[u8; Slot::BYTES]) -> bool
     ensures { result ≡ barred_before old.now image.now s page_count }
 {
     (0..COUNT).any(|p| differs(old, image, p) && bus_slot::blocks::protects(BlockNo(p / 8), s))

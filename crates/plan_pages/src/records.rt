@@ -2,7 +2,7 @@
 ghost use Rattle.std.specs.Prelude.{◌≡◌, [], ◌∷◌, map, ◌+◌, ◌*◌, ◌≤◌, length};
 ghost use Rattle.plan_rules.specs.Plan.{byte, ticks, selecting};
 ghost use Rattle.plan_rules.specs.Records.{record_of};
-ghost use Rattle.plan_pages.specs.Laid.{event_of, plan_over, with_laid, exchanging};
+ghost use Rattle.plan_pages.specs.Laid.{event_of, with_laid, exchanging};
 
 // The events that a plan is made of. What each is as a script's event: specs/Laid.
 #[derive(Clone, Copy)]
@@ -35,13 +35,6 @@ pub struct Plan<'a> {
 }
 
 impl<'a> Plan<'a> {
-    // None yet.
-    pub fn new(buffer: &'a mut [u8]) -> Plan<'a>
-        ensures { result ≡ plan_over buffer.entry }
-    {
-        Plan { buffer, count: 0 }
-    }
-
     // One event.
     fn put(&mut self, step: Step)
         requires { 4 * self.old.count + 4 ≤ length self.old.buffer.now }

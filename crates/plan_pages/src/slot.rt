@@ -14,8 +14,8 @@ use rules::{Act, Refusal, Slot, SlotNo};
 pub fn alone(
     s: Slot,
     k: SlotNo,
-    part: &[u8; 512],
-    image: &[u8; 512],
+    part: &[u8; Slot::BYTES],
+    image: &[u8; Slot::BYTES],
     buffer: &mut [u8],
 ) -> Result<usize, Refusal>
     requires { (slot_in_range s ≡ true) × (k.0 < 8) × (length buffer.old ≡ buffer_bytes) }
@@ -27,7 +27,7 @@ pub fn alone(
     if pages::any_barred(settled, &old, image) {
         return Err(Refusal::ProtectedPage);
     }
-    let mut plan = Plan::new(buffer);
+    let mut plan = Plan { buffer, count: 0 };
     plan.ticks(5);
     writes::all_pages(&mut plan, settled, k, &old, image);
     Ok(plan.count)

@@ -9,12 +9,12 @@ use rules::{Answer, Refusal};
 use script_text::letters::{hex_digit, put, put_decimal, put_line};
 
 // A record's line, put at a place; the place after it.
-fn put_record(out: &mut [u8], at: usize, record: &[u8; 4]) -> usize
+fn put_record(out: &mut [u8], at: usize, bytes: &[u8; 4]) -> usize
     requires { at + 9 ≤ length out.old }
-    ensures { (result ≡ at + 9) × (out.new ≡ sets out.old at (record_line record.now 0)) }
+    ensures { (result ≡ at + 9) × (out.new ≡ sets out.old at (record_line bytes.now 0)) }
 {
     let mut end = at;
-    for b in record {
+    for b in bytes {
         end = put(out, end, &[hex_digit(b / 16), hex_digit(b % 16)]);
     }
     put(out, end, b"\n")

@@ -9,7 +9,7 @@ use super::records::Plan;
 use rules::{Slot, SlotNo};
 
 // What a page's write sends behind the control byte: the counter and the page's sixteen bytes.
-fn sent(counter: u8, image: &[u8; 512], p: u8) -> [u8; 17]
+fn sent(counter: u8, image: &[u8; Slot::BYTES], p: u8) -> [u8; 17]
     requires { p < page_count }
     ensures { result ≡ counter ∷ page_at p image.now }
 {
@@ -21,7 +21,7 @@ fn sent(counter: u8, image: &[u8; 512], p: u8) -> [u8; 17]
 }
 
 // One page: its half, where another one stands, then the write of the whole page and so many ticks.
-fn page(plan: &mut Plan, stands: u8, k: SlotNo, image: &[u8; 512], p: u8, count: u8)
+fn page(plan: &mut Plan, stands: u8, k: SlotNo, image: &[u8; Slot::BYTES], p: u8, count: u8)
     requires { (k.0 < 8) × (p < page_count) × (count ≤ 5) × (4 * (plan.old.count + 28) ≤ length plan.old.buffer.now) }
     ensures { plan.new ≡ with_laid (selecting stands (page_half p) ++ writing k.0 (page_counter p) (page_at p image.now) count) plan.old }
 {
@@ -31,7 +31,13 @@ fn page(plan: &mut Plan, stands: u8, k: SlotNo, image: &[u8; 512], p: u8, count:
 }
 
 // Those of the 32 pages that differ, in ascending order, each once. The half is selected where another one stands, and stays selected.
-pub fn all_pages(plan: &mut Plan, s: Slot, k: SlotNo, old: &[u8; 512], image: &[u8; 512])
+pub fn all_pages(
+    plan: &mut Plan,
+    s: Slot,
+    k: SlotNo,
+    old: &[u8; Slot::BYTES],
+    image: &[u8; Slot::BYTES],
+)
     requires { (slot_in_range s ≡ true) × (k.0 < 8) × (4 * (plan.old.count + 896) ≤ length plan.old.buffer.now) }
     ensures { plan.new ≡ with_laid (pages_before old.now image.now s k.0 page_count) plan.old }
 {

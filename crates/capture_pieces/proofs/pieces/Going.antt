@@ -7,7 +7,8 @@ use native.Mathlib.Omega.{arith}
 use mathlib.Core.Path.{◌≡◌, refl, sym, ◌∙◌, ap, ap₂}
 use mathlib.Core.Bool.{true, false}
 use mathlib.Core.List.{List, [], ◌∷◌}
-use lib.ListN.{length}
+use lib.ListN.{length, get_or, take, drop}
+use Rattle.std.proofs.lemmas.List.{get_or-take, get_or-drop}
 use Rattle.rules.specs.declared.Answer.{Answer}
 use Rattle.rules.specs.declared.Bus.{Bus}
 use Rattle.rules.specs.declared.Event.{Event}
@@ -26,6 +27,15 @@ use Rattle.bus_event.proofs.Onward.{event-bench, event-answer}
 use Rattle.capture_rules.proofs.Cut.{verdict-cut, bench-cut, bench-ended}
 use Rattle.capture_rules.proofs.Pieces.{captured-length}
 use Rattle.capture_pieces.specs.Piece.{piece_of}
+
+-- a record by itself is the one that stands at a place
+pub captured-record : (bs r : List ℕ) (at : ℕ) → r ≡ take 6 (drop at bs) → captured_at r 0 ≡ captured_at bs at
+unfolding captured_at record_at
+captured-record bs r at e =
+    rw (e, byte 0 (omega arith), byte 1 (omega arith), byte 2 (omega arith), byte 3 (omega arith), byte 4 (omega arith), byte 5 (omega arith), add-zero)
+  where
+    byte : (i : ℕ) → i < 6 → get_or (take 6 (drop at bs)) i 0 ≡ get_or bs (at + i) 0
+    byte i h = get_or-take 6 (drop at bs) i 0 h ∙ get_or-drop at bs i 0
 
 -- bus b and memory m, after k records of bs that agree, from the bench x, where n records went before
 pub record Going (x : Bench) (n : ℕ) (bs : List ℕ) (k : ℕ) (b : Bus) (m : List ℕ) : Type 0 where

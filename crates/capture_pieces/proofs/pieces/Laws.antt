@@ -1,23 +1,12 @@
--- A verdict closed, and what it is, in the form in which the code asks for it.
+-- A verdict that is not the accepted one: closed, it stays, and it says so.
 -- Assumes nothing.
-use Prim.Native.Nat.{ℕ}
-use mathlib.Core.Path.{◌≡◌, refl}
-use mathlib.Core.Bool.{true, false}
-use borrow.Author.Tests.{eq-eqb, ne_eqb}
+use Rattle.std.proofs.Common.{◌≡◌, refl, ℕ, false}
 use Rattle.capture_rules.specs.declared.Verdict.{Verdict}
 use Rattle.capture_rules.specs.declared.Verdict.TheVariants.{Accepted, Differs, Short, Refused}
 use Rattle.capture_rules.specs.Capture.{closed}
 use Rattle.capture_rules.specs.Agreement.{is_accepted}
 
-pub closed-left : (left : ℕ) (v : Verdict) → v ≡ Accepted → (left ≡ 0 → ⊥) → Short ≡ closed left v
-unfolding closed
-closed-left left v e h = rw (e, ne_eqb left 0 h)
-
-pub closed-whole : (left : ℕ) (v : Verdict) → v ≡ Accepted → left ≡ 0 → v ≡ closed left v
-unfolding closed
-closed-whole left v e h = rw (e, eq-eqb left 0 h)
-
--- every other verdict, by its place among the variants
+-- closed, it stays
 pub closed-other : (left : ℕ) (v : Verdict) → (v ≡ Accepted → ⊥) → v ≡ closed left v
 unfolding closed
 closed-other left Accepted h = absurd (h refl)
@@ -25,11 +14,7 @@ closed-other left (Differs k a s) h = refl
 closed-other left Short h = refl
 closed-other left (Refused r) h = refl
 
--- whether it is accepted
-pub accepted-is : (v : Verdict) → v ≡ Accepted → true ≡ is_accepted v
-unfolding is_accepted
-accepted-is v e = rw e
-
+-- and none is accepted
 pub accepted-other : (v : Verdict) → (v ≡ Accepted → ⊥) → false ≡ is_accepted v
 unfolding is_accepted
 accepted-other Accepted h = absurd (h refl)

@@ -28,33 +28,8 @@ byte-digits n h = digits-most 2 n (omega arith)
 pub usize-digits : (n : ℕ) → n < 2 ^ 64 → length (decimal n) ≤ 20
 usize-digits n h = digits-most 19 n (omega arith)
 
--- a captured answer by its code
+-- a captured answer has at most four characters, its byte being one
 module _ (s : Seen) where
-  pub seen_nothing : s.code ≡ 0 → seen_text s ≡ answer_text answer.Nothing
-  unfolding seen_text
-  seen_nothing e = rw e
-
-  pub seen-ack : s.code ≡ 1 → seen_text s ≡ answer_text answer.Ack
-  unfolding seen_text
-  seen-ack e = rw e
-
-  pub seen-nack : s.code ≡ 2 → seen_text s ≡ answer_text answer.Nack
-  unfolding seen_text
-  seen-nack e = rw e
-
-  pub seen-data : s.code ≡ 3 → seen_text s ≡ answer_text (answer.Data s.byte)
-  unfolding seen_text
-  seen-data e = rw e
-
-  pub seen-refused : s.code ≡ 4 → seen_text s ≡ 0x52 ∷ decimal s.byte
-  unfolding seen_text
-  seen-refused e = rw e
-
-  pub seen_other : (s.code ≡ 0 → ⊥) → (s.code ≡ 1 → ⊥) → (s.code ≡ 2 → ⊥) → (s.code ≡ 3 → ⊥) → (s.code ≡ 4 → ⊥) → seen_text s ≡ 0x3F ∷ []
-  unfolding seen_text
-  seen_other f g h i j = rw (ne_eqb s.code 0 f, ne_eqb s.code 1 g, ne_eqb s.code 2 h, ne_eqb s.code 3 i, ne_eqb s.code 4 j)
-
-  -- it has at most four characters, its byte being one
   pub seen-length : s.byte < 256 → length (seen_text s) ≤ 4
   unfolding seen_text digits_of
   seen-length h =
@@ -86,10 +61,6 @@ verdict-length Accepted h = omega arith
 verdict-length (Differs n a s) h = difference-most n a s h.0 h.1
 verdict-length Short h = omega arith
 verdict-length (Refused r) h = omega (arith, line-length (answer.Refused r))
-
--- a captured refusal: its letter, and its number
-pub refused-by : (n at mid end : ℕ) (out o p : List ℕ) → Put out at (0x52 ∷ []) mid o → Put o mid (decimal n) end p → Put out at (0x52 ∷ decimal n) end p
-refused-by n at mid end out o p f g = put_on out o p at mid end (0x52 ∷ []) (decimal n) f g
 
 -- a difference: number, answer and answer, with what parts them
 module _ (n : ℕ) (a : Answer) (s : Seen) (out o p q r t u : List ℕ) (i j k l m end : ℕ) where

@@ -13,9 +13,13 @@ use Rattle.rules.specs.declared.Slot.{Slot}
 use Rattle.plan_rules.specs.Records.{laid}
 use Rattle.plan_rules.specs.Plan.{ticks, five_ticks, page_count, barred_before, pages_before, planned}
 use Rattle.plan_pages.specs.declared.records.Plan.{Plan}
-use Rattle.plan_pages.specs.Laid.{plan_over, with_laid}
+use Rattle.plan_pages.specs.Laid.{with_laid}
 use Rattle.plan_pages.proofs.records.Laws.{laid_then}
 use Rattle.plan_pages.specs.Alone.{alone_of}
+
+-- a plan of no records, over a buffer
+abbrev pub plan_over : MutBor (List ℕ) → Plan
+plan_over b = record { buffer = b; count = 0 }
 
 -- the slot by itself
 module _ (t s : Slot) (k : ℕ) (o old image b : List ℕ) (settled : t ≡ s) (stored : o ≡ old) where

@@ -1,7 +1,7 @@
 -- The slot settled; then refused, or laid.
-use Rattle.std.proofs.Common.{◌∙◌, ap, refl, length, arith}
+use Rattle.std.proofs.Common.{◌∙◌, ap, refl, arith}
 use Rattle.rules.specs.Refusals.{slot_in_range}
-use Rattle.plan_rules.specs.Plan.{page_count, ticks, pages_before}
+use Rattle.plan_rules.specs.Plan.{page_count, pages_before}
 use Rattle.plan_rules.proofs.Count.{length-ticks}
 use Rattle.plan_pages.specs.declared.records.Plan.{Plan}
 use Rattle.plan_pages.specs.Laid.{with_laid}
@@ -15,26 +15,17 @@ returns-then-any_barred c =
     let e = c.settle-settled.ensures in
     alone-barred _ _ _ _ _ _ _ e.0 e.1 _ c.any_barred.ensures c.if-any_barred.true
 
-pub ticks-requires : goal.ticks-requires
-ticks-requires c =
-    let e = c.new-plan.ensures in
-    omega (arith, ap (λ (p : Plan). p.count) e, ap (λ (p : Plan). length p.buffer.now) e)
-
 pub all_pages-requires : goal.all_pages-requires
 all_pages-requires c =
     let g = c in
-    let e = c.new-plan.ensures in
-    let s = laid-sizes _ _ _ c.ticks.ensures in (
-      ap slot_in_range c.settle-settled.ensures.0 ∙ ticks-kept 5 g.args.s g.requires.0,
-      g.requires.1,
-      omega (arith, ap (λ (p : Plan). p.count) e, ap (λ (p : Plan). length p.buffer.now) e, length-ticks 5),
-    )
+    let s = laid-sizes _ _ _ c.ticks.ensures in
+    (ap slot_in_range c.settle-settled.ensures.0 ∙ ticks-kept 5 g.args.s g.requires.0, g.requires.1, omega (arith, length-ticks 5))
 
 pub returns : goal.returns
 returns c =
     let e = c.settle-settled.ensures in
-    let f = c.ticks.ensures ∙ ap (with_laid (ticks 5)) c.new-plan.ensures in
-    let g = c.all_pages.ensures ∙ ap (with_laid (pages_before c.settle-settled.new.part c.args.image.now c.settle-settled.result c.args.k.0 page_count)) f in
+    let g = c.all_pages.ensures
+    ∙ ap (with_laid (pages_before c.settle-settled.new.part c.args.image.now c.settle-settled.result c.args.k.0 page_count)) c.ticks.ensures in
     let name = ap (λ (p : Plan). p.buffer.ghost_name) g in
     let made = alone-laid _ _ _ _ _ _ _ e.0 e.1 _ _ _ c.any_barred.ensures c.if-any_barred.false refl g in
     grind (arith, name, made)
