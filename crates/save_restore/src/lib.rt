@@ -14,6 +14,9 @@ use save_fields::offsets::form_length;
 use save_fields::shares::{Field, byte_at, word};
 use script_text::letters::put;
 
+// Kept: while a form is read, form and slots are two parameters, since the slots are others after each field, and a struct of both would have to be
+// made anew for each.
+
 // Whether a form has a field: its tag stands where it would begin.
 fn tagged(field: Field, form: &[u8], slots: &[Slot; 8]) -> bool
     ensures { result ≡ tagged (row_of field) form.now slots.now }
