@@ -1,5 +1,7 @@
 // The fields of a saved form, and a slot's share of each: how many bytes, put into a lent output, and read from a form. What each is stands in the
 // crate `save_rules`, in a table whose rows are the fields in this order (`row_of`).
+// Kept: here and in `save_entry` an output and a place in it are two parameters, and each function asks for the room: `letters::put` takes them so,
+// and each asks for room for its own bytes alone, so that no one fact is true of all their outputs.
 ghost use Rattle.std.specs.Prelude.{◌≡◌, ◌+◌, ◌^◌, ◌<◌, ◌≤◌, eqb, length, get_or, take};
 ghost use Rattle.std.proofs.lemmas.List.Edits.{sets};
 ghost use Rattle.rules.specs.Modelled.{bytes_of};

@@ -1,21 +1,25 @@
 -- Laws of reading and comparing, one field and one share more at each turn; and the entry, row by row.
 -- Assumes nothing.
 use mathlib.Core.Path.{◌≡◌, refl, sym, ◌∙◌, ap, ap₂}
-use mathlib.Core.Bool.{Bool, true, false, not, ◌&&◌}
+use mathlib.Core.Bool.{Bool, true, false, not, ◌&&◌, and-false}
 use mathlib.Core.List.{List, [], ◌∷◌, ◌++◌}
-use Prim.Native.Nat.{ℕ, suc, ◌+◌, ◌-◌, ◌*◌, ◌≤◌, ◌<◌}
+use Prim.Native.Nat.{ℕ, zero, suc, ◌+◌, ◌-◌, ◌*◌, ◌≤◌, ◌<◌}
 use native.Mathlib.Nat.{add-zero}
 use native.Mathlib.Numerals.{add-one}
 use native.Mathlib.Omega.{arith}
-use borrow.Author.Tests.{eqb-true, eq-eqb, ne_eqb, not-false}
+use borrow.Author.Tests.{eqb-true, eq-eqb, ne_eqb, not-true, not-false}
+use denote.Enum.Bare.{sameb}
 use lib.Dec.{eqb}
 use lib.ListN.{length, get_or, set, take, drop, replicate, length-take, length-drop, length-replicate}
-use lib.Seq.{sets, sets-eq, length-sets, take_at}
+use lib.Pointwise.{pointwise}
+use lib.Seq.{sets, sets-eq, length-sets, take_at, take_all}
 use Rattle.proof_lists.specs.Each.{map_to, map_to-step, get_d_any}
-use Rattle.std.specs.List.{list_all}
-use Rattle.proof_lists.specs.Same.{stands}
+use Rattle.std.proofs.lemmas.Bool.{false≢true}
+use Rattle.std.proofs.lemmas.List.Folds.{list_all_more}
+use Rattle.std.specs.List.{list_all, starts_with}
+use Rattle.proof_lists.specs.Same.{same, stands}
 use Rattle.proof_lists.specs.Stores.{pasted}
-use Rattle.proof_lists.specs.Tests.{by-test, and_left, and_right}
+use Rattle.proof_lists.specs.Tests.{by-test}
 use Rattle.script_text.proofs.letters.Laws.{Put, put_on}
 use Rattle.rules.specs.declared.Answer.TheVariants as answer
 use Rattle.rules.specs.declared.Bus.{Bus}
@@ -28,7 +32,11 @@ use Rattle.rules.specs.Refusals.{wrong_length, slot_in_range, in_range}
 use Rattle.save_rules.specs.Form.{word_of, memory_field, fields, field_count, field_at, share_of, is_there, form_of}
 use Rattle.save_rules.specs.Reading.{size_in, offset, span, begins, place, tagged, read_shares, read_field, memory_row, bus_in, stored_to, memory_in, accepted, restore_of}
 use Rattle.save_rules.proofs.Places.{length-share, fixed-there, span-there, share-within, begins-up, size-most, most_other}
-use Rattle.save_fields.proofs.offsets.Laws.{size_fits, offset-small, begins-small}
+use Rattle.save_fields.specs.contracts.shares.Field as field
+use Rattle.save_fields.specs.declared.shares.Field.{Field}
+use Rattle.save_fields.specs.declared.shares.Field.TheVariants.{Setup, Memory, State, Sensor, Pending, Older}
+use Rattle.save_fields.specs.Rows.{row_of}
+use Rattle.save_fields.proofs.offsets.Laws.{size_fits, offset-small, begins-small, all_fields, row_at}
 use Rattle.save_restore.specs.Tallied.{share_tallies, shares_tally, head_tallies, field_tallies, fields_tally, tallies}
 use Rattle.save_restore.proofs.Tally.{share-any, tallies-same}
 
@@ -55,18 +63,32 @@ pub read_step : (t i : ℕ) (f : List ℕ) (ss all : List Slot) (r d : Slot) →
     → r ≡ (field_at t).reads f (place t i ss) (get_or ss i d) → set all i r ≡ map_to (read_by t f ss) 0 (i + 1) ss
 read_step t i f ss all r d h e p = ap₂ (λ (l : List Slot) (x : Slot). set l i x) e p ∙ map_to-step (read_by t f ss) i ss d h
 
+-- bytes looked for by std's own comparison
+pub pointwise-same : (xs ys : List ℕ) → pointwise eqb xs ys ≡ same xs ys
+unfolding same
+pointwise-same [] [] = refl
+pointwise-same [] (y ∷ ys) = refl
+pointwise-same (x ∷ xs) [] = refl
+pointwise-same (x ∷ xs) (y ∷ ys) = ap (λ b. eqb x y && b) (pointwise-same xs ys)
+
+pub starts-there : (xs ys : List ℕ) (at : ℕ) → starts_with eqb (take (length ys - at) (drop at ys)) xs ≡ stands xs ys at
+unfolding stands
+starts-there xs ys at =
+    ap (λ (l : List ℕ). starts_with eqb l xs) (take_all (length ys - at) (drop at ys) (omega (arith, length-drop at ys))) ∙ pointwise-same xs (take (length xs) (drop at ys))
+
 -- a field is read where its tag stands
 pub tagged-by : (t at b tag : ℕ) (f : List ℕ) (ss : List Slot) → at ≡ begins t ss → b ≡ get_or f at 0 → tag ≡ (field_at t).tag → eqb b tag ≡ tagged t f ss
 unfolding tagged
 tagged-by t at b tag f ss e h g = rw (h, e, g)
 
-pub read-it : (t : ℕ) (f : List ℕ) (ss rs : List Slot) (r : Bool) → r ≡ tagged t f ss → r ≡ true → rs ≡ read_shares t f ss → rs ≡ read_field t f ss
+pub read-it : (t : ℕ) (f : List ℕ) (b : Bus) (rs : List Slot) (r : Bool) → r ≡ tagged t f b.slots → r ≡ true → rs ≡ read_shares t f b.slots
+    → ◌≡◌ {A = Bus} (record { slots = rs }) (record { slots = read_field t f b.slots })
 unfolding read_field
-read-it t f ss rs r e i h = rw (← e, i) h
+read-it t f b rs r e i h = rw (← e, i, h)
 
-pub leave-it : (t : ℕ) (f : List ℕ) (ss : List Slot) (r : Bool) → r ≡ tagged t f ss → r ≡ false → ss ≡ read_field t f ss
+pub leave-it : (t : ℕ) (f : List ℕ) (b : Bus) (r : Bool) → r ≡ tagged t f b.slots → r ≡ false → b ≡ record { slots = read_field t f b.slots }
 unfolding read_field
-leave-it t f ss r e i = rw (← e, i)
+leave-it t f b r e i = rw (← e, i)
 
 -- a share stands inside a form that is as long as its slots say
 pub share-inside : (t k at n : ℕ) (ss : List Slot) (f : List ℕ) (d : Slot) → t < field_count → is_there t ss ≡ true → k < slot_count → length ss ≡ slot_count → length f ≡ begins field_count ss
@@ -85,13 +107,15 @@ pub tally-step : (t i at : ℕ) (ss : List Slot) (f : List ℕ) (d : Slot) (ok r
 unfolding shares_tally
 tally-step t i at ss f d ok r h e p q = rw (add-one, p, q, e, get_d_any ss i d absent_slot h)
 
-pub fields-none : (ss : List Slot) (f : List ℕ) → true ≡ fields_tally 0 ss f
+fields-front : (t : ℕ) (ss : List Slot) (f : List ℕ) → t ≤ field_count → list_all (λ (x : Field). field_tallies (row_of x) ss f) (take t all_fields) ≡ fields_tally t ss f
 unfolding fields_tally
-fields-none ss f = refl
+fields-front zero ss f h = refl
+fields-front (suc t) ss f h =
+    let more = rw (add-one t) at (list_all_more (λ (x : Field). field_tallies (row_of x) ss f) all_fields t Setup h) in
+    more ∙ ap₂ (λ (b : Bool) (u : ℕ). b && field_tallies u ss f) (fields-front t ss f (omega arith)) (row_at t h)
 
-pub fields-step : (t : ℕ) (ss : List Slot) (f : List ℕ) (ok r : Bool) → ok ≡ fields_tally t ss f → r ≡ field_tallies t ss f → (ok && r) ≡ fields_tally (t + 1) ss f
-unfolding fields_tally
-fields-step t ss f ok r p q = rw (add-one, p, q)
+pub fields-all : (ss : List Slot) (f : List ℕ) → list_all (λ (x : Field). field_tallies (row_of x) ss f) all_fields ≡ fields_tally field_count ss f
+fields-all ss f = fields-front field_count ss f (omega arith)
 
 pub field-there : (t : ℕ) (ss : List Slot) (f : List ℕ) (i a b : Bool) → i ≡ is_there t ss → i ≡ true → a ≡ head_tallies t ss f → b ≡ shares_tally t slot_count ss f
     → (a && b) ≡ field_tallies t ss f
@@ -102,20 +126,27 @@ pub field-none : (t : ℕ) (ss : List Slot) (f : List ℕ) (i : Bool) → i ≡ 
 unfolding field_tallies
 field-none t ss f i e h = rw (← e, h)
 
-pub tallies-not : (ss : List Slot) (f : List ℕ) (n : ℕ) → n ≡ begins field_count ss → (length f ≡ n → ⊥) → false ≡ tallies ss f
-unfolding tallies
-tallies-not ss f n e h = rw (ne_eqb (length f) (begins field_count ss) (λ z. h (z ∙ sym e)))
-
-pub tallies-all : (ss : List Slot) (f : List ℕ) (n : ℕ) (ok : Bool) → n ≡ begins field_count ss → length f ≡ n → ok ≡ fields_tally field_count ss f → ok ≡ tallies ss f
-unfolding tallies
-tallies-all ss f n ok e h p = rw (eq-eqb (length f) (begins field_count ss) (h ∙ e)) p
-
 -- a field's head stands inside the form
 pub head-within : (t : ℕ) (ss : List Slot) → t < field_count → is_there t ss ≡ true → begins t ss + 3 ≤ begins field_count ss
 head-within t ss h i = omega (arith, begins-up ss (suc t) field_count h, span-there t ss i, next)
   where
     next : begins (suc t) ss ≡ begins t ss + span t ss
     next = unfold begins in refl
+
+-- the field of memory, as `==` tells it
+memory_told : (x : Field) → sameb field.the_type x Memory ≡ eqb (row_of x) memory_row
+memory_told Setup = refl
+memory_told Memory = refl
+memory_told State = refl
+memory_told Sensor = refl
+memory_told Pending = refl
+memory_told Older = refl
+
+pub of-memory : (x : Field) (r : Bool) → r ≡ sameb field.the_type x Memory → r ≡ true → eqb (row_of x) memory_row ≡ true
+of-memory x r e h = sym (memory_told x) ∙ sym e ∙ h
+
+pub not-memory : (x : Field) (r : Bool) → r ≡ sameb field.the_type x Memory → r ≡ false → row_of x ≡ memory_row → ⊥
+not-memory x r e h z = false≢true (sym h ∙ e ∙ memory_told x ∙ eq-eqb (row_of x) memory_row z)
 
 -- a share that is not memory has at most fifteen bytes, as many as the table says
 pub share-length : (t : ℕ) (s : Slot) → (t ≡ memory_row → ⊥) → length (share_of t s []) ≡ size_in t s
@@ -145,22 +176,6 @@ pub share-by : (t at n : ℕ) (s : Slot) (f o : List ℕ) (r : Bool) → (t ≡ 
 unfolding share_tallies
 share-by t at n s f o r h p q = rw (ne_eqb t memory_row h, ← room-taken t s n o h p) q
 
--- a field's tag and length, put into a room of three
-pub head-put : (tag count one two : ℕ) (o p : List ℕ) → Put (replicate 3 0) 0 (tag ∷ []) one o → Put o one (word_of count) two p → p ≡ tag ∷ word_of count
-unfolding word_of
-head-put tag count one two o p x y = (put_on (replicate 3 0) o p 0 one two (tag ∷ []) (word_of count) x y).1
-
-pub head-by : (t tag count one two at : ℕ) (ss : List Slot) (f o p : List ℕ) (r : Bool) → tag ≡ (field_at t).tag → count ≡ offset t slot_count ss → at ≡ begins t ss
-    → Put (replicate 3 0) 0 (tag ∷ []) one o → Put o one (word_of count) two p → r ≡ stands p f at → r ≡ head_tallies t ss f
-unfolding head_tallies
-head-by t tag count one two at ss f o p r a b c x y q = rw (← a, ← b, ← c, ← head-put tag count one two o p x y) q
-
-pub head-fits : (t tag count one two at : ℕ) (ss : List Slot) (f o p : List ℕ) → (t < field_count) × (is_there t ss ≡ true) × (length f ≡ begins field_count ss) → at ≡ begins t ss
-    → Put (replicate 3 0) 0 (tag ∷ []) one o → Put o one (word_of count) two p → at + length p ≤ length f
-head-fits t tag count one two at ss f o p h e x y =
-    let three : length p ≡ 3 = unfold word_of in ap length (head-put tag count one two o p x y) in
-    omega (arith, h.2, head-within t ss h.0 h.1)
-
 -- storing the form's memory, slot by slot
 pub stored-none : (f : List ℕ) (ss : List Slot) (m : List ℕ) → m ≡ stored_to 0 f ss m
 unfolding stored_to
@@ -188,26 +203,35 @@ stored-turn i at n f ss m o part d h g w l e p q c =
     ∙ ap (λ (k : ℕ). sets o (slot_bytes * i) (take k (drop at f))) whole
     ∙ stored-step i at n f ss m o d (omega arith) e p q
 
--- an accepted form is as long as its slots say
-pub whole-form : (ss : List Slot) (f : List ℕ) (r q : Bool) → q ≡ tallies ss f → not (r && q) ≡ false → length f ≡ begins field_count ss
-unfolding tallies
-whole-form ss f r q e h = eqb-true (length f) (begins field_count ss) (and_left _ (fields_tally field_count ss f) (sym e ∙ and_right r q (not-false (r && q) h)))
-
 -- the entry, row by row
 module _ (b : Bus) (m f : List ℕ) where
   pub restore-memory : (x : Outcome) → (length m ≡ memory_bytes → ⊥) → x ≡ record { bus = b; answer = answer.Refused MemoryLength } → restore_of b m f ≡ (x, m)
   unfolding restore_of wrong_length
   restore-memory x h e = rw (ne_eqb (length m) memory_bytes h, e)
 
-  module _ (read : Bus) (r q : Bool) (sized : length m ≡ memory_bytes) (is : read ≡ bus_in f) (ranged : r ≡ list_all slot_in_range read.slots) (told : q ≡ tallies read.slots f) where
-    verdict : (r && q) ≡ accepted f m
+  module _ (told : Bus) (sized : length m ≡ memory_bytes) (is : told ≡ bus_in f) where
+    verdict : (r : Bool) → r ≡ (list_all slot_in_range told.slots && tallies told.slots f) → r ≡ accepted f m
     unfolding accepted form_of memory_in in_range
-    verdict = ap₂ ◌&&◌ (ranged ∙ ap (λ (x : Bus). list_all slot_in_range x.slots) is) (told ∙ ap (λ (x : Bus). tallies x.slots f) is ∙ tallies-same (bus_in f).slots f m sized)
+    verdict r e = e ∙ ap₂ ◌&&◌ (ap (λ (x : Bus). list_all slot_in_range x.slots) is) (ap (λ (x : Bus). tallies x.slots f) is ∙ tallies-same (bus_in f).slots f m sized)
 
-    pub restore-departs : (x : Outcome) → not (r && q) ≡ true → x ≡ record { bus = b; answer = answer.Refused WrongForm } → restore_of b m f ≡ (x, m)
+    refuses : accepted f m ≡ false → (x : Outcome) → x ≡ record { bus = b; answer = answer.Refused WrongForm } → restore_of b m f ≡ (x, m)
     unfolding restore_of wrong_length
-    restore-departs x h e = rw (eq-eqb (length m) memory_bytes sized, ← verdict, h, e)
+    refuses a x e = rw (eq-eqb (length m) memory_bytes sized, a, e)
 
-    pub restore-accepts : (o : List ℕ) → not (r && q) ≡ false → o ≡ stored_to slot_count f read.slots m → restore_of b m f ≡ (record { bus = read; answer = answer.Nothing }, o)
-    unfolding restore_of wrong_length memory_in
-    restore-accepts o h e = rw (eq-eqb (length m) memory_bytes sized, ← verdict, h, e, is)
+    pub restore-long : (n : ℕ) (x : Outcome) → n ≡ begins field_count told.slots → (length f ≡ n → ⊥) → x ≡ record { bus = b; answer = answer.Refused WrongForm }
+        → restore_of b m f ≡ (x, m)
+    unfolding tallies
+    restore-long n x e h p =
+        let no : false ≡ tallies told.slots f = rw (ne_eqb (length f) (begins field_count told.slots) (λ z. h (z ∙ sym e))) in
+        refuses (sym (verdict false (sym (ap (λ y. list_all slot_in_range told.slots && y) (sym no) ∙ and-false (list_all slot_in_range told.slots))))) x p
+
+    module _ (r q : Bool) (whole : length f ≡ begins field_count told.slots) (ranged : r ≡ list_all slot_in_range told.slots) (same : q ≡ fields_tally field_count told.slots f) where
+      both_say : (r && q) ≡ accepted f m
+      both_say = verdict (r && q) (ap₂ ◌&&◌ ranged (unfold tallies in rw (eq-eqb (length f) (begins field_count told.slots) whole) same))
+
+      pub restore-departs : (x : Outcome) → not (r && q) ≡ true → x ≡ record { bus = b; answer = answer.Refused WrongForm } → restore_of b m f ≡ (x, m)
+      restore-departs x h e = refuses (sym both_say ∙ not-true (r && q) h) x e
+
+      pub restore-accepts : (x : Outcome) (o : List ℕ) → not (r && q) ≡ false → o ≡ stored_to slot_count f told.slots m → x ≡ record { bus = told; answer = answer.Nothing } → restore_of b m f ≡ (x, o)
+      unfolding restore_of wrong_length memory_in
+      restore-accepts x o h e p = rw (eq-eqb (length m) memory_bytes sized, sym both_say ∙ not-false (r && q) h, e, p, is)

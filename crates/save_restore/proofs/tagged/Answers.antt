@@ -3,4 +3,4 @@ use Rattle.save_restore.proofs.Laws.{tagged-by}
 use Rattle.save_restore.proofs.tagged.Goals as goal
 
 pub returns : goal.returns
-returns c = search tagged-by
+returns c = tagged-by _ _ _ _ _ _ c.begins.ensures c.byte_at.ensures c.tag.ensures
