@@ -1,8 +1,8 @@
 // The bench of the tries: what a command goes on from, and what each command does.
 use super::commands::{Below, Command, NotUnderstood, Place, Size};
-use super::report::{Changes, Hex, Page, Part, PinInWords, Rest, Shown};
-use super::state;
+use super::report::{Changes, Hex, Part, PinInWords, Rest, Shown};
 use super::words::Word;
+use super::{report, state};
 use arrayvec::ArrayVec;
 use rules::{Answer, BlockNo, Bus, Event, Pair, SlotNo};
 
@@ -15,6 +15,11 @@ pub struct Bench {
     length: Size,
     pub memory: [u8; 8192],
     shelf: [u8; 8192],
+}
+
+// A byte of the memory or of the shelf.
+fn byte(bytes: &[u8; 8192], at: Place) {
+    report::say(format_args!(": {}", Hex(u16::from(bytes[at.n]))));
 }
 
 impl Bench {
@@ -49,7 +54,7 @@ impl Bench {
     }
 
     // What moves bus and memory, and what it has changed.
-    fn moved<F: FnOnce(&mut Bench)>(&mut self, page: Page, step: F)
+    fn moved<F: FnOnce(&mut Bench)>(&mut self, step: F)
         requires { F.IsAlwaysCallable step }
     {
         let before = *self;
@@ -59,28 +64,28 @@ impl Bench {
             before: &before,
             after,
         };
-        page.say(changes);
+        report::say(changes);
     }
 
-    fn act(&mut self, page: Page, e: Event) {
+    fn act(&mut self, e: Event) {
         let bus = self.bus;
         let done = bus_event::event(bus, self.lent_mut(), e);
         self.bus = done.bus;
-        page.answer(done.answer);
+        report::answer(done.answer);
     }
 
     // The first bytes of the shelf as a form.
-    fn restore(&mut self, page: Page, size: Size) {
+    fn restore(&mut self, size: Size) {
         let bus = self.bus;
         let shelf = self.shelf;
         let form = &shelf[..size.n];
         let done = save_restore::restore(bus, self.lent_mut(), form);
         self.bus = done.bus;
-        page.answer(done.answer);
+        report::answer(done.answer);
     }
 
     // Records as a list, and what then stands at its answer places: lines as the list program writes them, each behind a space instead of its end.
-    fn give(&mut self, page: Page, places: u8, records: ArrayVec<u8, 32>) {
+    fn give(&mut self, places: u8, records: ArrayVec<u8, 32>) {
         let mut text = [0u8; 262140];
         let bus = self.bus;
         let told = list_lend::lend::give_records(
@@ -91,43 +96,43 @@ impl Bench {
             &mut text,
         );
         self.bus = told.bus;
-        page.say(":");
+        report::say(":");
         if told.end == 0 {
-            page.say(" empty");
+            report::say(" empty");
         }
         for line in text[..told.end.min(262140)]
             .split(|b| *b == b'\n')
             .filter(|line| !line.is_empty())
         {
-            page.say(" ");
-            page.copy(line);
+            report::say(" ");
+            report::copy(line);
         }
     }
 
     // Bytes as the records of a capture: the verdict's line as the capture program writes it, but for the line's end, which is the try's own.
-    fn check(&self, page: Page, records: &[u8]) {
+    fn check(&self, records: &[u8]) {
         let mut line = [0u8; 32];
         let verdict = capture_entry::check(self.pairs, self.lent(), records);
         let end = capture_pieces::text::put_verdict(&mut line, verdict);
-        page.say(": ");
-        page.copy(line[..end].trim_ascii_end());
+        report::say(": ");
+        report::copy(line[..end].trim_ascii_end());
     }
 
-    fn pin(&self, page: Page, n: SlotNo) {
+    fn pin(&self, n: SlotNo) {
         match bus_pin::pin(self.bus, n) {
-            Ok(p) => page.say(format_args!(": {}", PinInWords(p))),
-            Err(r) => page.answer(Answer::Refused(r)),
+            Ok(p) => report::say(format_args!(": {}", PinInWords(p))),
+            Err(r) => report::answer(Answer::Refused(r)),
         }
     }
 
     // A saving into the first bytes of the shelf: the form's length or the refusal, and whether the shelf has changed.
-    fn save(&mut self, page: Page, room: Size) {
+    fn save(&mut self, room: Size) {
         let mut shelf = self.shelf;
         match save_entry::save(self.bus, self.lent(), &mut shelf[..room.n]) {
-            Ok(n) => page.say(format_args!(": {n} bytes")),
-            Err(r) => page.answer(Answer::Refused(r)),
+            Ok(n) => report::say(format_args!(": {n} bytes")),
+            Err(r) => report::answer(Answer::Refused(r)),
         }
-        page.say(Rest {
+        report::say(Rest {
             before: &self.shelf,
             after: &shelf,
             behind: false,
@@ -137,7 +142,7 @@ impl Bench {
 
     // A plan, laid into the first bytes of the shelf: how many records or the refusal, and whether the shelf has changed behind them. Its image stood
     // on the shelf where the slot's own bytes stand in the memory.
-    fn plan(&mut self, page: Page, slot: SlotNo, image: Below<4609>, room: Size) {
+    fn plan(&mut self, slot: SlotNo, image: Below<4609>, room: Size) {
         let before = self.shelf;
         let mut shelf = before;
         let from = 512 * usize::from(slot.0 % 8);
@@ -145,12 +150,12 @@ impl Bench {
         let mut end = 0;
         match plan_entry::plan(self.bus, self.lent(), slot, wanted, &mut shelf[..room.n]) {
             Ok(n) => {
-                page.say(format_args!(": {n} records"));
+                report::say(format_args!(": {n} records"));
                 end = 4 * n.min(2048);
             }
-            Err(r) => page.answer(Answer::Refused(r)),
+            Err(r) => report::answer(Answer::Refused(r)),
         }
-        page.say(Rest {
+        report::say(Rest {
             before: &before[end..],
             after: &shelf[end..],
             behind: 0 < end,
@@ -159,63 +164,49 @@ impl Bench {
     }
 
     // The four bytes of a record on the shelf.
-    fn record(&self, page: Page, k: Below<2048>) {
-        page.say(":");
-        for b in self.shelf.iter().skip(4 * k.n).take(4) {
-            page.say(format_args!(" {}", Hex(u16::from(*b))));
+    fn record(&self, k: Below<2048>) {
+        report::say(":");
+        for b in &self.shelf[4 * k.n..4 * k.n + 4] {
+            report::say(format_args!(" {}", Hex(u16::from(*b))));
         }
     }
 
-    fn byte(page: Page, bytes: &[u8; 8192], at: Place) {
-        page.say(format_args!(": {}", Hex(u16::from(bytes[at.n]))));
-    }
-
-    fn setup(&mut self, page: Page, pairs: [Pair; 8]) {
+    fn setup(&mut self, pairs: [Pair; 8]) {
         let made = bus_setup::setup(pairs);
         self.pairs = pairs;
         self.bus = made.bus;
-        page.answer(made.answer);
+        report::answer(made.answer);
     }
 
     // Numbers of a slot are handed in, if all of them are there and fit.
-    fn slot(&mut self, words: [Word; 37]) -> Result<(), NotUnderstood> {
-        let Word::Number(n) = words[0] else {
-            return Err(NotUnderstood);
-        };
-        let slot = self.bus.slots.get_mut(usize::from(n)).ok_or(NotUnderstood)?;
-        *slot = state::hand_in(*slot, &words)?;
+    fn slot(&mut self, n: Below<8>, words: [Word; 37]) -> Result<(), NotUnderstood> {
+        self.bus.slots[n.n] = state::hand_in(self.bus.slots[n.n], &words)?;
         Ok(())
     }
 
-    // What looks, and leaves all as it is.
-    fn look(&self, page: Page, command: Command) {
-        match command {
-            Command::Show(n) => page.say(format_args!(":{}", Shown(self.bus.slots[n.n]))),
-            Command::At(at) => Bench::byte(page, &self.memory, at),
-            Command::Form(at) => Bench::byte(page, &self.shelf, at),
-            Command::Record(k) => self.record(page, k),
-            Command::Block(n, k) => page.say(format_args!(
-                ": {}",
-                Part(bus_block::block(self.lent(), self.bus, n, k))
-            )),
-            Command::Pin(n) => self.pin(page, n),
-            Command::Check(records) => self.check(page, records.as_slice()),
-            _ => {}
-        }
+    fn block(&self, n: SlotNo, k: BlockNo) {
+        let part = bus_block::block(self.lent(), self.bus, n, k);
+        report::say(format_args!(": {}", Part(part)));
     }
 
-    pub fn run(&mut self, page: Page, command: Command) -> Result<(), NotUnderstood> {
+    pub fn run(&mut self, command: Command) -> Result<(), NotUnderstood> {
         match command {
-            Command::Setup(pairs) => self.setup(page, pairs),
+            Command::Setup(pairs) => self.setup(pairs),
             Command::Memory(n) => self.length = n,
-            Command::Slot(words) => self.slot(words)?,
-            Command::Event(e) => self.moved(page, |b| b.act(page, e)),
-            Command::Restore(size) => self.moved(page, |b| b.restore(page, size)),
-            Command::List(places, records) => self.moved(page, |b| b.give(page, places, records)),
-            Command::Save(room) => self.save(page, room),
-            Command::Plan(slot, image, room) => self.plan(page, slot, image, room),
+            Command::Slot(n, words) => self.slot(n, words)?,
+            Command::Show(n) => report::say(format_args!(":{}", Shown(self.bus.slots[n.n]))),
+            Command::At(at) => byte(&self.memory, at),
+            Command::Block(n, k) => self.block(n, k),
+            Command::Check(records) => self.check(records.as_slice()),
+            Command::Save(room) => self.save(room),
+            Command::Restore(size) => self.moved(|b| b.restore(size)),
+            Command::Form(at) => byte(&self.shelf, at),
             Command::Put(at, b) => self.shelf[at.n] = b,
-            _ => self.look(page, command),
+            Command::List(places, records) => self.moved(|b| b.give(places, records)),
+            Command::Plan(slot, image, room) => self.plan(slot, image, room),
+            Command::Record(k) => self.record(k),
+            Command::Pin(n) => self.pin(n),
+            Command::Event(e) => self.moved(|b| b.act(e)),
         }
         Ok(())
     }

@@ -55,8 +55,8 @@ pub type Place = Below<8192>;
 pub enum Command {
     Setup([Pair; 8]),
     Memory(Size),
-    // The slot's number, and behind it what is handed in.
-    Slot([Word; 37]),
+    // The slot's number, and all words: it too, and behind it what is handed in.
+    Slot(Below<8>, [Word; 37]),
     Show(Below<8>),
     At(Place),
     Block(SlotNo, BlockNo),
@@ -162,9 +162,10 @@ fn with_numbers(verb: Verb, numbers: &[u16]) -> Result<Command, NotUnderstood> {
     }
 }
 
+// The command of some words.
 fn with_words(verb: Verb, words: [Word; 37]) -> Result<Command, NotUnderstood> {
-    match verb {
-        Verb::Slot => Ok(Command::Slot(words)),
+    match (verb, words) {
+        (Verb::Slot, [Word::Number(n), ..]) => Ok(Command::Slot(Below::try_from(n)?, words)),
         _ => with_numbers(verb, numbers(words)?.as_slice()),
     }
 }

@@ -12,7 +12,6 @@ mod words; // the words of a command
 use arrayvec::ArrayVec;
 use bench::Bench;
 use commands::NotUnderstood;
-use report::Page;
 
 // The descriptor of standard input.
 const STDIN_FILENO: i32 = 0;
@@ -26,13 +25,13 @@ fn next() -> Option<u8> {
 
 // A command's text is written as it is read; one that is too long is none that is understood. The byte behind it: a semicolon, which in a heading is
 // text, or a line's end; none where the input ends.
-fn read(page: Page, text: &mut ArrayVec<u8, 150>) -> Option<u8> {
+fn read(text: &mut ArrayVec<u8, 150>) -> Option<u8> {
     for _ in 0..u64::MAX {
         let b = next()?;
-        if (b == b'\n') | ((b == b';') & !text.as_slice().starts_with(b"#")) {
+        if b == b'\n' || (b == b';' && !text.as_slice().starts_with(b"#")) {
             return Some(b);
         }
-        page.copy(&[b]);
+        report::copy(&[b]);
         if text.try_push(b).is_err() {
             text.as_mut_slice()[0] = b'?';
         }
@@ -41,31 +40,30 @@ fn read(page: Page, text: &mut ArrayVec<u8, 150>) -> Option<u8> {
 }
 
 // What a command asks for is done. The first of a line begins anew, unless it asks for nothing.
-fn run(bench: &mut Bench, page: Page, is_first: bool, text: &[u8]) -> Result<(), NotUnderstood> {
+fn run(bench: &mut Bench, is_first: bool, text: &[u8]) -> Result<(), NotUnderstood> {
     let asked = commands::asked(text);
-    if is_first & !matches!(asked, Ok(None)) {
+    if is_first && !matches!(asked, Ok(None)) {
         bench.begin();
     }
     match asked? {
-        Some(c) => bench.run(page, c),
+        Some(c) => bench.run(c),
         None => Ok(()),
     }
 }
 
-fn main(rt: HostRuntime) {
-    let page = Page(rt.stdout());
+fn main() {
     let mut bench = Bench::new();
     let mut is_first = true;
     for _ in 0..u64::MAX {
         let mut text = ArrayVec::new();
-        let end = read(page, &mut text);
-        if run(&mut bench, page, is_first, text.as_slice()).is_err() {
-            page.say(": NOT UNDERSTOOD");
+        let end = read(&mut text);
+        if run(&mut bench, is_first, text.as_slice()).is_err() {
+            report::say(": NOT UNDERSTOOD");
         }
         let Some(b) = end else {
             return;
         };
-        page.copy(&[b]);
+        report::copy(&[b]);
         is_first = b != b';';
     }
 }

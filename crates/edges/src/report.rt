@@ -4,26 +4,32 @@ use super::names::{NUMBERS, PHASES};
 use super::state::Numbers;
 use rules::{Answer, Pin, Slot};
 use std::fmt;
-use std::fmt::{Display, Formatter};
-use std::io::{Print, Stdout};
+use std::fmt::{Display, Formatter, Write};
 
-// Standard output. What cannot be written is left out, and the tries go on.
-#[derive(Clone, Copy)]
-pub struct Page(pub Stdout);
+// The descriptor of standard output.
+const STDOUT_FILENO: i32 = 1;
 
-impl Page {
-    pub fn say<D: Display + Drop>(&self, what: D) {
-        let _ = self.0.print(what);
+// Bytes as they are, which need not be text. What cannot be written is left out, and the tries go on.
+pub fn copy(bytes: &[u8]) {
+    io::write_all(STDOUT_FILENO, bytes);
+}
+
+#[derive(Drop)]
+struct Output;
+
+impl fmt::Write for Output {
+    fn write_str(&mut self, s: &str) -> fmt::Result {
+        copy(s.as_bytes());
+        Ok(())
     }
+}
 
-    pub fn answer(&self, a: Answer) {
-        self.say(format_args!(": {}", InWords(a)));
-    }
+pub fn say<D: Display + Drop>(what: D) {
+    let _ = write!(Output, "{what}");
+}
 
-    // Bytes as they are, which need not be text.
-    pub fn copy(&self, bytes: &[u8]) {
-        let _ = self.0.write_all(bytes);
-    }
+pub fn answer(a: Answer) {
+    say(format_args!(": {}", InWords(a)));
 }
 
 // A number of two digits, as in 5Ah, or of four, as in 07CFh.

@@ -17,59 +17,32 @@ const COUNTER: usize = 4123;
 
 // A byte counted up, round and round.
 fn up(b: u8) -> u8 {
-    std::num::wrapping_add_u8(b, 1)
+    b.wrapping_add(1)
 }
 
-// The counter of slot 0, and a bus with another.
-fn counter_of(bus: Bus) -> u8 {
-    let slots = bus.slots;
-    slots[0].counter
+// A bus with another counter of slot 0.
+fn counted(mut bus: Bus, counter: u8) -> Bus {
+    bus.slots[0].counter = counter;
+    bus
 }
 
-fn counted(bus: Bus, counter: u8) -> Bus {
-    let mut slots = bus.slots;
-    slots[0].counter = counter;
-    Bus { slots }
-}
-
-// So many savings. The first byte of memory and a counter go into the form, and from there, counted up, into memory and bus again.
-fn save_laps(bus: Bus, mem: &mut [u8; 4096], form: &mut [u8; FORM], count: u64) {
-    let mut at = bus;
+// So many laps, and whether the byte that each has counted up has counted them, from FFh on.
+fn laps<F: FnMut() -> u8>(count: u64, mut lap: F) -> bool
+    requires { F.IsAlwaysCallable lap }
+{
+    let mut last = 0xFF;
     for _ in 0..count {
-        let _ = save_entry::save(at, mem, form);
-        mem[0] = up(form[FIRST]);
-        at = counted(at, up(form[COUNTER]));
+        last = lap();
     }
-    finish(mem[0], count, form);
+    u64::from(up(last)) == count % 256
 }
 
-// So many restorings, the other way round.
-fn restore_laps(bus: Bus, mem: &mut [u8; 4096], form: &mut [u8; FORM], count: u64) {
-    let mut at = bus;
-    for _ in 0..count {
-        let restored = save_restore::restore(at, mem, form);
-        at = restored.bus;
-        form[FIRST] = up(mem[0]);
-        form[COUNTER] = up(counter_of(at));
-    }
-    finish(form[FIRST], count, mem);
-}
-
-// So many copies of as many bytes.
-fn copy_laps(from: &mut [u8; FORM], to: &mut [u8; FORM], count: u64) {
-    for _ in 0..count {
-        to.copy_from_slice(from);
-        from[FIRST] = up(to[FIRST]);
-    }
-    finish(from[FIRST], count, to);
-}
-
-// The end of some laps: where the byte has counted them, from FFh on, `done` is put into the room that they have filled, and written out of it.
-// Whoever writes may look at all of a room, so the laps have to fill all of it.
-fn finish(last: u8, count: u64, room: &mut [u8])
+// The end of some laps: where the byte has counted them, `done` is put into the room that they have filled, and written out of it. Whoever writes may
+// look at all of a room, so the laps have to fill all of it.
+fn finish(right: bool, room: &mut [u8])
     requires { 5 ≤ length room.old }
 {
-    if last != ((count % 256 + 255) % 256) as u8 {
+    if !right {
         io::write_all(STDERR, b"laps: a lap was lost\n");
         return;
     }
@@ -77,19 +50,47 @@ fn finish(last: u8, count: u64, room: &mut [u8])
     io::write_all(STDOUT, &room[..5]);
 }
 
-// The laps that a letter asks for, from a bench whose form has been saved once.
-pub fn run(letter: u8, count: u64) {
+// A bench, its memory, and its form, which has been saved once.
+fn bench() -> (Bus, [u8; 4096], [u8; FORM]) {
     let made = bus_setup::setup([Pair { kind: 2, length: 5 }; 8]);
-    let bus = made.bus;
-    let mut mem = [0xFFu8; 4096];
+    let mem = [0xFFu8; 4096];
     let mut form = [0u8; FORM];
-    let _ = save_entry::save(bus, &mem, &mut form);
-    match letter {
-        b's' => save_laps(bus, &mut mem, &mut form, count),
-        b'r' => restore_laps(bus, &mut mem, &mut form, count),
-        _ => {
-            let mut to = [0u8; FORM];
-            copy_laps(&mut form, &mut to, count);
-        }
-    }
+    let _ = save_entry::save(made.bus, &mem, &mut form);
+    (made.bus, mem, form)
+}
+
+// So many savings. The first byte of memory and a counter go into the form, and from there, counted up, into memory and bus again.
+pub fn save(count: u64) {
+    let (mut bus, mut mem, mut form) = bench();
+    let right = laps(count, || {
+        let _ = save_entry::save(bus, &mem, &mut form);
+        mem[0] = up(form[FIRST]);
+        bus = counted(bus, up(form[COUNTER]));
+        mem[0]
+    });
+    finish(right, &mut form);
+}
+
+// So many restorings, the other way round.
+pub fn restore(count: u64) {
+    let (mut bus, mut mem, mut form) = bench();
+    let right = laps(count, || {
+        bus = save_restore::restore(bus, &mut mem, &form).bus;
+        form[FIRST] = up(mem[0]);
+        form[COUNTER] = up(bus.slots[0].counter);
+        form[FIRST]
+    });
+    finish(right, &mut mem);
+}
+
+// So many copies of as many bytes.
+pub fn copy(count: u64) {
+    let (_, _, mut from) = bench();
+    let mut to = [0u8; FORM];
+    let right = laps(count, || {
+        to.copy_from_slice(&from);
+        from[FIRST] = up(to[FIRST]);
+        from[FIRST]
+    });
+    finish(right, &mut to);
 }

@@ -13,13 +13,37 @@ const STDOUT: i32 = 1;
 
 const STDERR: i32 = 2;
 
-// So many laps of what the letter asks for.
-fn run(letter: u8, laps: u64) {
-    match letter {
-        b's' | b'r' | b'c' => forms::run(letter, laps),
-        b'l' | b'o' => lists::run(letter == b'l', laps),
-        _ => usage(),
+// What is done so many times.
+#[derive(Clone, Copy)]
+enum Lap {
+    Save,
+    Restore,
+    Copy,
+    // Sixty-four events: in one call, and one by one.
+    List,
+    Events,
+}
+
+// The lap that a letter asks for.
+impl TryFrom<u8> for Lap {
+    type Error = ();
+
+    fn try_from(letter: u8) -> Result<Lap, ()> {
+        match letter {
+            b's' => Ok(Lap::Save),
+            b'r' => Ok(Lap::Restore),
+            b'c' => Ok(Lap::Copy),
+            b'l' => Ok(Lap::List),
+            b'o' => Ok(Lap::Events),
+            _ => Err(()),
+        }
     }
+}
+
+// What a line asks for, and how many times.
+fn asked(line: &[u8]) -> Option<(Lap, u64)> {
+    let (letter, count) = count::asked(line)?;
+    Some((Lap::try_from(letter).ok()?, count))
 }
 
 fn usage() {
@@ -32,10 +56,12 @@ fn usage() {
 fn main() {
     let mut line = [0u8; 64];
     let n = io::read_full(STDIN, &mut line);
-    let laps = count::asked(&line[..n]);
-    if laps < count::WRONG {
-        run(line[0], laps);
-    } else {
-        usage();
+    match asked(&line[..n]) {
+        Some((Lap::Save, count)) => forms::save(count),
+        Some((Lap::Restore, count)) => forms::restore(count),
+        Some((Lap::Copy, count)) => forms::copy(count),
+        Some((Lap::List, count)) => lists::run(count, lists::in_one_call),
+        Some((Lap::Events, count)) => lists::run(count, lists::one_by_one),
+        None => usage(),
     }
 }
