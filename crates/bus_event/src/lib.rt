@@ -6,7 +6,7 @@ ghost use Rattle.rules.specs.Modelled.{memory_bytes};
 ghost use Rattle.rules.specs.Refusals.{in_range};
 ghost use Rattle.rules.specs.Runs.{event_of};
 
-use rules::{Answer, Bus, Event, Outcome, Refusal, Ruling};
+use rules::{Answer, Bus, Event, Outcome, Refusal};
 
 // A refused event changes nothing.
 fn refused(bus: Bus, x: Refusal) -> Outcome
@@ -27,8 +27,8 @@ pub fn event_in_range(bus: Bus, mem: &mut [u8], e: Event) -> Outcome
     let kind = bus_refusals::ruling::kind_at(slots, n);
     let ruling = bus_refusals::ruling::ruled(kind, e);
     match ruling {
-        Ruling::Taken(a) => bus_slots::every::taken(slots, mem, a),
-        Ruling::Refused(x) => refused(bus, x),
+        Ok(a) => bus_slots::every::taken(slots, mem, a),
+        Err(x) => refused(bus, x),
     }
 }
 

@@ -4,7 +4,7 @@
 ghost use Rattle.std.specs.Prelude.{◌≡◌};
 ghost use Rattle.rules.specs.Looked.{no_pin, look_of};
 
-use rules::{Bus, Looked, Refusal, SlotNo};
+use rules::{Bus, Pin, Refusal, SlotNo};
 
 // There is no such slot, or it has no sensor.
 fn no_pin(bus: Bus, n: SlotNo) -> bool
@@ -15,18 +15,18 @@ fn no_pin(bus: Bus, n: SlotNo) -> bool
 }
 
 // Whether slot n's pin is asserted, and its level. Whatever is handed in is answered or refused, by the rows 6 and 3 in this order.
-pub fn pin(bus: Bus, n: SlotNo) -> Looked
+pub fn pin(bus: Bus, n: SlotNo) -> Result<Pin, Refusal>
     ensures { result ≡ look_of bus n }
 {
     let slots = bus.slots;
     if !bus_refusals::ranges::in_range(slots) {
-        return Looked::Refused(Refusal::WrongState);
+        return Err(Refusal::WrongState);
     }
     if no_pin(bus, n) {
-        return Looked::Refused(Refusal::WrongSlot);
+        return Err(Refusal::WrongSlot);
     }
     let at = n.0 as usize;
     let s = slots[at];
     let x = s.sensor;
-    Looked::Stands(bus_sensor::pin::pin(x))
+    Ok(bus_sensor::pin::pin(x))
 }

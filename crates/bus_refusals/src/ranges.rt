@@ -1,6 +1,6 @@
 // The range of a state, by document 01's row 6: docs/RANGES.md has every number.
 ghost use Rattle.std.specs.Prelude.{◌≡◌};
-ghost use Rattle.proof_lists.specs.Each.{all_of};
+ghost use Rattle.std.specs.List.{list_all};
 ghost use Rattle.rules.specs.Refusals.{length_in_range, sensor_in_range, pending_in_range, older_in_range, slot_in_range};
 
 use rules::{Sensor, Slot};
@@ -67,7 +67,7 @@ fn slot_in_range(s: Slot) -> bool
 
 // Row 6 lets the state pass: every number of every slot is in its range.
 pub fn in_range(slots: [Slot; 8]) -> bool
-    ensures { result ≡ all_of slot_in_range slots }
+    ensures { result ≡ list_all slot_in_range slots }
 {
     let mut ok = true;
     for i in 0..8usize {

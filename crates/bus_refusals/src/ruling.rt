@@ -4,7 +4,7 @@ ghost use Rattle.rules.specs.Events.{act_of};
 ghost use Rattle.rules.specs.Refusals.{kind_at, wrong_slot, outside, wrong_value, ruled_for};
 ghost use Rattle.bus_refusals.specs.Kinds.{kinds_in};
 
-use rules::{Act, Applied, Cut, Event, Refusal, Ruling, Slot, SlotNo};
+use rules::{Act, Applied, Cut, Event, Refusal, Slot, SlotNo};
 
 // One of two numbers.
 fn either(first: bool, x: u8, y: u8) -> u8
@@ -82,19 +82,19 @@ fn act_of(e: Event) -> Act
 }
 
 // What an event is taken for, by rows 2, 3 and 4 and the kind of the slot that it names.
-pub fn ruled(kind: u8, e: Event) -> Ruling
+pub fn ruled(kind: u8, e: Event) -> Result<Act, Refusal>
     ensures { result ≡ ruled_for kind e }
 {
     // Row 2: the kind is not 1 to 10.
     if (e.kind < 1) | (10 < e.kind) {
-        return Ruling::Refused(Refusal::UnknownKind);
+        return Err(Refusal::UnknownKind);
     }
     if wrong_slot(kind, e) {
-        return Ruling::Refused(Refusal::WrongSlot);
+        return Err(Refusal::WrongSlot);
     }
     if wrong_value(e) {
-        return Ruling::Refused(Refusal::WrongValue);
+        return Err(Refusal::WrongValue);
     }
     let a = act_of(e);
-    Ruling::Taken(a)
+    Ok(a)
 }

@@ -2,7 +2,7 @@
 #![tactic(auto)]
 
 ghost use Rattle.std.specs.Prelude.{◌≡◌, map};
-ghost use Rattle.proof_lists.specs.Each.{all_of};
+ghost use Rattle.std.specs.List.{list_all};
 ghost use Rattle.rules.specs.Fresh.{setup_slot};
 ghost use Rattle.rules.specs.Refusals.{good_pair, empty_bus, setup_of};
 
@@ -17,7 +17,7 @@ fn good_pair(p: Pair) -> bool
 
 // Every pair passes row 5.
 fn good_pairs(pairs: [Pair; 8]) -> bool
-    ensures { result ≡ all_of good_pair pairs }
+    ensures { result ≡ list_all good_pair pairs }
 {
     let mut ok = true;
     for i in 0..8usize {

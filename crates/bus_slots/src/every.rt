@@ -1,6 +1,6 @@
 // All slots at an act: each does its step, and the answer is made of what they show.
 ghost use Rattle.std.specs.Prelude.{◌≡◌, true, length};
-ghost use Rattle.proof_lists.specs.Each.{all_of};
+ghost use Rattle.std.specs.List.{list_all};
 ghost use Rattle.rules.specs.Modelled.{memory_bytes};
 ghost use Rattle.rules.specs.Refusals.{slot_in_range};
 ghost use Rattle.bus_slots.specs.Taken.{taken_then};
@@ -14,7 +14,7 @@ use rules::{Act, Bus, Outcome, Slot, SlotNo};
 // where they are, or only moves to another phase, are most of them, and are not taken out. The bus acknowledges if one of them does; the
 // lowest slot that drives a byte is read, and FFh if none does.
 pub fn taken(slots: [Slot; 8], mem: &mut [u8], a: Act) -> Outcome
-    requires { (all_of slot_in_range slots ≡ true) × (length mem.old ≡ memory_bytes) }
+    requires { (list_all slot_in_range slots ≡ true) × (length mem.old ≡ memory_bytes) }
     ensures { taken_then (record { slots = slots }) mem.old a ≡ (result, mem.new) }
 {
     let c = foreseen::carried(a);

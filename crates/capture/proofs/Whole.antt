@@ -9,7 +9,7 @@ use borrow.Author.Tests.{lt-ltb, le-ltb, ltb-true, ltb-false, eq-eqb}
 use lib.Dec.{eqb, ltb}
 use lib.ListN.{length, take, drop, length-append}
 use lib.Seq.{length-take-le, take_all, take_at, drop_at, drop-drop}
-use Rattle.proof_lists.specs.Each.{all_of}
+use Rattle.std.specs.List.{list_all}
 use Rattle.proof_lists.specs.Tests.{by-test}
 use Rattle.rules.specs.declared.Bus.{Bus}
 use Rattle.rules.specs.Modelled.{memory_bytes}
@@ -93,7 +93,7 @@ writes-cut head m out rs l c room =
     let a : ltb (length (head ++ m)) 16 ≡ false = le-ltb (length (head ++ m)) 16 (omega arith) in
     let b : ltb (length (head ++ m)) 4112 ≡ true = lt-ltb (length (head ++ m)) 4112 (omega arith) in
     let d : ltb (length head) 16 ≡ false = le-ltb (length head) 16 (omega arith) in
-    by-test (all_of good_pair (pairs_of head))
+    by-test (list_all good_pair (pairs_of head))
     (λ g. writes-by head m out rs room ∙ rw (pairs-of head m l, a, b, d, g, lt-ltb (length m) 4096 c))
     (λ g. writes-by head m out rs room ∙ rw (pairs-of head m l, a, b, d, g))
 
@@ -113,7 +113,7 @@ writes-whole head m out rs lh lm p room =
     let d₁ : drop 16 bs ≡ m ++ more = drop_at head (m ++ more) 16 lh in
     let d₂ : drop 4112 bs ≡ more = sym (drop-drop 4096 16 bs) ∙ ap (drop 4096) d₁ ∙ drop_at m more 4096 lm in
     let t : take 4096 (drop 16 bs) ≡ m = ap (take 4096) d₁ ∙ take_at m more 4096 lm in
-    by-test (all_of good_pair (pairs_of head))
+    by-test (list_all good_pair (pairs_of head))
     (λ g. writes-by head m out rs room
     ∙ rw (a, b, d, c, q, g, d₂, t, eq-eqb (length m) memory_bytes lm) (ap verdict_line (steps-verdict (begun (setup_of (pairs_of head)).bus) m rs refl p)))
     (λ g. writes-by head m out rs room ∙ rw (a, b, d, q, g))

@@ -1,7 +1,7 @@
 -- The capture program: what it writes for what it reads.
 -- Assumes nothing.
 use Rattle.std.specs.Prelude.{ℕ, cond, List, ltb, length, take, drop}
-use Rattle.proof_lists.specs.Each.{all_of}
+use Rattle.std.specs.List.{list_all}
 use Rattle.rules.specs.Refusals.{good_pair}
 use Rattle.script_text.specs.Records.{pairs_of}
 use Rattle.script_text.specs.Letters.{short_line}
@@ -14,6 +14,6 @@ use Rattle.capture_pieces.specs.Line.{verdict_line}
 unfoldable pub written_for : List ℕ → List ℕ
 written_for bs =
     cond (ltb (length bs) 16) short_line
-    (cond (all_of good_pair (pairs_of bs))
+    (cond (list_all good_pair (pairs_of bs))
     (cond (ltb (length bs) 4112) short_line (verdict_line (verdict_of (pairs_of bs) (take 4096 (drop 16 bs)) (drop 4112 bs))))
     bad_setup_line)

@@ -6,7 +6,7 @@ use mathlib.Core.Bool.{true, false≢true}
 use mathlib.Core.List.{List}
 use borrow.Author.Tests.{eq-eqb}
 use lib.ListN.{length}
-use Rattle.proof_lists.specs.Each.{all_of}
+use Rattle.std.specs.List.{list_all}
 use Rattle.proof_lists.specs.Tests.{by-test}
 use Rattle.rules.specs.declared.Answer.TheVariants as answer
 use Rattle.rules.specs.declared.Outcome.{Outcome}
@@ -30,19 +30,19 @@ module _ (ps : List Pair) (r : Outcome) (e : r ≡ setup_of ps) where
   pub bad-setup : (m bs : List ℕ) (x : Refusal) → r.answer ≡ answer.Refused x → length m ≡ memory_bytes → Refused x ≡ verdict_of ps m bs
   unfolding setup_of is_refusal value_of refusal_number
   bad-setup m bs x a h =
-      by-test (all_of good_pair ps)
+      by-test (list_all good_pair ps)
       (λ g. absurd (false≢true (rw g at (sym (ap (λ (o : Outcome). is_refusal o.answer) e) ∙ ap is_refusal a))))
       (λ g.
       let n : refusal_number x ≡ 5 = rw g at (ap value_of (sym a) ∙ ap (λ (o : Outcome). value_of o.answer) e) in
       ap Refused (sym (numbered x) ∙ ap refusal_of n) ∙ sym (at-setup ps m bs h g))
 
-  pub good-setup : ((x : Refusal) → r.answer ≡ answer.Refused x → ⊥) → all_of good_pair ps ≡ true
+  pub good-setup : ((x : Refusal) → r.answer ≡ answer.Refused x → ⊥) → list_all good_pair ps ≡ true
   unfolding setup_of
   good-setup t =
-      by-test (all_of good_pair ps) (λ g. g) (λ g. absurd (t WrongSetup (rw g at (ap (λ (o : Outcome). o.answer) e))))
+      by-test (list_all good_pair ps) (λ g. g) (λ g. absurd (t WrongSetup (rw g at (ap (λ (o : Outcome). o.answer) e))))
 
 -- the records of a whole capture, checked as one piece and closed
-pub whole-capture : (ps : List Pair) (m mem bs : List ℕ) (r : Outcome) (c : Checked) (left : List ℕ) (v : Verdict) → r ≡ setup_of ps → all_of good_pair ps ≡ true
+pub whole-capture : (ps : List Pair) (m mem bs : List ℕ) (r : Outcome) (c : Checked) (left : List ℕ) (v : Verdict) → r ≡ setup_of ps → list_all good_pair ps ≡ true
     → length m ≡ memory_bytes → mem ≡ m → piece_of r.bus mem 0 bs ≡ (c, left) → v ≡ closed (length bs % 6) c.verdict → v ≡ verdict_of ps m bs
 unfolding verdict_of wrong_length left_over start_of piece_of
 whole-capture ps m mem bs r c left v e g h f p q =

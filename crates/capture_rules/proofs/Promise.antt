@@ -9,7 +9,7 @@ use mathlib.Core.List.{List, [], ◌++◌}
 use borrow.Author.Tests.{eq-eqb, ne_eqb, eqb-true, eqb-false}
 use lib.Dec.{eqb}
 use lib.ListN.{length}
-use Rattle.proof_lists.specs.Each.{all_of}
+use Rattle.std.specs.List.{list_all}
 use Rattle.proof_lists.specs.Tests.{cond_cases, by-test}
 use Rattle.rules.specs.declared.Answer.{Answer}
 use Rattle.rules.specs.declared.Pair.{Pair}
@@ -53,7 +53,7 @@ module _ (ps : List Pair) (m : List ℕ) where
   unfolding verdict_of wrong_length
   at-memory bs h = rw (ne_eqb (length m) memory_bytes h)
 
-  pub at-setup : (bs : List ℕ) → length m ≡ memory_bytes → all_of good_pair ps ≡ false → verdict_of ps m bs ≡ Refused WrongSetup
+  pub at-setup : (bs : List ℕ) → length m ≡ memory_bytes → list_all good_pair ps ≡ false → verdict_of ps m bs ≡ Refused WrongSetup
   unfolding verdict_of wrong_length
   at-setup bs h g = rw (eq-eqb (length m) memory_bytes h, g)
 
@@ -66,7 +66,7 @@ module _ (ps : List Pair) (m : List ℕ) where
   unfolding verdict_number refusal_number
   refused-memory bs h = ap verdict_number (at-memory bs h)
 
-  pub refused-setup : (bs : List ℕ) → length m ≡ memory_bytes → all_of good_pair ps ≡ false → verdict_number (verdict_of ps m bs) ≡ 5
+  pub refused-setup : (bs : List ℕ) → length m ≡ memory_bytes → list_all good_pair ps ≡ false → verdict_number (verdict_of ps m bs) ≡ 5
   unfolding verdict_number refusal_number
   refused-setup bs h g = ap verdict_number (at-setup bs h g)
 
@@ -75,7 +75,7 @@ module _ (ps : List Pair) (m : List ℕ) where
   begins bs h =
       by-test (eqb (length m) memory_bytes)
       (λ e.
-      by-test (all_of good_pair ps) (λ g. record { memory = eqb-true (length m) memory_bytes e; setup = g })
+      by-test (list_all good_pair ps) (λ g. record { memory = eqb-true (length m) memory_bytes e; setup = g })
       (λ g. absurd (none (sym h ∙ refused-setup bs (eqb-true (length m) memory_bytes e) g))))
       (λ e. absurd (none (sym h ∙ refused-memory bs (eqb-false (length m) memory_bytes e))))
     where

@@ -2,7 +2,8 @@
 -- without a look at how a verdict is reached.
 -- Assumes nothing.
 use Rattle.std.specs.Prelude.{ℕ, ◌+◌, ◌≡◌, Bool, true, false, cond, ◌||◌, List, ◌∷◌, ◌++◌, map, eqb, length}
-use Rattle.proof_lists.specs.Each.{Every, all_of}
+use Rattle.proof_lists.specs.Each.{Every}
+use Rattle.std.specs.List.{list_all}
 use Rattle.rules.specs.declared.Answer.{Answer}
 use Rattle.rules.specs.declared.Answer.TheVariants as answer
 use Rattle.rules.specs.declared.Event.{Event}
@@ -63,7 +64,7 @@ pub record First (n : ℕ) (x : Bench) (cs : List Captured) (k : ℕ) (a : Answe
 -- a capture that nothing is wrong with before its first record: "a memory that is not 4,096 bytes", "a bad setup"
 pub record Begins (ps : List Pair) (m : List ℕ) : Type 0 where
   pub memory : length m ≡ memory_bytes
-  pub setup : all_of good_pair ps ≡ true
+  pub setup : list_all good_pair ps ≡ true
 
 -- a verdict's record, the model's answer there and the captured one; 0, nothing and nothing where no record is named
 unfoldable pub record_of : Verdict → ℕ

@@ -1,7 +1,7 @@
 -- Request P2, "Checking captures from real chips", in its own words and those of its issue: the verdict on a capture.
 -- Assumes nothing.
 use Rattle.std.specs.Prelude.{ℕ, zero, suc, ◌+◌, ◌*◌, ◌/◌, ◌%◌, Bool, false, not, cond, ◌&&◌, List, [], ◌∷◌, ◌++◌, eqb, length, get_or}
-use Rattle.proof_lists.specs.Each.{all_of}
+use Rattle.std.specs.List.{list_all}
 use Rattle.rules.specs.declared.Answer.{Answer}
 use Rattle.rules.specs.declared.Answer.TheVariants as answer
 use Rattle.rules.specs.declared.Event.{Event}
@@ -72,5 +72,5 @@ start_of ps m = record { bus = (setup_of ps).bus; memory = m }
 unfoldable pub verdict_of : List Pair → List ℕ → List ℕ → Verdict
 verdict_of ps m bs =
     cond (wrong_length m) (Refused MemoryLength)
-    (cond (not (all_of good_pair ps)) (Refused WrongSetup)
+    (cond (not (list_all good_pair ps)) (Refused WrongSetup)
     (closed (left_over bs) (verdict_from 0 (start_of ps m) (captured_in bs))))

@@ -2,7 +2,7 @@
 ghost use Rattle.std.specs.Prelude.{◌<◌};
 
 use super::{names, parts, state};
-use rules::{Answer, Bus, Looked, Pin, Slot};
+use rules::{Answer, Bus, Pin, Refusal, Slot};
 
 // The descriptor of standard output.
 pub const STDOUT_FILENO: i32 = 1;
@@ -109,10 +109,10 @@ pub fn answer(a: Answer) {
 }
 
 // The pin of a slot, or the refusal.
-pub fn looked(l: Looked) {
+pub fn looked(l: Result<Pin, Refusal>) {
     match l {
-        Looked::Stands(p) => stands(p),
-        Looked::Refused(r) => answer(Answer::Refused(r)),
+        Ok(p) => stands(p),
+        Err(r) => answer(Answer::Refused(r)),
     }
 }
 

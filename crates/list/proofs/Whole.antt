@@ -9,7 +9,7 @@ use borrow.Author.Tests.{lt-ltb, le-ltb, ltb-true, ltb-false}
 use lib.Dec.{ltb}
 use lib.ListN.{length, take, drop, take-append-drop, length-append, length-drop, drop_of_length-le}
 use lib.Seq.{sets, length-sets, length-take-le, take_all}
-use Rattle.proof_lists.specs.Each.{all_of}
+use Rattle.std.specs.List.{list_all}
 use Rattle.proof_lists.specs.Tests.{by-test}
 use Rattle.rules.specs.Refusals.{good_pair, setup_of}
 use Rattle.rules.specs.Runs.{Bench}
@@ -54,16 +54,16 @@ module _ (bs h : List ℕ) (cut : ltb (length bs) 16 ≡ true → h ≡ bs) (who
       (λ c. subst (λ (z : List ℕ). written_for bs ≡ on_output (first_line z)) (sym (cut c)) (rw c))
       (λ c.
       let d : ltb (length h) 16 ≡ false = le-ltb (length h) 16 (omega (arith, (whole c).0)) in
-      let a : all_of good_pair (pairs_of h) ≡ false = rw d at g in
+      let a : list_all good_pair (pairs_of h) ≡ false = rw d at g in
       rw ((whole c).1, c, d, a))
 
-  goes_at : goes_on h ≡ true → (ltb (length bs) 16 ≡ false) × (all_of good_pair (pairs_of bs) ≡ true) × (first_bus h ≡ (setup_of (pairs_of bs)).bus)
+  goes_at : goes_on h ≡ true → (ltb (length bs) 16 ≡ false) × (list_all good_pair (pairs_of bs) ≡ true) × (first_bus h ≡ (setup_of (pairs_of bs)).bus)
   unfolding goes_on cut_setup first_bus
   goes_at g = by-test (ltb (length bs) 16)
       (λ c. absurd (false≢true (sym (subst (λ (z : List ℕ). goes_on z ≡ false) (sym (cut c)) (rw c)) ∙ g)))
       (λ c.
       let d : ltb (length h) 16 ≡ false = le-ltb (length h) 16 (omega (arith, (whole c).0)) in
-      (c, ap (all_of good_pair) (whole c).1 ∙ rw d at g, rw ((whole c).1, d)))
+      (c, ap (list_all good_pair) (whole c).1 ∙ rw d at g, rw ((whole c).1, d)))
 
 module _ (bs : List ℕ) where
   whole-head : ltb (length bs) 16 ≡ false → (length (head bs) ≡ 16) × (pairs_of bs ≡ pairs_of (head bs))
@@ -72,7 +72,7 @@ module _ (bs : List ℕ) where
   stops : goes_on (head bs) ≡ false → written_for bs ≡ on_output (first_line (head bs))
   stops = stops_at bs (head bs) (head-cut bs) whole-head
 
-  goes : goes_on (head bs) ≡ true → (ltb (length bs) 16 ≡ false) × (all_of good_pair (pairs_of bs) ≡ true) × (first_bus (head bs) ≡ (setup_of (pairs_of bs)).bus)
+  goes : goes_on (head bs) ≡ true → (ltb (length bs) 16 ≡ false) × (list_all good_pair (pairs_of bs) ≡ true) × (first_bus (head bs) ≡ (setup_of (pairs_of bs)).bus)
   goes = goes_at bs (head bs) (head-cut bs) whole-head
 
 -- the two cuts are in order, and the records behind them are as many as the program looks at

@@ -2,7 +2,7 @@
 -- Assumes nothing.
 use Rattle.std.specs.Prelude.{ℕ, ◌-◌, ◌/◌, ◌%◌, Bool, true, false, not, cond, ◌||◌, List, [], ◌∷◌, ◌++◌, eqb, ltb, length, take, drop}
 use Rattle.std.proofs.lemmas.List.Edits.{sets}
-use Rattle.proof_lists.specs.Each.{all_of}
+use Rattle.std.specs.List.{list_all}
 use Rattle.rules.specs.declared.Event.{Event}
 use Rattle.rules.specs.Refusals.{good_pair}
 use Rattle.rules.specs.Runs.{Bench, answers}
@@ -47,7 +47,7 @@ end_for x number rs = cond (too_many rs) (on_errors too_many_text) (on_output (l
 unfoldable pub written_for : List ℕ → Written
 written_for bs =
     cond (ltb (length bs) 16) (on_output short_line)
-    (cond (all_of good_pair (pairs_of bs)) (end_for (begun_at (pairs_of bs)) (take 2 (drop 16 bs)) (drop 18 bs)) (on_output bad_setup_line))
+    (cond (list_all good_pair (pairs_of bs)) (end_for (begun_at (pairs_of bs)) (take 2 (drop 16 bs)) (drop 18 bs)) (on_output bad_setup_line))
 
 -- what the code leaves of whole records: where their lines end, and the output
 unfoldable pub put_for : Bench → List ℕ → List ℕ → List ℕ → ℕ × List ℕ

@@ -17,8 +17,8 @@ use Rattle.rules.specs.declared.Event.{Event}
 use Rattle.rules.specs.declared.Outcome.{Outcome}
 use Rattle.rules.specs.declared.Refusal.{Refusal}
 use Rattle.rules.specs.declared.Refusal.TheVariants.{MemoryLength, WrongState}
-use Rattle.rules.specs.declared.Ruling.{Ruling}
-use Rattle.rules.specs.declared.Ruling.TheVariants as ruling
+use Rattle.rules.specs.Refusals.{Ruling}
+use Rattle.std.specs.Prelude.{Err}
 use Rattle.rules.specs.Modelled.{memory_bytes}
 use Rattle.rules.specs.Events.{refusal_number, letter_of, value_of}
 use Rattle.rules.specs.Refusals.{in_range}
@@ -127,7 +127,7 @@ module _ (b : Bus) (m : List ℕ) (es : List Event) (places : List Answer) where
 abbrev said : Answer → ℕ × ℕ
 said a = (letter_of a, value_of a)
 
-refused_all : (r : Refusal) (x : Bench) → ((e : Event) → ruling_on e x ≡ ruling.Refused r) → (es : List Event)
+refused_all : (r : Refusal) (x : Bench) → ((e : Event) → ruling_on e x ≡ Err r) → (es : List Event)
     → (after es x ≡ x) × (map said (answers es x) ≡ replicate (length es) (0x52, refusal_number r))
 unfolding after answers next answered ruled_next ruled_answer letter_of value_of
 refused_all r x all [] = (refl, refl)
@@ -148,7 +148,7 @@ module _ (b : Bus) (m : List ℕ) (es : List Event) (places : List Answer) (l : 
     pub each : map said (take (length es) (events_of b m es places).2) ≡ replicate (length es) (0x52, n)
     pub past : drop (length es) (events_of b m es places).2 ≡ drop (length es) places
 
-  all-refused : (r : Refusal) → ((e : Event) → ruling_on e at ≡ ruling.Refused r) → AllRefused (refusal_number r)
+  all-refused : (r : Refusal) → ((e : Event) → ruling_on e at ≡ Err r) → AllRefused (refusal_number r)
   unfolding taken letter_of
   all-refused r all =
       let c = refused_all r at all es in

@@ -10,7 +10,8 @@ use borrow.Author.Tests.{ltb-false, eq-eqb}
 use lib.Dec.{eqb, ltb}
 use lib.ListN.{length, get_or, take, drop, replicate, length-drop, length-replicate}
 use lib.Seq.{length-take-le}
-use Rattle.proof_lists.specs.Each.{Every, every-at, all_of}
+use Rattle.proof_lists.specs.Each.{Every, every-at}
+use Rattle.std.specs.List.{list_all}
 use Rattle.proof_lists.specs.Tests.{by-test}
 use Rattle.rules.specs.declared.Answer.TheVariants as answer
 use Rattle.rules.specs.declared.Refusal.{Refusal}
@@ -84,7 +85,7 @@ module _ (bs : List ℕ) (bytes : Every (λ b. b ≤ 255) bs) where
   -- EVERYTHING THAT THE PROGRAM CAN WRITE: `short`, `R5`, the refusals 3 and 7 by their own tests, or such a plan
   pub data Wrote : Type 0 where
     short : written_for bs ≡ short_line → Wrote
-    bad-setup : all_of good_pair (pairs_of bs) ≡ false → written_for bs ≡ bad_setup_line → Wrote
+    bad-setup : list_all good_pair (pairs_of bs) ≡ false → written_for bs ≡ bad_setup_line → Wrote
     refused-3 : (r : Refusal) → refusal_number r ≡ 3 → no_such_slot slot bench.bus ≡ true → written_for bs ≡ line_of (answer.Refused r) → Wrote
     refused-7 : (r : Refusal) → refusal_number r ≡ 7 → forbidden slot.0 bench image ≡ true → written_for bs ≡ line_of (answer.Refused r) → Wrote
     planned : Printed → Wrote
@@ -174,7 +175,7 @@ module _ (bs : List ℕ) (bytes : Every (λ b. b ≤ 255) bs) where
   unfolding written_for answer_to last_text plan_text
   wrote =
       by-test (ltb (length bs) 16) (λ a. short (rw a)) λ a.
-      by-test (all_of good_pair (pairs_of bs))
+      by-test (list_all good_pair (pairs_of bs))
       (λ g. by-test (ltb (length bs) 4625) (λ c. short (rw (a, g, c))) λ c.
       by-test (eqb (length more % 4) 0)
       (λ z. said (ltb-false (length bs) 4625 c) given (judged bench.bus bench.memory slot image zeros) refl (rw (a, g, c, z)))

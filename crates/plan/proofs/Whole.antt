@@ -9,7 +9,7 @@ use borrow.Author.Tests.{lt-ltb, le-ltb, ltb-true, ltb-false}
 use lib.Dec.{ltb}
 use lib.ListN.{length, get_or, take, drop, length-append, get_or-append}
 use lib.Seq.{sets, length-take-le, take_all, take_at, drop_at, drop-drop}
-use Rattle.proof_lists.specs.Each.{all_of}
+use Rattle.std.specs.List.{list_all}
 use Rattle.proof_lists.specs.Tests.{by-test}
 use Rattle.rules.specs.declared.Bus.{Bus}
 use Rattle.rules.specs.declared.SlotNo.{SlotNo}
@@ -68,7 +68,7 @@ writes-cut head m slot image buf out rs l c room =
     let b : ltb (length (head ++ more)) 4625 ≡ true = lt-ltb (length (head ++ more)) 4625 (omega arith) in
     let d : ltb (length head) 16 ≡ false = le-ltb (length head) 16 (omega arith) in
     let s : ltb (length m + length slot + length image) 4609 ≡ true = lt-ltb (length m + length slot + length image) 4609 c in
-    by-test (all_of good_pair (pairs_of head))
+    by-test (list_all good_pair (pairs_of head))
     (λ g. writes-by head m slot image buf out rs (omega arith)
     ∙ rw (pairs-of head more l, a, b, d, g) (serve-ends (setup_of (pairs_of head)).bus m slot image buf out rs room ∙ rw s))
     (λ g. writes-by head m slot image buf out rs (omega arith) ∙ simp (pairs-of head more l, a, b, d, g))
@@ -95,7 +95,7 @@ writes-whole head m slot image buf out rs lh lm ls li room =
     let t₁ : take 4096 (drop 16 bs) ≡ m = ap (take 4096) d₁ ∙ take_at m (slot ++ (image ++ more)) 4096 lm in
     let t₂ : get_or (drop 4112 bs) 0 0 ≡ get_or slot 0 0 = ap (λ (z : List ℕ). get_or z 0 0) d₂ ∙ get_or-append slot (image ++ more) 0 0 (omega arith) in
     let t₃ : take 512 (drop 4113 bs) ≡ image = ap (take 512) d₃ ∙ take_at image more 512 li in
-    by-test (all_of good_pair (pairs_of head))
+    by-test (list_all good_pair (pairs_of head))
     (λ g. writes-by head m slot image buf out rs (omega arith)
     ∙ rw (a, b, d, p, g, d₄, t₁, t₂, t₃) (serve-ends (setup_of (pairs_of head)).bus m slot image buf out rs room ∙ rw s))
     (λ g. writes-by head m slot image buf out rs (omega arith) ∙ simp (a, b, d, p, g))

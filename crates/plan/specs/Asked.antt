@@ -2,7 +2,7 @@
 -- Assumes nothing.
 use Rattle.std.specs.Prelude.{ℕ, ◌%◌, cond, List, eqb, ltb, length, take, drop, get_or, replicate}
 use Rattle.std.proofs.lemmas.List.Edits.{sets}
-use Rattle.proof_lists.specs.Each.{all_of}
+use Rattle.std.specs.List.{list_all}
 use Rattle.rules.specs.declared.SlotNo.{SlotNo}
 use Rattle.rules.specs.Refusals.{good_pair, setup_of}
 use Rattle.rules.specs.Runs.{Bench}
@@ -48,4 +48,4 @@ answer_to bs more = last_text (bench_to (asked_bench bs) more (records_in more))
 unfoldable pub written_for : List ℕ → List ℕ
 written_for bs =
     cond (ltb (length bs) 16) short_line
-    (cond (all_of good_pair (pairs_of bs)) (cond (ltb (length bs) 4625) short_line (answer_to bs (drop 4625 bs))) bad_setup_line)
+    (cond (list_all good_pair (pairs_of bs)) (cond (ltb (length bs) 4625) short_line (answer_to bs (drop 4625 bs))) bad_setup_line)

@@ -8,7 +8,7 @@ use native.Mathlib.Omega.{arith}
 use lib.Dec.{eqb}
 use lib.ListN.{length, get_or, take, drop, replicate, get_or-map}
 use borrow.Author.Tests.{lt-ltb, le-ltb, not-false}
-use Rattle.proof_lists.specs.Each.{all_of-at, get_d_any}
+use Rattle.proof_lists.specs.Each.{list_all-at, get_d_any}
 use Rattle.proof_lists.specs.Parts.{part-flat}
 use Rattle.rules.specs.declared.Act.TheVariants.{Tick}
 use Rattle.rules.specs.declared.Bus.{Bus}
@@ -77,7 +77,7 @@ not-refused r p e z = absurd (above r (sym (ap plan_number e) ∙ z))
 
 pub slot-ranged : (k : SlotNo) (b : Bus) (d : Slot) → no_such_slot k b ≡ false → in_range b ≡ true → slot_in_range (get_or b.slots k.0 d) ≡ true
 unfolding in_range
-slot-ranged k b d h r = all_of-at slot_in_range k.0 b.slots d (slot-there k b h) r
+slot-ranged k b d h r = list_all-at slot_in_range k.0 b.slots d (slot-there k b h) r
 
 pub in-range : (b : Bus) (ranged : Bool) → ranged ≡ in_range b → not ranged ≡ false → in_range b ≡ true
 in-range b ranged e f = sym e ∙ not-false ranged f

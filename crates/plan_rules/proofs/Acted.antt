@@ -1,5 +1,6 @@
 -- A plan's records as acts: none is refused, whatever the kinds of the slots, and each byte is acknowledged where slot k acknowledges it.
 -- Assumes nothing.
+use Rattle.std.specs.Prelude.{Ok}
 use Prim.Native.Nat.{ℕ, zero, suc, ◌+◌, ◌*◌, ◌<◌, ◌≤◌}
 use native.Mathlib.Omega.{arith}
 use native.Mathlib.Nat.{zero-add}
@@ -17,8 +18,7 @@ use Rattle.rules.specs.declared.Carried.TheVariants as carries
 use Rattle.rules.specs.declared.Act.TheVariants.{Start, Byte, Stop, Tick}
 use Rattle.rules.specs.declared.Answer.TheVariants.{Nothing, Ack, Nack}
 use Rattle.rules.specs.declared.Event.{Event}
-use Rattle.rules.specs.declared.Ruling.{Ruling}
-use Rattle.rules.specs.declared.Ruling.TheVariants.{Taken}
+use Rattle.rules.specs.Refusals.{Ruling}
 use Rattle.rules.specs.declared.Slot.{Slot}
 use Rattle.rules.specs.Modelled.{slot_count}
 use Rattle.rules.specs.Events.{carried, act_of, letter_of}
@@ -41,7 +41,7 @@ module _ (kinds : List ℕ) where
   -- events that are taken for these acts, and are due what the acts are due
   pub data Acted : List Event → List Act → Type 0 where
     none : Acted [] []
-    more : {e : Event} {a : Act} {es : List Event} {r : List Act} → ruled_by kinds e ≡ Taken a → due e ≡ due_to a → Acted es r → Acted (e ∷ es) (a ∷ r)
+    more : {e : Event} {a : Act} {es : List Event} {r : List Act} → ruled_by kinds e ≡ Ok a → due e ≡ due_to a → Acted es r → Acted (e ∷ es) (a ∷ r)
 
   pub acted-joined : {es fs : List Event} {r v : List Act} → Acted es r → Acted fs v → Acted (es ++ fs) (r ++ v)
   acted-joined none b = b
@@ -62,7 +62,7 @@ module _ (kinds : List ℕ) where
   unfolding after answers went told next answered ruled_next ruled_answer
   acted-after x s none = (refl, refl)
   acted-after x s (more {e} {a} {es} {r} h d b) =
-      let v : ruling_on e x ≡ Taken a = ruled-by-kinds kinds e x s ∙ h in
+      let v : ruling_on e x ≡ Ok a = ruled-by-kinds kinds e x s ∙ h in
       let i = acted-after (next e x) (sound-next kinds e x s) b in
       (i.0 ∙ ap (λ (w : Ruling). went r (ruled_next w x)) v, ap₂ ◌∷◌ (ap (λ (w : Ruling). ruled_answer w x) v) (i.1 ∙ ap (λ (w : Ruling). told r (ruled_next w x)) v))
 
@@ -82,7 +82,7 @@ module _ (kinds : List ℕ) where
 
   byte-acted : (b : ℕ) {es : List Event} {r : List Act} → b ≤ 255 → Acted es r → Acted (byte b ∷ es) (Byte b ∷ r)
   unfolding ruled_by ruled_for unknown_kind wrong_slot wrong_value outside act_of due due_for
-  byte-acted b h a = let v : ruled_by kinds (byte b) ≡ Taken (Byte b) = rw (le-ltb 255 b h, le-ltb b 0 (omega arith)) in more v refl a
+  byte-acted b h a = let v : ruled_by kinds (byte b) ≡ Ok (Byte b) = rw (le-ltb 255 b h, le-ltb b 0 (omega arith)) in more v refl a
 
   bytes-acted : (bs : List ℕ) → Every (λ b. b ≤ 255) bs → Acted (map byte bs) (map Byte bs)
   bytes-acted [] h = none

@@ -8,7 +8,7 @@ use mathlib.Core.List.{List}
 use lib.Dec.{eqb, leb}
 use lib.ListN.{length, replicate}
 use borrow.Author.Tests.{eqb-true, leb-true}
-use Rattle.proof_lists.specs.Each.{all_of-at}
+use Rattle.proof_lists.specs.Each.{list_all-at}
 use Rattle.proof_lists.specs.Tests.{by-test, cond_cases, and_left, and_right}
 use Rattle.rules.specs.declared.Act.{Act}
 use Rattle.rules.specs.declared.Act.TheVariants.{Tick}
@@ -103,7 +103,7 @@ module _ (x : Bench) (long : length x.memory ≡ memory_bytes) (ranged : in_rang
   module _ (i : ℕ) (below : i < length x.bus.slots) where
     pub slot-ranged : slot_in_range (slot_at i x) ≡ true
     unfolding slot_at in_range
-    slot-ranged = all_of-at slot_in_range i x.bus.slots absent_slot below ranged
+    slot-ranged = list_all-at slot_in_range i x.bus.slots absent_slot below ranged
 
     pub settled-left : (slot_at i (settled x)).left ≡ 0
     settled-left = ap (λ (s : Slot). s.left) (settled-slot i x long ranged below) ∙ left-none (slot_at i x) slot-ranged

@@ -13,7 +13,7 @@ pub use list_entry::events;
 pub use plan_entry::plan;
 pub use plan_rules::Planned;
 pub use rules::{
-    Answer, BlockNo, Bus, Event, Looked, Older, Outcome, Pair, Phase, Pin, Refusal, Sensor, Slot,
+    Answer, BlockNo, Bus, Event, Older, Outcome, Pair, Phase, Pin, Refusal, Sensor, Slot,
     SlotNo,
 };
 pub use save_entry::save;

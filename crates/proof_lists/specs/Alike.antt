@@ -5,7 +5,8 @@ use Rattle.std.proofs.Math.Path.{refl}
 use mathlib.Core.List.{List, [], ◌∷◌, map}
 use Rattle.std.proofs.Common.{suc-le-suc, add-suc, suc-add, arith}
 use Rattle.std.proofs.Math.Nat.{add-zero}
-use Rattle.proof_lists.specs.Each.{all_of, Every, first_from}
+use Rattle.proof_lists.specs.Each.{Every, first_from}
+use Rattle.std.specs.List.{list_all}
 use Rattle.proof_lists.specs.Tests.{by-test, and_left, and_right, both}
 
 module _ {A : Type 0} where
@@ -24,18 +25,16 @@ module _ {A : Type 0} where
   every_map g P Q f (x ∷ xs) h = (f x h.0, every_map g P Q f xs h.1)
 
   -- a test of all
-  pub every-all : (p : A → Bool) (xs : List A) → all_of p xs ≡ true → Every (λ (x : A). p x ≡ true) xs
-  unfolding all_of
+  pub every-all : (p : A → Bool) (xs : List A) → list_all p xs ≡ true → Every (λ (x : A). p x ≡ true) xs
   every-all p [] h = tt
-  every-all p (x ∷ xs) h = (and_left (p x) (all_of p xs) h, every-all p xs (and_right (p x) (all_of p xs) h))
+  every-all p (x ∷ xs) h = (and_left (p x) (list_all p xs) h, every-all p xs (and_right (p x) (list_all p xs) h))
 
-  pub all_of-map : {B : Type 0} (g : A → B) (p : A → Bool) (q : B → Bool) → ((x : A) → p x ≡ true → q (g x) ≡ true) → (xs : List A)
-      → all_of p xs ≡ true
-      → all_of q (map g xs) ≡ true
-  unfolding all_of
-  all_of-map g p q f [] h = refl
-  all_of-map g p q f (x ∷ xs) h = both (q (g x)) (all_of q (map g xs)) (f x (and_left (p x) (all_of p xs) h))
-      (all_of-map g p q f xs (and_right (p x) (all_of p xs) h))
+  pub list_all-map : {B : Type 0} (g : A → B) (p : A → Bool) (q : B → Bool) → ((x : A) → p x ≡ true → q (g x) ≡ true) → (xs : List A)
+      → list_all p xs ≡ true
+      → list_all q (map g xs) ≡ true
+  list_all-map g p q f [] h = refl
+  list_all-map g p q f (x ∷ xs) h = both (q (g x)) (list_all q (map g xs)) (f x (and_left (p x) (list_all p xs) h))
+      (list_all-map g p q f xs (and_right (p x) (list_all p xs) h))
 
   -- first values that are the same wherever there is one
   pub first_alike : {B : Type 0} (p : ℕ → A → Bool) (q r : ℕ → A → B) (e : B) (d : A) (n : ℕ) (xs : List A)

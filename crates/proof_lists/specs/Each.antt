@@ -1,6 +1,7 @@
 -- A loop that replaces each element of an array, one a turn; and one that asks something of each.
 -- Assumes nothing.
 use Rattle.std.specs.Prelude.{◌≡◌, Bool, ◌&&◌, ◌||◌, eqb, length, get_or, set, take, drop, replicate}
+use Rattle.std.specs.List.{list_all}
 use Rattle.std.proofs.Math.Path.{refl, ap, ap₂}
 use Rattle.std.proofs.Common.{sym, ◌∙◌, suc-add, zero-add, add-one, arith, eq-eqb, ne_eqb, take_all, length-take-le}
 use mathlib.Core.List.{List, [], ◌∷◌, ◌++◌, map, append-nil}
@@ -27,11 +28,6 @@ module _ {A : Type 0} where
   unfoldable pub any_from : (ℕ → A → Bool) → ℕ → List A → Bool
   any_from p n [] = false
   any_from p n (x ∷ xs) = p n x || any_from p (suc n) xs
-
-  -- every element does
-  unfoldable pub all_of : (A → Bool) → List A → Bool
-  all_of p [] = true
-  all_of p (x ∷ xs) = p x && all_of p xs
 
   pub map_to-none : (f : ℕ → A → A) (n : ℕ) (xs : List A) → xs ≡ map_to f n 0 xs
   unfolding map_to
@@ -84,20 +80,18 @@ module _ {A : Type 0} where
   unfolding any_from
   any_from-none p k xs a h = rw (drop_of_length-le xs h, or-false)
 
-  pub all_of-step : (p : A → Bool) (k : ℕ) (xs : List A) (d : A) (a : Bool) → k < length xs
-      → (a && all_of p (drop k xs)) ≡ ((a && p (get_or xs k d)) && all_of p (drop (k + 1) xs))
-  unfolding all_of
-  all_of-step p k xs d a h = rw (add-one, drop-cons xs k d, and_assoc)
+  pub list_all-step : (p : A → Bool) (k : ℕ) (xs : List A) (d : A) (a : Bool) → k < length xs
+      → (a && list_all p (drop k xs)) ≡ ((a && p (get_or xs k d)) && list_all p (drop (k + 1) xs))
+  list_all-step p k xs d a h = rw (add-one, drop-cons xs k d, and_assoc)
 
-  pub all_of-none : (p : A → Bool) (k : ℕ) (xs : List A) (a : Bool) → length xs ≤ k → (a && all_of p (drop k xs)) ≡ a
-  unfolding all_of
-  all_of-none p k xs a h = rw (drop_of_length-le xs h, and-true)
+  pub list_all-none : (p : A → Bool) (k : ℕ) (xs : List A) (a : Bool) → length xs ≤ k → (a && list_all p (drop k xs)) ≡ a
+  list_all-none p k xs a h = rw (drop_of_length-le xs h, and-true)
 
   -- a loop that asks each of the n elements, after i turns: `ok` and those not yet asked say what all say
   pub record AllTo (p : A → Bool) (n : ℕ) (xs : List A) (i : ℕ) (ok : Bool) : Type 0 where
     pub within : i ≤ n
     pub number : length xs ≡ n
-    pub says : (ok && all_of p (drop i xs)) ≡ all_of p xs
+    pub says : (ok && list_all p (drop i xs)) ≡ list_all p xs
 
   pub all_to-none : {p : A → Bool} {n : ℕ} {xs : List A} → length xs ≡ n → AllTo p n xs 0 true
   all_to-none h = record { within = omega arith; number = h; says = refl }
@@ -106,10 +100,10 @@ module _ {A : Type 0} where
       → AllTo p n xs (i + 1) (ok && a)
   all_to-step {p} {n} {xs} {i} {ok} d t h e =
       let l : i < length xs = omega arith in
-      record { within = omega arith; number = t.number; says = rw e (sym (all_of-step p i xs d ok l) ∙ t.says) }
+      record { within = omega arith; number = t.number; says = rw e (sym (list_all-step p i xs d ok l) ∙ t.says) }
 
-  pub all_to-full : {p : A → Bool} {n : ℕ} {xs : List A} {i : ℕ} {ok : Bool} → AllTo p n xs i ok → n ≤ i → ok ≡ all_of p xs
-  all_to-full {p} {n} {xs} {i} {ok} t h = sym (all_of-none p i xs ok (omega arith)) ∙ t.says
+  pub all_to-full : {p : A → Bool} {n : ℕ} {xs : List A} {i : ℕ} {ok : Bool} → AllTo p n xs i ok → n ≤ i → ok ≡ list_all p xs
+  all_to-full {p} {n} {xs} {i} {ok} t h = sym (list_all-none p i xs ok (omega arith)) ∙ t.says
 
   -- the value of the first element that has one, or d
   unfoldable pub first_from : {B : Type 0} → (ℕ → A → Bool) → (ℕ → A → B) → B → ℕ → List A → B
@@ -157,21 +151,20 @@ module _ {A : Type 0} where
   map-map_from g f k n (x ∷ xs) = ap₂ ◌∷◌ (k n x) (map-map_from g f k (suc n) xs)
 
   -- what each change keeps, all of them keep
-  pub all_of-map_from : (p : A → Bool) (f : ℕ → A → A) → ((n : ℕ) (x : A) → p x ≡ true → p (f n x) ≡ true)
-      → (n : ℕ) (xs : List A) → all_of p xs ≡ true → all_of p (map_from f n xs) ≡ true
-  unfolding all_of map_from
-  all_of-map_from p f k n [] h = refl
-  all_of-map_from p f k n (x ∷ xs) h =
-      let t = (and-eq-true_iff (p x) (all_of p xs)).0 h in
-      (and-eq-true_iff (p (f n x)) (all_of p (map_from f (suc n) xs))).1 (k n x t.0, all_of-map_from p f k (suc n) xs t.1)
+  pub list_all-map_from : (p : A → Bool) (f : ℕ → A → A) → ((n : ℕ) (x : A) → p x ≡ true → p (f n x) ≡ true)
+      → (n : ℕ) (xs : List A) → list_all p xs ≡ true → list_all p (map_from f n xs) ≡ true
+  unfolding map_from
+  list_all-map_from p f k n [] h = refl
+  list_all-map_from p f k n (x ∷ xs) h =
+      let t = (and-eq-true_iff (p x) (list_all p xs)).0 h in
+      (and-eq-true_iff (p (f n x)) (list_all p (map_from f (suc n) xs))).1 (k n x t.0, list_all-map_from p f k (suc n) xs t.1)
 
   -- what holds of all holds of each
-  pub all_of-at : (p : A → Bool) (k : ℕ) (xs : List A) (d : A) → k < length xs → all_of p xs ≡ true → p (get_or xs k d) ≡ true
-  unfolding all_of
-  all_of-at p zero (x ∷ xs) d l h = ((and-eq-true_iff (p x) (all_of p xs)).0 h).0
-  all_of-at p (suc k) (x ∷ xs) d (suc-le-suc l) h = all_of-at p k xs d l ((and-eq-true_iff (p x) (all_of p xs)).0 h).1
-  all_of-at p zero [] d l h = elim l [ ]
-  all_of-at p (suc k) [] d l h = elim l [ ]
+  pub list_all-at : (p : A → Bool) (k : ℕ) (xs : List A) (d : A) → k < length xs → list_all p xs ≡ true → p (get_or xs k d) ≡ true
+  list_all-at p zero (x ∷ xs) d l h = ((and-eq-true_iff (p x) (list_all p xs)).0 h).0
+  list_all-at p (suc k) (x ∷ xs) d (suc-le-suc l) h = list_all-at p k xs d l ((and-eq-true_iff (p x) (list_all p xs)).0 h).1
+  list_all-at p zero [] d l h = elim l [ ]
+  list_all-at p (suc k) [] d l h = elim l [ ]
 
   -- a fact about every element
   abbrev pub Every : (A → Type 0) → List A → Type 0

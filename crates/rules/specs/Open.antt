@@ -71,7 +71,7 @@ open-refusals = tt
 
 -- everything: a run on known values computes
 unfoldable pub open-all : Unit {0}
-unfolding open-fields open-memory open-power open-sensor open-pin open-control open-slot open-refusals Each.map_from Each.any_from Each.all_of
+unfolding open-fields open-memory open-power open-sensor open-pin open-control open-slot open-refusals Each.map_from Each.any_from
     Each.first_from Parts.part Parts.each_part Modelled.absent Modelled.sensing Modelled.older Modelled.bytes_of Modelled.address_of Modelled.block_of
     Modelled.page_of Events.is_one Events.act_of Fresh.fresh_sensor Fresh.fresh_older Fresh.fresh_slot Fresh.setup_slot Fresh.absent_slot
     Fresh.powered Memory.pin_on Memory.guarded Memory.any_mark Memory.put_up_to Memory.stored Memory.ticked_part Bus.bus_next Bus.memory_next

@@ -1,17 +1,17 @@
 -- Document 01, "Refusal numbers": each row, their order, and the setup.
 -- Assumes nothing.
-use Rattle.std.specs.Prelude.{ℕ, Bool, false, not, cond, ◌&&◌, ◌||◌, List, map, eqb, leb, ltb, ℤ, pos, negsuc, length, get_or, replicate}
+use Rattle.std.specs.Prelude.{ℕ, Bool, false, not, cond, ◌&&◌, ◌||◌, List, map, eqb, leb, ltb, ℤ, pos, negsuc, length, get_or, replicate, Result, Ok, Err}
 use Rattle.std.specs.Int.Bits.{bit_and}
 use Rattle.std.specs.Int.Signed.{lt_z}
-use Rattle.proof_lists.specs.Each.{all_of}
+use Rattle.std.specs.List.{list_all}
 use Rattle.rules.specs.declared.Answer.TheVariants as answer
+use Rattle.rules.specs.declared.Act.{Act}
 use Rattle.rules.specs.declared.Bus.{Bus}
 use Rattle.rules.specs.declared.Event.{Event}
 use Rattle.rules.specs.declared.Outcome.{Outcome}
 use Rattle.rules.specs.declared.Pair.{Pair}
+use Rattle.rules.specs.declared.Refusal.{Refusal}
 use Rattle.rules.specs.declared.Refusal.TheVariants.{MemoryLength, UnknownKind, WrongSlot, WrongValue, WrongSetup, WrongState}
-use Rattle.rules.specs.declared.Ruling.{Ruling}
-use Rattle.rules.specs.declared.Ruling.TheVariants.{Taken, Refused}
 use Rattle.rules.specs.declared.Sensor.{Sensor}
 use Rattle.rules.specs.declared.Slot.{Slot}
 use Rattle.rules.specs.declared.SlotNo.{SlotNo}
@@ -104,15 +104,19 @@ slot_in_range s =
     && older_in_range s
 
 unfoldable pub in_range : Bus → Bool
-in_range b = all_of slot_in_range b.slots
+in_range b = list_all slot_in_range b.slots
+
+-- what an event is taken for: an act, or why it is refused
+abbrev pub Ruling : Type 0
+Ruling = Result Act Refusal
 
 -- rows 2, 3 and 4: they go by the event and the kind of the slot that it names
 unfoldable pub ruled_for : ℕ → Event → Ruling
 ruled_for kind e =
-    cond (unknown_kind e) (Refused UnknownKind)
-    (cond (wrong_slot kind e) (Refused WrongSlot)
-    (cond (wrong_value e) (Refused WrongValue)
-    (Taken (act_of e))))
+    cond (unknown_kind e) (Err UnknownKind)
+    (cond (wrong_slot kind e) (Err WrongSlot)
+    (cond (wrong_value e) (Err WrongValue)
+    (Ok (act_of e))))
 
 -- "Refusals 2, 3 and 4 depend on the event and the setup alone": on the kinds, which no event changes
 unfoldable pub ruled_by : List ℕ → Event → Ruling
@@ -121,8 +125,8 @@ ruled_by kinds e = ruled_for (kind_at kinds e.slot) e
 -- "Order: 1, 6, 2, 3, 4."
 unfoldable pub ruling : Bus → List ℕ → Event → Ruling
 ruling b m e =
-    cond (wrong_length m) (Refused MemoryLength)
-    (cond (not (in_range b)) (Refused WrongState)
+    cond (wrong_length m) (Err MemoryLength)
+    (cond (not (in_range b)) (Err WrongState)
     (ruled_by (kinds_of b) e))
 
 -- "a refused setup yields a bus of eight absent slots"
@@ -131,5 +135,5 @@ empty_bus = record { slots = replicate slot_count absent_slot }
 
 unfoldable pub setup_of : List Pair → Outcome
 setup_of ps =
-    cond (all_of good_pair ps) (record { bus = record { slots = map setup_slot ps }; answer = answer.Nothing })
+    cond (list_all good_pair ps) (record { bus = record { slots = map setup_slot ps }; answer = answer.Nothing })
     (record { bus = empty_bus; answer = answer.Refused WrongSetup })

@@ -1,14 +1,13 @@
 -- An event on a bench, which is a bus with its lent memory, and runs of events.
 -- Assumes nothing.
-use Rattle.std.specs.Prelude.{ℕ, List, [], ◌∷◌}
+use Rattle.std.specs.Prelude.{ℕ, List, [], ◌∷◌, Ok, Err}
 use Rattle.rules.specs.declared.Act.{Act}
 use Rattle.rules.specs.declared.Answer.{Answer}
 use Rattle.rules.specs.declared.Answer.TheVariants as answer
 use Rattle.rules.specs.declared.Bus.{Bus}
 use Rattle.rules.specs.declared.Event.{Event}
 use Rattle.rules.specs.declared.Outcome.{Outcome}
-use Rattle.rules.specs.declared.Ruling.{Ruling}
-use Rattle.rules.specs.declared.Ruling.TheVariants.{Taken, Refused}
+use Rattle.rules.specs.Refusals.{Ruling}
 use Rattle.rules.specs.declared.Slot.{Slot}
 use Rattle.rules.specs.Slot.{slot_next, part_next}
 use Rattle.rules.specs.Bus.{bus_next, memory_next, shown}
@@ -30,13 +29,13 @@ ruling_on e x = ruling x.bus x.memory e
 
 -- "A refused event changes neither state nor memory."
 unfoldable pub ruled_next : Ruling → Bench → Bench
-ruled_next (Taken a) x = taken a x
-ruled_next (Refused r) x = x
+ruled_next (Ok a) x = taken a x
+ruled_next (Err r) x = x
 
 -- "The answer holds the number"
 unfoldable pub ruled_answer : Ruling → Bench → Answer
-ruled_answer (Taken a) x = given a x
-ruled_answer (Refused r) x = answer.Refused r
+ruled_answer (Ok a) x = given a x
+ruled_answer (Err r) x = answer.Refused r
 
 -- one event
 unfoldable pub next : Event → Bench → Bench

@@ -2,14 +2,16 @@
 #![tactic(auto)]
 
 ghost use Rattle.std.specs.Prelude.{◌≡◌};
+ghost use Rattle.rules.specs.Events.{refusal_number};
 ghost use Rattle.rules.specs.Fresh.{fresh_sensor, fresh_slot};
+ghost use Rattle.rules.specs.Modelled.{absent, sensing, older};
 
 // A slot's number, 0 to 7: the select number that it answers to.
-#[derive(Clone, Copy)]
+#[derive(Clone, Copy, PartialEq, Eq)]
 pub struct SlotNo(pub u8);
 
 // A block's number in its slot, 0 to 3.
-#[derive(Clone, Copy)]
+#[derive(Clone, Copy, PartialEq, Eq)]
 pub struct BlockNo(pub u8);
 
 // A byte's place in its slot, 0 to 511.
@@ -62,10 +64,10 @@ pub enum Carried {
     Nothing,
 }
 
-// Why an event, a setup, a plan, a saving or a reading is refused. The paper's number of each: specs/Events.
-#[derive(Clone, Copy)]
+// Why an event, a setup, a plan, a saving or a reading is refused, each with the paper's number: specs/Events.
+#[derive(Clone, Copy, PartialEq, Eq)]
 pub enum Refusal {
-    MemoryLength,
+    MemoryLength = 1,
     UnknownKind,
     WrongSlot,
     WrongValue,
@@ -81,15 +83,17 @@ pub enum Refusal {
     WrongForm,
 }
 
-// What an event is taken for.
-#[derive(Clone, Copy)]
-pub enum Ruling {
-    Taken(Act),
-    Refused(Refusal),
+// The paper's number of a refusal.
+impl From<Refusal> for u8 {
+    ghost from_gives = { λ r n. n ≡ refusal_number r };
+
+    fn from(r: Refusal) -> u8 {
+        r as u8
+    }
 }
 
 // What the bus shows. The paper's letter and value of each: specs/Events.
-#[derive(Clone, Copy)]
+#[derive(Clone, Copy, PartialEq, Eq)]
 pub enum Answer {
     Nothing,
     Ack,
@@ -114,7 +118,7 @@ pub enum Heard {
 }
 
 // Where a slot stands in an exchange. Nothing but the next event depends on it.
-#[derive(Clone, Copy)]
+#[derive(Clone, Copy, PartialEq, Eq)]
 pub enum Phase {
     // No exchange: bytes and reads are ignored.
     Idle,
@@ -200,7 +204,9 @@ pub struct Older {
 
 #[derive(Clone, Copy)]
 pub struct Slot {
-    // 0 absent, 1 memory, 2 memory with sensor, 3 older 2-Kbit memory.
+    // 0 absent, 1 memory, 2 memory with sensor, 3 older 2-Kbit memory; any other number is refused by row 6.
+    // Kept: a number and no enum, here, in Pair and in Event, since what is handed in may be rubbish and is then refused by number (Refusals.kind_in_range,
+    // .good_pair, .unknown_kind).
     pub kind: u8,
     // The write cycle's length in ticks, and how many are left of the running one; 0 for none.
     pub length: u8,
@@ -228,6 +234,27 @@ impl Slot {
     pub const BLOCK: usize = 128;
 
     pub const PAGE: usize = 16;
+
+    // A slot that is not there.
+    pub fn is_absent(&self) -> bool
+        ensures { result ≡ absent self.now }
+    {
+        self.kind == 0
+    }
+
+    // A memory with a sensor.
+    pub fn has_sensor(&self) -> bool
+        ensures { result ≡ sensing self.now }
+    {
+        self.kind == 2
+    }
+
+    // An older 2-Kbit memory.
+    pub fn is_older(&self) -> bool
+        ensures { result ≡ older self.now }
+    {
+        self.kind == 3
+    }
 
     // A slot as setup leaves it.
     pub fn fresh(kind: u8, length: u8) -> Self
@@ -281,16 +308,27 @@ pub struct Pin {
     pub level: bool,
 }
 
-// What looking at a slot's pin gives. The paper's number and values of each: specs/Looked.
-#[derive(Clone, Copy)]
-pub enum Looked {
-    Stands(Pin),
-    Refused(Refusal),
-}
-
 // What a public entry gives back beside the lent memory.
 #[derive(Clone, Copy)]
 pub struct Outcome {
     pub bus: Bus,
     pub answer: Answer,
+}
+
+impl Outcome {
+    // What was asked for is done, and has led to this bus.
+    pub fn taken(bus: Bus) -> Self
+        ensures { result ≡ record { bus = bus; answer = Answer.Nothing } }
+    {
+        let answer = Answer::Nothing;
+        Self { bus, answer }
+    }
+
+    // What is refused leaves the bus that was there.
+    pub fn refused(bus: Bus, why: Refusal) -> Self
+        ensures { result ≡ record { bus = bus; answer = Answer.Refused why } }
+    {
+        let answer = Answer::Refused(why);
+        Self { bus, answer }
+    }
 }

@@ -1,8 +1,8 @@
 -- Document 01, "Exchange and shared event", and what demand 3 strikes out.
 -- Assumes nothing.
-use Rattle.std.specs.Prelude.{ℕ, ◌/◌, Bool, true, false, not, cond, ◌&&◌, ◌||◌, List, [], ◌∷◌, ◌++◌, eqb}
+use Rattle.std.specs.Prelude.{ℕ, ◌/◌, Bool, true, false, not, cond, ◌&&◌, ◌||◌, List, [], ◌∷◌, ◌++◌, eqb, Ok, Err}
 use Rattle.std.proofs.Math.Option.{Option, none, some}
-use Rattle.proof_lists.specs.Each.{all_of}
+use Rattle.std.specs.List.{list_all}
 use Rattle.rules.specs.declared.Act.{Act}
 use Rattle.rules.specs.declared.Applied.{Applied}
 use Rattle.rules.specs.declared.Carried.{Carried}
@@ -12,8 +12,7 @@ use Rattle.rules.specs.declared.Act.TheVariants.{Start, Byte, Read, Stop, Timeou
 use Rattle.rules.specs.declared.Answer.{Answer}
 use Rattle.rules.specs.declared.Answer.TheVariants.{Nothing, Ack, Nack, Data}
 use Rattle.rules.specs.declared.Event.{Event}
-use Rattle.rules.specs.declared.Ruling.{Ruling}
-use Rattle.rules.specs.declared.Ruling.TheVariants.{Taken, Refused}
+use Rattle.rules.specs.Refusals.{Ruling}
 use Rattle.rules.specs.declared.Slot.{Slot}
 use Rattle.rules.specs.declared.SlotNo.{SlotNo}
 use Rattle.rules.specs.Control.{select_of}
@@ -24,8 +23,8 @@ use Rattle.rules.specs.Runs.{Bench, taken, given, next, answered}
 
 -- "refused events anywhere are left out of account": the acts of the events that the kinds let pass
 unfoldable pub kept_by : Ruling → List Act → List Act
-kept_by (Taken a) r = a ∷ r
-kept_by (Refused x) r = r
+kept_by (Ok a) r = a ∷ r
+kept_by (Err x) r = r
 
 unfoldable pub acts_of : List ℕ → List Event → List Act
 acts_of kinds [] = []
@@ -167,11 +166,11 @@ some_of (c ∷ cs) = true
 
 -- "It is addressed to s if it has a control byte and every one in it has 1010 or 0011 and select s"
 unfoldable pub addressed : ℕ → List ℕ → Bool
-addressed s cs = some_of cs && all_of (names s) cs
+addressed s cs = some_of cs && list_all (names s) cs
 
 -- "to none if no control byte in it has 1010, 0011 or 0110, or there is none"
 unfoldable pub to_none : List ℕ → Bool
-to_none cs = all_of mute cs
+to_none cs = list_all mute cs
 
 -- addressed to a slot other than s: the first control byte tells which
 unfoldable pub to_other : ℕ → List ℕ → Bool
@@ -215,8 +214,8 @@ own_told s (i ∷ is) x =
 
 -- of a run the answers of the events that the kinds let pass, in order
 unfoldable pub kept_answer : Ruling → Answer → List Answer → List Answer
-kept_answer (Taken a) y ys = y ∷ ys
-kept_answer (Refused n) y ys = ys
+kept_answer (Ok a) y ys = y ∷ ys
+kept_answer (Err n) y ys = ys
 
 unfoldable pub kept_answers : List ℕ → List Event → Bench → List Answer
 kept_answers kinds [] x = []

@@ -9,7 +9,7 @@ use borrow.Author.Tests.{lt-ltb, le-ltb, eq-eqb}
 use lib.Dec.{eqb, ltb}
 use lib.ListN.{length, drop, length-append, length-replicate}
 use lib.Seq.{sets, take-append_seam, drop_at}
-use Rattle.proof_lists.specs.Each.{all_of}
+use Rattle.std.specs.List.{list_all}
 use Rattle.proof_lists.specs.Tests.{by-test}
 use Rattle.rules.specs.declared.Bus.{Bus}
 use Rattle.rules.specs.declared.Refusal.TheVariants.{Busy}
@@ -90,7 +90,7 @@ writes-whole head buf lines out rs l room =
     let d : ltb (length head) 16 ≡ false = le-ltb (length head) 16 (omega arith) in
     let p : pairs_of bs ≡ pairs_of head = pairs-of head more l in
     let e : drop 16 bs ≡ more = drop_at head more 16 l in
-    by-test (all_of good_pair (pairs_of head))
+    by-test (list_all good_pair (pairs_of head))
     (λ g. writes-by head buf lines out rs (omega arith)
     ∙ rw (a, d, p, g, e) (serve-ends (begun_at (pairs_of head)) buf lines out rs (setup-in-range (pairs_of head)) (length-replicate {A = ℕ} memory_bytes 0xFF) room))
     (λ g. writes-by head buf lines out rs (omega arith) ∙ rw (a, d, p, g))

@@ -2,7 +2,7 @@
 -- Assumes nothing.
 use Rattle.std.specs.Prelude.{ℕ, ◌%◌, true, false, cond, List, [], ◌∷◌, eqb, ltb, length, drop}
 use Rattle.std.proofs.lemmas.List.Edits.{sets}
-use Rattle.proof_lists.specs.Each.{all_of}
+use Rattle.std.specs.List.{list_all}
 use Rattle.rules.specs.declared.Answer.TheVariants as answer
 use Rattle.rules.specs.Refusals.{good_pair}
 use Rattle.rules.specs.Runs.{Bench}
@@ -53,4 +53,4 @@ answer_to bs more = end_text (bench_to (begun_at (pairs_of bs)) more (records_in
 unfoldable pub written_for : List ℕ → Written
 written_for bs =
     cond (ltb (length bs) 16) (on_errors short_line)
-    (cond (all_of good_pair (pairs_of bs)) (answer_to bs (drop 16 bs)) (on_errors bad_setup_line))
+    (cond (list_all good_pair (pairs_of bs)) (answer_to bs (drop 16 bs)) (on_errors bad_setup_line))

@@ -9,7 +9,8 @@ use native.Mathlib.Omega.{arith}
 use borrow.Author.Tests.{eq-eqb, ne_eqb, lt-ltb, le-ltb}
 use lib.ListN.{length, get_or, take, drop, length-append}
 use lib.Seq.{sets, sets-eq}
-use Rattle.proof_lists.specs.Each.{all_of, get_d_any}
+use Rattle.proof_lists.specs.Each.{get_d_any}
+use Rattle.std.specs.List.{list_all}
 use Rattle.proof_lists.specs.Parts.{part, part-flat}
 use Rattle.script_text.proofs.letters.Laws.{Put, put_on}
 use Rattle.rules.specs.declared.Bus.{Bus}
@@ -122,23 +123,23 @@ module _ (b : Bus) (m buffer : List ℕ) where
   unfolding save_of wrong_length
   save-memory h = rw (ne_eqb (length m) memory_bytes h)
 
-  pub save-state : (r : Bool) → length m ≡ memory_bytes → r ≡ all_of slot_in_range b.slots → not r ≡ true → save_of b m buffer ≡ (Refused WrongState, buffer)
+  pub save-state : (r : Bool) → length m ≡ memory_bytes → r ≡ list_all slot_in_range b.slots → not r ≡ true → save_of b m buffer ≡ (Refused WrongState, buffer)
   unfolding save_of wrong_length in_range
   save-state r sized ranged e = rw (eq-eqb (length m) memory_bytes sized, ← ranged, e)
 
-  pub save-busy : (r q : Bool) → length m ≡ memory_bytes → r ≡ all_of slot_in_range b.slots → not r ≡ false → q ≡ all_of quiet b.slots → not q ≡ true
+  pub save-busy : (r q : Bool) → length m ≡ memory_bytes → r ≡ list_all slot_in_range b.slots → not r ≡ false → q ≡ list_all quiet b.slots → not q ≡ true
       → save_of b m buffer ≡ (Refused Busy, buffer)
   unfolding save_of wrong_length in_range all_quiet
   save-busy r q sized ranged e calm f = rw (eq-eqb (length m) memory_bytes sized, ← ranged, e, ← calm, f)
 
-  pub save-short : (r q : Bool) (n : ℕ) → length m ≡ memory_bytes → r ≡ all_of slot_in_range b.slots → not r ≡ false → q ≡ all_of quiet b.slots → not q ≡ false
+  pub save-short : (r q : Bool) (n : ℕ) → length m ≡ memory_bytes → r ≡ list_all slot_in_range b.slots → not r ≡ false → q ≡ list_all quiet b.slots → not q ≡ false
       → n ≡ begins field_count b.slots → length buffer < n → save_of b m buffer ≡ (Refused TooShort, buffer)
   unfolding save_of wrong_length in_range all_quiet
   save-short r q n sized ranged e calm f g h =
       let l : length buffer < length (form_of b m) = omega (arith, length-form_of b m sized) in
       rw (eq-eqb (length m) memory_bytes sized, ← ranged, e, ← calm, f, lt-ltb (length buffer) (length (form_of b m)) l)
 
-  pub save-form : (r q : Bool) (n k : ℕ) (o : List ℕ) → length m ≡ memory_bytes → r ≡ all_of slot_in_range b.slots → not r ≡ false → q ≡ all_of quiet b.slots → not q ≡ false
+  pub save-form : (r q : Bool) (n k : ℕ) (o : List ℕ) → length m ≡ memory_bytes → r ≡ list_all slot_in_range b.slots → not r ≡ false → q ≡ list_all quiet b.slots → not q ≡ false
       → n ≡ begins field_count b.slots → n ≤ length buffer
       → (k ≡ length (form_to field_count b.slots m)) × (o ≡ sets buffer 0 (form_to field_count b.slots m)) → save_of b m buffer ≡ (Form k, o)
   unfolding save_of wrong_length in_range all_quiet form_of

@@ -3,7 +3,7 @@
 
 ghost use Rattle.std.specs.Prelude.{◌≡◌, ◌∷◌, ◌+◌, ◌≤◌, ◌<◌, length};
 ghost use Rattle.std.proofs.lemmas.List.Edits.{sets};
-ghost use Rattle.proof_lists.specs.Each.{all_of};
+ghost use Rattle.std.specs.List.{list_all};
 ghost use Rattle.rules.specs.Modelled.{slot_count, memory_bytes};
 ghost use Rattle.save_rules.specs.Form.{field_count, shares, whole_field, field_bytes, form_to};
 ghost use Rattle.save_rules.specs.Saving.{is_idle, quiet, save_of};
@@ -30,7 +30,7 @@ fn quiet(s: Slot) -> bool
 
 // Every slot is.
 fn all_quiet(slots: [Slot; 8]) -> bool
-    ensures { result ≡ all_of quiet slots }
+    ensures { result ≡ list_all quiet slots }
 {
     let mut ok = true;
     for i in 0..8usize {

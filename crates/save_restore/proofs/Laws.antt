@@ -11,7 +11,8 @@ use borrow.Author.Tests.{eqb-true, eq-eqb, ne_eqb, not-false}
 use lib.Dec.{eqb}
 use lib.ListN.{length, get_or, set, take, drop, replicate, length-take, length-drop, length-replicate}
 use lib.Seq.{sets, sets-eq, length-sets, take_at}
-use Rattle.proof_lists.specs.Each.{map_to, map_to-step, all_of, get_d_any}
+use Rattle.proof_lists.specs.Each.{map_to, map_to-step, get_d_any}
+use Rattle.std.specs.List.{list_all}
 use Rattle.proof_lists.specs.Same.{stands}
 use Rattle.proof_lists.specs.Stores.{pasted}
 use Rattle.proof_lists.specs.Tests.{by-test, and_left, and_right}
@@ -198,10 +199,10 @@ module _ (b : Bus) (m f : List ℕ) where
   unfolding restore_of wrong_length
   restore-memory x h e = rw (ne_eqb (length m) memory_bytes h, e)
 
-  module _ (read : Bus) (r q : Bool) (sized : length m ≡ memory_bytes) (is : read ≡ bus_in f) (ranged : r ≡ all_of slot_in_range read.slots) (told : q ≡ tallies read.slots f) where
+  module _ (read : Bus) (r q : Bool) (sized : length m ≡ memory_bytes) (is : read ≡ bus_in f) (ranged : r ≡ list_all slot_in_range read.slots) (told : q ≡ tallies read.slots f) where
     verdict : (r && q) ≡ accepted f m
     unfolding accepted form_of memory_in in_range
-    verdict = ap₂ ◌&&◌ (ranged ∙ ap (λ (x : Bus). all_of slot_in_range x.slots) is) (told ∙ ap (λ (x : Bus). tallies x.slots f) is ∙ tallies-same (bus_in f).slots f m sized)
+    verdict = ap₂ ◌&&◌ (ranged ∙ ap (λ (x : Bus). list_all slot_in_range x.slots) is) (told ∙ ap (λ (x : Bus). tallies x.slots f) is ∙ tallies-same (bus_in f).slots f m sized)
 
     pub restore-departs : (x : Outcome) → not (r && q) ≡ true → x ≡ record { bus = b; answer = answer.Refused WrongForm } → restore_of b m f ≡ (x, m)
     unfolding restore_of wrong_length

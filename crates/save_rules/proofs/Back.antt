@@ -9,8 +9,8 @@ use lib.Dec.{eqb}
 use lib.ListN.{length, get_or, take, drop, length-take, get_or-replicate, length-map, get_or-map}
 use lib.Seq.{ext_get_or, take_all, take_at, drop_at, take-append_seam}
 use borrow.Author.Tests.{eq-eqb, le-ltb}
-use Rattle.proof_lists.specs.Alike.{all_of-map}
-use Rattle.proof_lists.specs.Each.{all_of-at, every-at}
+use Rattle.proof_lists.specs.Alike.{list_all-map}
+use Rattle.proof_lists.specs.Each.{list_all-at, every-at}
 use Rattle.proof_lists.specs.Parts.{part}
 use Rattle.proof_lists.specs.Same.{same, same_refl}
 use Rattle.proof_lists.specs.Tests.{by-test, both}
@@ -41,7 +41,7 @@ rested-at ss k = ap (get_or (map rested ss) k) (sym rested-absent) ∙ get_or-ma
 
 rested-bus-in-range : (b : Bus) → in_range b ≡ true → in_range (rested_bus b) ≡ true
 unfolding in_range rested_bus
-rested-bus-in-range b h = all_of-map rested slot_in_range slot_in_range (λ s r. test (rested s) (rested-in-range s (facts s r))) b.slots h
+rested-bus-in-range b h = list_all-map rested slot_in_range slot_in_range (λ s r. test (rested s) (rested-in-range s (facts s r))) b.slots h
 
 module _ (b : Bus) (m : List ℕ) (typed : Typed b) (ranged : in_range b ≡ true) (sized : length m ≡ memory_bytes) where
   abbrev ss : List Slot
@@ -55,7 +55,7 @@ module _ (b : Bus) (m : List ℕ) (typed : Typed b) (ranged : in_range b ≡ tru
 
   in-range : (k : ℕ) → k < slot_count → InRange (slot k)
   unfolding in_range
-  in-range k h = facts (slot k) (all_of-at slot_in_range k ss absent_slot (rw typed.slots h) ranged)
+  in-range k h = facts (slot k) (list_all-at slot_in_range k ss absent_slot (rw typed.slots h) ranged)
 
   -- each field read in its turn: one that is there is read, and one that is not says nothing, which is what it would say
   abbrev Read : ℕ → Type 0

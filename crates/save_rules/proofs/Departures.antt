@@ -13,7 +13,7 @@ use lib.Dec.{eqb, ltb}
 use lib.ListN.{length, get_or, drop, length-append, drop_of_length-le, get_or-append}
 use lib.Seq.{drop-append_seam}
 use borrow.Author.Tests.{eqb-true, eqb-false, eq-eqb, ne_eqb, leb-true, ltb-true, ltb-false}
-use Rattle.proof_lists.specs.Each.{all_of-at, every-at}
+use Rattle.proof_lists.specs.Each.{list_all-at, every-at}
 use Rattle.proof_lists.specs.Parts.{part}
 use Rattle.proof_lists.specs.Tests.{by-test, and_left, and_right, both, or_left_false, or_right_false}
 use Rattle.rules.specs.declared.Answer.TheVariants as answer
@@ -229,7 +229,7 @@ module _ (f n : List ℕ) (accepts : accepted f n ≡ true) (sized : length n �
   byte-in t k j h e l g = in-form (place_in f t k + j) ∙ share-at slots bytes long t k j h e l g
 
   ranges : (k : ℕ) → k < slot_count → InRange (slot_in f k)
-  ranges k h = facts (slot_in f k) (all_of-at slot_in_range k (bus_in f).slots absent_slot (rw (typed-read f).slots h) (unfold in_range in accepted-in-range f n accepts))
+  ranges k h = facts (slot_in f k) (list_all-at slot_in_range k (bus_in f).slots absent_slot (rw (typed-read f).slots h) (unfold in_range in accepted-in-range f n accepts))
 
   -- the first byte of a share
   first-in : (t k : ℕ) → t < field_count → is_there t slots ≡ true → k < slot_count → 0 < size_in t (slot_in f k)

@@ -6,7 +6,8 @@ use mathlib.Core.Bool.{true, or-true}
 use mathlib.Core.List.{List, [], ◌∷◌, map, ◌++◌}
 use lib.Dec.{eqb}
 use lib.ListN.{length, get_or, drop}
-use Rattle.proof_lists.specs.Each.{all_of, Every, every-map_from, every-replicate}
+use Rattle.proof_lists.specs.Each.{Every, every-map_from, every-replicate}
+use Rattle.std.specs.List.{list_all}
 use Rattle.proof_lists.specs.Same.{same, same-eq}
 use Rattle.proof_lists.specs.Tests.{cond_cases, by-test, and_left, and_right, both}
 use Rattle.rules.specs.declared.Bus.{Bus}
@@ -56,10 +57,9 @@ rested-quiet : (s : Slot) → quiet (rested s) ≡ true
 unfolding quiet rested is_idle absent absent_slot fresh_slot at_rest open-fields
 rested-quiet s = cond_cases (λ (r : Slot). quiet r ≡ true) (eqb s.kind 0) (λ a. refl) (λ a. or-true (eqb s.kind 0))
 
-all-quiet : (ss : List Slot) → all_of quiet (map rested ss) ≡ true
-unfolding all_of
+all-quiet : (ss : List Slot) → list_all quiet (map rested ss) ≡ true
 all-quiet [] = refl
-all-quiet (s ∷ ss) = both (quiet (rested s)) (all_of quiet (map rested ss)) (rested-quiet s) (all-quiet ss)
+all-quiet (s ∷ ss) = both (quiet (rested s)) (list_all quiet (map rested ss)) (rested-quiet s) (all-quiet ss)
 
 module _ (f n : List ℕ) (accepts : accepted f n ≡ true) where
   -- an accepted form restores to a bus in range
@@ -93,7 +93,7 @@ module _ (f n : List ℕ) (accepts : accepted f n ≡ true) where
     -- and every slot that is restored is idle and in no write cycle
     pub restored-quiet : all_quiet (bus_in f) ≡ true
     unfolding all_quiet rested_bus
-    restored-quiet = ap (λ (b : Bus). all_of quiet b.slots) restored-rested ∙ all-quiet (bus_in f).slots
+    restored-quiet = ap (λ (b : Bus). list_all quiet b.slots) restored-rested ∙ all-quiet (bus_in f).slots
 
     -- Saving the restored bench gives the same form again, into every buffer with room for it.
     pub saved-again : (buffer : List ℕ) → length f ≤ length buffer → save_of (restored f n).bus (restored f n).memory buffer ≡ (Form (length f), f ++ drop (length f) buffer)

@@ -10,7 +10,8 @@ use lib.Dec.{eqb, leb}
 use lib.ListN.{length, get_or, take-append-drop}
 use borrow.Author.Tests.{eqb-true, eqb-false, leb-true}
 use Rattle.proof_lists.specs.Alike.{every-from, every-so, every_map}
-use Rattle.proof_lists.specs.Each.{all_of, Every, all_of-at, every-at}
+use Rattle.proof_lists.specs.Each.{Every, list_all-at, every-at}
+use Rattle.std.specs.List.{list_all}
 use Rattle.proof_lists.specs.Parts.{part, parts-ext}
 use Rattle.proof_lists.specs.Tests.{cond_cases, by-test, and_left, and_right}
 use Rattle.rules.specs.declared.Bus.{Bus}
@@ -147,12 +148,12 @@ restored-calm f n a l = record {
     back : (P : Slot → Type 0) → Every P (map rested (bus_in f).slots) → Every P (bus_in f).slots
     back P h = subst (λ (b : Bus). Every P b.slots) (sym (restored-rested f n a l)) (unfold rested_bus in h)
 
-    ranged : all_of slot_in_range (bus_in f).slots ≡ true
+    ranged : list_all slot_in_range (bus_in f).slots ≡ true
     ranged = unfold in_range in accepted-in-range f n a
 
     each : Every Restored (bus_in f).slots
     each = every-from Restored absent_slot (bus_in f).slots
-        (λ k h. (all_of-at slot_in_range k (bus_in f).slots absent_slot h ranged, every-at (λ (s : Slot). length s.protection ≡ 4) k (bus_in f).slots absent_slot h (typed-read f).blocks))
+        (λ k h. (list_all-at slot_in_range k (bus_in f).slots absent_slot h ranged, every-at (λ (s : Slot). length s.protection ≡ 4) k (bus_in f).slots absent_slot h (typed-read f).blocks))
 
 -- A slot that is quiet, and as a run leaves it, is what a form keeps of it.
 own-registers : (s : Slot) → Plain s → cond (sensing s) s.sensor fresh_sensor ≡ s.sensor
@@ -172,12 +173,11 @@ reach-rested s q h p o = cond_cases (λ (r : Slot). r ≡ s) (absent s) (λ a. s
     absent-reach s a (none e) = e
     absent-reach s a (some k l h b) = unfold absent in absurd (k (eqb-true s.kind 0 a))
 
-slots-rested : (ss : List Slot) → all_of quiet ss ≡ true → Every Reach ss → Every Plain ss → Every Newer ss → map rested ss ≡ ss
-unfolding all_of
+slots-rested : (ss : List Slot) → list_all quiet ss ≡ true → Every Reach ss → Every Plain ss → Every Newer ss → map rested ss ≡ ss
 slots-rested [] q h p o = refl
 slots-rested (s ∷ ss) q h p o =
-    ap₂ ◌∷◌ (reach-rested s (and_left (quiet s) (all_of quiet ss) q) h.0 p.0 o.0)
-    (slots-rested ss (and_right (quiet s) (all_of quiet ss) q) h.1 p.1 o.1)
+    ap₂ ◌∷◌ (reach-rested s (and_left (quiet s) (list_all quiet ss) q) h.0 p.0 o.0)
+    (slots-rested ss (and_right (quiet s) (list_all quiet ss) q) h.1 p.1 o.1)
 
 pub calm-rested : (x : Bench) → Calm x → all_quiet x.bus ≡ true → rested_bus x.bus ≡ x.bus
 unfolding rested_bus all_quiet

@@ -1,6 +1,7 @@
 -- Request P5: after a restore the bench goes on as if it had never been saved: the same answers to every run of events, the same bus after it, and the same
 -- bytes of every present slot (of an older one those that are its own: nothing looks at its upper 256, and no form has them).
 -- Assumes nothing.
+use Rattle.std.specs.Prelude.{Ok, Err}
 use Prim.Native.Nat.{ℕ, ◌-◌, ◌*◌, min, ◌≤◌, ◌<◌}
 use native.Mathlib.Nat.{zero-add}
 use native.Mathlib.Omega.{arith}
@@ -12,7 +13,7 @@ use lib.ListN.{length, get_or, take, length-take, get_or-eq_default}
 use lib.Seq.{get_or-take, take_all, ext_get_or}
 use borrow.Author.Tests.{ltb-true, ltb-false}
 use Rattle.proof_lists.specs.Alike.{first_alike}
-use Rattle.proof_lists.specs.Each.{first_from, all_of-at}
+use Rattle.proof_lists.specs.Each.{first_from, list_all-at}
 use Rattle.proof_lists.specs.Parts.{part, length_part}
 use Rattle.proof_lists.specs.Tests.{by-test}
 use Rattle.rules.specs.declared.Act.{Act}
@@ -24,8 +25,7 @@ use Rattle.rules.specs.declared.Event.{Event}
 use Rattle.rules.specs.declared.Pair.{Pair}
 use Rattle.rules.specs.declared.Phase.{Phase}
 use Rattle.rules.specs.declared.Phase.TheVariants.{Idle, Control, Deaf, MemoryCounter, MemoryData, MemoryRead, HalfSelected, CommandAddress, CommandData, CommandStop, SensorPointer, SensorHigh, SensorLow, SensorReadHigh, SensorReadLow}
-use Rattle.rules.specs.declared.Ruling.{Ruling}
-use Rattle.rules.specs.declared.Ruling.TheVariants.{Taken, Refused}
+use Rattle.rules.specs.Refusals.{Ruling}
 use Rattle.rules.specs.declared.Slot.{Slot}
 use Rattle.rules.specs.Modelled.{slot_count, slot_bytes, memory_bytes, absent, older, bytes_of, address_of}
 use Rattle.rules.specs.Events.{carried}
@@ -102,7 +102,7 @@ next-own n b s p q l e i h = by-test (ltb i (length p))
 
 slot-in-range : (y : Bench) → in_range y.bus ≡ true → (k : ℕ) → k < length (slots_of y) → InRange (slot_at absent_slot k y)
 unfolding in_range
-slot-in-range y r k h = facts (slot_at absent_slot k y) (all_of-at slot_in_range k (slots_of y) absent_slot h r)
+slot-in-range y r k h = facts (slot_at absent_slot k y) (list_all-at slot_in_range k (slots_of y) absent_slot h r)
 
 same_length : (x y : Bench) (k : ℕ) → length x.memory ≡ length y.memory → length (part_of k x) ≡ length (part_of k y)
 same_length x y k l = length_part slot_bytes k x.memory ∙ ap (λ (n : ℕ). min slot_bytes (n - slot_bytes * k)) l ∙ sym (length_part slot_bytes k y.memory)
@@ -129,8 +129,8 @@ shown-alike carries.Nothing x y a = refl
 
 given-alike : (r : Ruling) (x y : Bench) → Alike x y → ruled_answer r x ≡ ruled_answer r y
 unfolding ruled_answer given shown
-given-alike (Taken b) x y a = shown-alike (carried b) x y a
-given-alike (Refused r) x y a = refl
+given-alike (Ok b) x y a = shown-alike (carried b) x y a
+given-alike (Err r) x y a = refl
 
 -- an act: the bus, and the bytes of a present slot, which was present before
 below_alike : (x y : Bench) → Alike x y → (k : ℕ) → k < length (slots_of y) → k < length (slots_of x)
@@ -155,19 +155,19 @@ taken-bytes b x y a k h e i l =
 ruled-bytes : (r : Ruling) (x y : Bench) → Alike x y → (k : ℕ) → k < length (slots_of (ruled_next r y)) → absent (slot_at absent_slot k (ruled_next r y)) ≡ false
     → AlikeTo (bytes_of (slot_at absent_slot k (ruled_next r y)).kind) (part_of k (ruled_next r x)) (part_of k (ruled_next r y))
 unfolding ruled_next
-ruled-bytes (Taken b) x y a k h e = taken-bytes b x y a k (rw number-taken at h) e
-ruled-bytes (Refused r) x y a k h e = a.bytes k h e
+ruled-bytes (Ok b) x y a k h e = taken-bytes b x y a k (rw number-taken at h) e
+ruled-bytes (Err r) x y a k h e = a.bytes k h e
 
 ruled-bus : (r : Ruling) (x y : Bench) → Alike x y → (ruled_next r x).bus ≡ (ruled_next r y).bus
 unfolding ruled_next taken
-ruled-bus (Taken b) x y a = ap (bus_next b) a.bus
-ruled-bus (Refused r) x y a = a.bus
+ruled-bus (Ok b) x y a = ap (bus_next b) a.bus
+ruled-bus (Err r) x y a = a.bus
 
 -- an event is judged alike, answered alike, and leaves the two alike
 ruling-alike : (e : Event) (x y : Bench) → Alike x y → ruling_on e x ≡ ruling_on e y
 unfolding ruling_on ruling wrong_length
 ruling-alike e x y a =
-    ap₂ (λ (b : Bus) (n : ℕ). cond (not (eqb n memory_bytes)) (Refused MemoryLength) (cond (not (in_range b)) (Refused WrongState) (ruled_by (kinds_of b) e))) a.bus a.sized
+    ap₂ (λ (b : Bus) (n : ℕ). cond (not (eqb n memory_bytes)) (Err MemoryLength) (cond (not (in_range b)) (Err WrongState) (ruled_by (kinds_of b) e))) a.bus a.sized
 
 pub answered-alike : (e : Event) (x y : Bench) → Alike x y → answered e x ≡ answered e y
 unfolding answered

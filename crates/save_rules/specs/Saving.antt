@@ -1,7 +1,7 @@
 -- Request P5, "Saving a bench overnight": saving.
 -- Assumes nothing.
 use Rattle.std.specs.Prelude.{ℕ, Bool, true, false, not, cond, ◌&&◌, ◌||◌, List, ◌++◌, eqb, ltb, length, drop}
-use Rattle.proof_lists.specs.Each.{all_of}
+use Rattle.std.specs.List.{list_all}
 use Rattle.rules.specs.declared.Bus.{Bus}
 use Rattle.rules.specs.declared.Phase.{Phase}
 use Rattle.rules.specs.declared.Phase.TheVariants.{Idle, Control, Deaf, MemoryCounter, MemoryData, MemoryRead, HalfSelected, CommandAddress, CommandData, CommandStop, SensorPointer, SensorHigh, SensorLow, SensorReadHigh, SensorReadLow}
@@ -37,7 +37,7 @@ unfoldable pub quiet : Slot → Bool
 quiet s = absent s || is_idle s.phase && eqb s.left 0
 
 unfoldable pub all_quiet : Bus → Bool
-all_quiet b = all_of quiet b.slots
+all_quiet b = list_all quiet b.slots
 
 -- "Saving is refused with 8 unless every present slot is idle and in no write cycle, then with 9 if the lent buffer is too short; 1 and 6 come
 -- first, and all leave it unchanged; else the length is returned and bytes past the form stay."

@@ -8,7 +8,7 @@ use native.Mathlib.Omega.{arith}
 use borrow.Author.Tests.{ltb-true, ltb-false}
 use lib.Dec.{ltb}
 use lib.ListN.{length, take}
-use Rattle.proof_lists.specs.Each.{all_of}
+use Rattle.std.specs.List.{list_all}
 use Rattle.proof_lists.specs.Tests.{by-test}
 use Rattle.rules.specs.Refusals.{good_pair}
 use Rattle.script_text.specs.Records.{pairs_of}
@@ -50,7 +50,7 @@ module _ (out m o : List ℕ) (r : Begun) (p : Opened out r m o) (room : length 
       w ∙ writes-cut head [] out [] l (omega arith) ∙ sym (ap script_of (ap (head ++◌) (over l) ∙ append-nil head)))
       (λ c.
       let l : length head ≡ 16 = let h = ltb-false (length head) 16 c in omega (arith, h, p.fits) in
-      let g : all_of good_pair (pairs_of head) ≡ false = rw c at (sym goes-on ∙ e) in
+      let g : list_all good_pair (pairs_of head) ≡ false = rw c at (sym goes-on ∙ e) in
       w ∙ writes-whole head [] out [] l (omega arith) tt ∙ script-bad head [] l g ∙ sym (script-bad head more l g))
 
   -- WHERE RECORDS FOLLOW, and no write failed

@@ -3,7 +3,7 @@
 -- Assumes nothing.
 use Rattle.std.specs.Prelude.{ℕ, Bool, not, cond, ◌&&◌, List, [], ◌∷◌, eqb, ltb, length, replicate, Result, Ok, Err}
 use Rattle.std.proofs.lemmas.List.Edits.{sets}
-use Rattle.proof_lists.specs.Each.{all_of}
+use Rattle.std.specs.List.{list_all}
 use Rattle.rules.specs.Modelled.{memory_bytes}
 use Rattle.rules.specs.Refusals.{good_pair, setup_of}
 use Rattle.rules.specs.Runs.{Bench}
@@ -25,11 +25,11 @@ cut_setup bs = ltb (length bs) 16
 
 -- "A bad setup gives `R5` alone. An incomplete setup or record gives the last line `short`."
 unfoldable pub first_line : List ℕ → List ℕ
-first_line bs = cond (cut_setup bs) short_line (cond (all_of good_pair (pairs_of bs)) [] bad_setup_line)
+first_line bs = cond (cut_setup bs) short_line (cond (list_all good_pair (pairs_of bs)) [] bad_setup_line)
 
 -- records follow a whole and good setup alone
 unfoldable pub goes_on : List ℕ → Bool
-goes_on bs = not (cut_setup bs) && all_of good_pair (pairs_of bs)
+goes_on bs = not (cut_setup bs) && list_all good_pair (pairs_of bs)
 
 -- the beginning, from the bytes that were read as setup: the bench, or where the line ends; then the output
 unfoldable pub begin_of : List ℕ → List ℕ → Result Bench ℕ × List ℕ

@@ -1,7 +1,7 @@
 -- Document 01, "The script program": records, lines, and the whole output.
 -- Assumes nothing.
 use Rattle.std.specs.Prelude.{ℕ, zero, suc, ◌*◌, ◌/◌, ◌%◌, cond, List, [], ◌++◌, ltb, length, drop}
-use Rattle.proof_lists.specs.Each.{all_of}
+use Rattle.std.specs.List.{list_all}
 use Rattle.rules.specs.declared.Pair.{Pair}
 use Rattle.rules.specs.Refusals.{good_pair, setup_of}
 use Rattle.rules.specs.Runs.{Bench, next, answered}
@@ -36,6 +36,6 @@ begun_at ps = record { bus = (setup_of ps).bus; memory = starting_memory }
 unfoldable pub script_of : List ℕ → List ℕ
 script_of bs =
     cond (ltb (length bs) 16) short_line
-    (cond (all_of good_pair (pairs_of bs))
+    (cond (list_all good_pair (pairs_of bs))
     (lines_to (begun_at (pairs_of bs)) (drop 16 bs) (records_in (drop 16 bs)) ++ ending (drop 16 bs))
     bad_setup_line)

@@ -9,7 +9,7 @@ use borrow.Author.Tests.{lt-ltb, le-ltb, ltb-true, ltb-false}
 use lib.Dec.{ltb}
 use lib.ListN.{length, take, drop, length-append}
 use lib.Seq.{drop-append_seam}
-use Rattle.proof_lists.specs.Each.{all_of}
+use Rattle.std.specs.List.{list_all}
 use Rattle.proof_lists.specs.Tests.{by-test}
 use Rattle.rules.specs.declared.Bus.{Bus}
 use Rattle.rules.specs.Refusals.{good_pair, setup_of}
@@ -38,11 +38,11 @@ module _ (head more : List ℕ) (l : length head ≡ 16) where
   behind : drop 16 (head ++ more) ≡ more
   behind = ap (λ i. drop i (head ++ more)) (sym l) ∙ drop-append_seam head more
 
-  of-bad : all_of good_pair (pairs_of head) ≡ false → watch_of (head ++ more) ≡ bad_setup_line
+  of-bad : list_all good_pair (pairs_of head) ≡ false → watch_of (head ++ more) ≡ bad_setup_line
   unfolding watch_of
   of-bad g = rw (whole, pairs-of head more l, g)
 
-  of-good : all_of good_pair (pairs_of head) ≡ true → watch_of (head ++ more) ≡ watched_text (begun_at (pairs_of head)) more
+  of-good : list_all good_pair (pairs_of head) ≡ true → watch_of (head ++ more) ≡ watched_text (begun_at (pairs_of head)) more
   unfolding watch_of
   of-good g = rw (whole, pairs-of head more l, g, behind)
 
@@ -71,7 +71,7 @@ module _ (out m o : List ℕ) (r : Begun) (p : Opened out r m o) (room : length 
       puts_first ∙ rw c (sym (ap watch_of (ap (head ++◌) (over l) ∙ append-nil head) ∙ of_cut head l)))
       (λ c.
       let l : length head ≡ 16 = let h = ltb-false (length head) 16 c in omega (arith, h, p.fits) in
-      let g : all_of good_pair (pairs_of head) ≡ false = rw c at (sym goes-on ∙ e) in
+      let g : list_all good_pair (pairs_of head) ≡ false = rw c at (sym goes-on ∙ e) in
       puts_first ∙ rw (c, g) (sym (of-bad head more l g)))
 
   -- WHERE RECORDS FOLLOW, and the reads came to the input's end
@@ -81,7 +81,7 @@ module _ (out m o : List ℕ) (r : Begun) (p : Opened out r m o) (room : length 
   writes-all told stored wrote w e x =
       let c : ltb (length head) 16 ≡ false = by-test (ltb (length head) 16) (λ c. absurd (false≢true (rw c at (sym goes-on ∙ e)))) (λ c. c) in
       let l : length head ≡ 16 = let h = ltb-false (length head) 16 c in omega (arith, h, p.fits) in
-      let g : all_of good_pair (pairs_of head) ≡ true = rw c at (sym goes-on ∙ e) in
+      let g : list_all good_pair (pairs_of head) ≡ true = rw c at (sym goes-on ∙ e) in
       let f : take r.end o ≡ [] = puts_first ∙ rw (c, g) in
       let b : r.bus ≡ (setup_of (pairs_of head)).bus = sym (ap (λ (b : Begun × List ℕ × List ℕ). b.0.bus) p.begun) ∙ rw c in
       let n : m ≡ starting_memory = sym (ap (λ (b : Begun × List ℕ × List ℕ). b.1) p.begun) in

@@ -1,7 +1,7 @@
 -- What `watch` writes, for all that it reads: the script's lines, and with them the lines of the slots.
 -- Assumes nothing.
 use Rattle.std.specs.Prelude.{ℕ, cond, List, ltb, length, drop}
-use Rattle.proof_lists.specs.Each.{all_of}
+use Rattle.std.specs.List.{list_all}
 use Rattle.rules.specs.Refusals.{good_pair}
 use Rattle.script_text.specs.Records.{pairs_of}
 use Rattle.script_text.specs.Letters.{short_line}
@@ -14,4 +14,4 @@ use Rattle.watch_streams.specs.Texts.{watched_text}
 unfoldable pub watch_of : List ℕ → List ℕ
 watch_of bs =
     cond (ltb (length bs) 16) short_line
-    (cond (all_of good_pair (pairs_of bs)) (watched_text (begun_at (pairs_of bs)) (drop 16 bs)) bad_setup_line)
+    (cond (list_all good_pair (pairs_of bs)) (watched_text (begun_at (pairs_of bs)) (drop 16 bs)) bad_setup_line)

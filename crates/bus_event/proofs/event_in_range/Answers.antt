@@ -4,13 +4,13 @@ use Rattle.rules.specs.Refusals.{in_range}
 use Rattle.bus_event.proofs.Laws.{event-taken, event-refused, ruling-in-range}
 use Rattle.bus_event.proofs.event_in_range.Goals as goal
 
-pub returns-in-Taken : goal.returns-in-Taken
+pub returns-in-Ok : goal.returns-in-Ok
 unfolding in_range
-returns-in-Taken c = event-taken _ _ _ _ _ (ruling-in-range _ _ _ _ _ _ c.requires c.kind_at-kind.ensures c.ruled-ruling.ensures c.in-Taken.is) c.taken.ensures
+returns-in-Ok c = event-taken _ _ _ _ _ (ruling-in-range _ _ _ _ _ _ c.requires c.kind_at-kind.ensures c.ruled-ruling.ensures c.in-Ok.is) c.taken.ensures
 
-pub returns-in-Refused : goal.returns-in-Refused
+pub returns-in-Err : goal.returns-in-Err
 unfolding in_range
-returns-in-Refused c = event-refused _ _ _ _ _ (ruling-in-range _ _ _ _ _ _ c.requires c.kind_at-kind.ensures c.ruled-ruling.ensures c.in-Refused.is) c.refused.ensures
+returns-in-Err c = event-refused _ _ _ _ _ (ruling-in-range _ _ _ _ _ _ c.requires c.kind_at-kind.ensures c.ruled-ruling.ensures c.in-Err.is) c.refused.ensures
 
 pub taken-requires : goal.taken-requires
 unfolding in_range

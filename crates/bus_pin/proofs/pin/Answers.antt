@@ -1,8 +1,8 @@
 -- Row 6, then row 3, then the pin of a slot that is there.
+use Rattle.std.specs.Prelude.{Ok}
 use native.Mathlib.Omega.{arith}
 use mathlib.Core.Path.{sym, ◌∙◌, ap}
 use Rattle.proof_lists.specs.Each.{get_d_any}
-use Rattle.rules.specs.declared.Looked.TheVariants.{Stands}
 use Rattle.rules.specs.declared.Slot.{Slot}
 use Rattle.rules.specs.Fresh.{absent_slot}
 use Rattle.rules.specs.Pin.{pin_of}
@@ -31,4 +31,4 @@ returns c =
     let g = f in
     let h = pin-there _ _ (sym f.no_pin.ensures ∙ f.if-no_pin.false) in
     rw (c.pin.ensures, ← f.in_range.ensures, f.if-not-in_range.false, ← f.no_pin.ensures, f.if-no_pin.false)
-    (ap (λ (s : Slot). Stands (pin_of s.sensor)) (get_d_any g.args.bus.slots g.args.n.0 no_slot absent_slot h))
+    (ap (λ (s : Slot). Ok (pin_of s.sensor)) (get_d_any g.args.bus.slots g.args.n.0 no_slot absent_slot h))

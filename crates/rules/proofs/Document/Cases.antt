@@ -9,7 +9,7 @@ use lib.ListN.{get_or, set, replicate}
 use Rattle.rules.specs.declared.Answer.{Answer}
 use Rattle.rules.specs.declared.Event.{Event}
 use Rattle.rules.specs.declared.Pair.{Pair}
-use Rattle.rules.specs.declared.Ruling.{Ruling}
+use Rattle.rules.specs.Refusals.{Ruling}
 use Rattle.rules.specs.Events.{letter_of, value_of, refusal_number}
 use Rattle.rules.specs.Fresh.{absent_slot}
 use Rattle.rules.specs.Refusals.{setup_of}

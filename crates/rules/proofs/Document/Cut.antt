@@ -1,5 +1,6 @@
 -- Request P3, "Power lost in a write cycle", sentence by sentence, of every slot that can be handed in, and of the bus.
 -- Assumes nothing.
+use Rattle.std.specs.Prelude.{Ok}
 use Prim.Native.Nat.{ℕ, zero, suc, ◌+◌, ◌-◌, ◌*◌, ◌<◌, ◌≤◌}
 use native.Mathlib.Nat.{zero-add, suc-add}
 use native.Mathlib.Omega.{arith}
@@ -15,8 +16,7 @@ use Rattle.proof_lists.specs.Parts.{part, length_part, get_d_part}
 use Rattle.rules.specs.declared.Act.TheVariants.{Tick, Power}
 use Rattle.rules.specs.declared.Cut.{Cut}
 use Rattle.rules.specs.declared.Event.{Event}
-use Rattle.rules.specs.declared.Ruling.{Ruling}
-use Rattle.rules.specs.declared.Ruling.TheVariants.{Taken}
+use Rattle.rules.specs.Refusals.{Ruling}
 use Rattle.rules.specs.declared.Slot.{Slot}
 use Rattle.rules.specs.Modelled.{absent, slot_bytes, address_of, older}
 use Rattle.rules.specs.Fields.{at_counter, with_left, expecting, latched}
@@ -114,7 +114,7 @@ old-or-new k s m i d l = by-test (lands_at (Power k) s i)
     (λ e. inl (part-byte (Power k) s m i d l ∙ cond-false (lands_at (Power k) s i) _ _ e))
 
 -- the same of an event, on the bench: place i of slot q
-pub cut-bench : (e : Event) (x : Bench) (k : Cut) (q i d : ℕ) (z : Slot) → ruling_on e x ≡ Taken (Power k)
+pub cut-bench : (e : Event) (x : Bench) (k : Cut) (q i d : ℕ) (z : Slot) → ruling_on e x ≡ Ok (Power k)
     → q < length x.bus.slots → i < slot_bytes → slot_bytes * q + i < length x.memory
     → let s : Slot = get_or x.bus.slots q z in
     let old : ℕ = get_or x.memory (slot_bytes * q + i) d in

@@ -1,6 +1,7 @@
 -- Which events reach the memory, and which bytes: a tick and a power cycle, and of each slot whose write cycle it ends the latched bytes of its
 -- page, at a power cycle the first so many of them.
 -- Assumes nothing.
+use Rattle.std.specs.Prelude.{Ok, Err}
 use Prim.Native.Nat.{ℕ, zero, suc, ◌+◌, ◌-◌, ◌*◌, ◌<◌, ◌≤◌}
 use native.Mathlib.Omega.{arith}
 use mathlib.Core.Path.{◌≡◌, refl, sym, ap, ap₂, ◌∙◌}
@@ -17,8 +18,7 @@ use Rattle.rules.specs.declared.Act.TheVariants.{Start, Byte, Read, Stop, Timeou
 use Rattle.rules.specs.declared.Bus.{Bus}
 use Rattle.rules.specs.declared.Cut.{Cut}
 use Rattle.rules.specs.declared.Event.{Event}
-use Rattle.rules.specs.declared.Ruling.{Ruling}
-use Rattle.rules.specs.declared.Ruling.TheVariants.{Taken, Refused}
+use Rattle.rules.specs.Refusals.{Ruling}
 use Rattle.rules.specs.declared.Slot.{Slot}
 use Rattle.rules.specs.Modelled.{absent, slot_bytes, address_of, page_of}
 use Rattle.rules.specs.Memory.{put_up_to, stored, ticked_part}
@@ -131,12 +131,12 @@ memory-parts (Apply k x) b m = sym (each_part-same slot_bytes (part_next (Apply 
 pub memory-still : (a : Act) (b : Bus) (m : List ℕ) → (storing a).0 ≡ 0 → memory_next a b m ≡ m
 memory-still a b m h = memory-parts a b m ∙ each_part-same slot_bytes (part_next a) (λ s p. part-still a s p h) b.slots m
 
-memory-still-ruled : (r : Ruling) (x : Bench) → ((a : Act) → r ≡ Taken a → (storing a).0 ≡ 0) → (ruled_next r x).memory ≡ x.memory
+memory-still-ruled : (r : Ruling) (x : Bench) → ((a : Act) → r ≡ Ok a → (storing a).0 ≡ 0) → (ruled_next r x).memory ≡ x.memory
 unfolding ruled_next taken
-memory-still-ruled (Refused r) x h = refl
-memory-still-ruled (Taken a) x h = memory-still a x.bus x.memory (h a refl)
+memory-still-ruled (Err r) x h = refl
+memory-still-ruled (Ok a) x h = memory-still a x.bus x.memory (h a refl)
 
-pub memory-still-next : (e : Event) (x : Bench) → ((a : Act) → ruling_on e x ≡ Taken a → (storing a).0 ≡ 0) → (next e x).memory ≡ x.memory
+pub memory-still-next : (e : Event) (x : Bench) → ((a : Act) → ruling_on e x ≡ Ok a → (storing a).0 ≡ 0) → (next e x).memory ≡ x.memory
 unfolding next
 memory-still-next e x h = memory-still-ruled (ruling_on e x) x h
 
@@ -237,7 +237,7 @@ act-byte a b m k i d z h l n =
     ∙ ap (byte_after a s i) (get_d_part slot_bytes k m i d l)
 
 -- the same of an event
-pub next-byte : (e : Event) (x : Bench) (a : Act) (k i d : ℕ) (z : Slot) → ruling_on e x ≡ Taken a
+pub next-byte : (e : Event) (x : Bench) (a : Act) (k i d : ℕ) (z : Slot) → ruling_on e x ≡ Ok a
     → k < length x.bus.slots → i < slot_bytes → slot_bytes * k + i < length x.memory
     → get_or (next e x).memory (slot_bytes * k + i) d ≡ byte_after a (get_or x.bus.slots k z) i (get_or x.memory (slot_bytes * k + i) d)
 unfolding next ruled_next taken

@@ -1,5 +1,6 @@
 -- Row 6: setup's bus is in range, and every event keeps the range; so no run from setup, refused events among it, meets refusal 6.
 -- Assumes nothing.
+use Rattle.std.specs.Prelude.{Ok, Err}
 use Prim.Native.Nat.{ℕ, ◌-◌, ◌/◌, ◌≤◌}
 use native.Mathlib.Omega.{arith}
 use mathlib.Core.Path.{◌≡◌, refl, sym, ◌∙◌, ap}
@@ -8,7 +9,8 @@ use mathlib.Core.List.{List, [], ◌∷◌, map}
 use lib.Dec.{eqb, leb, ltb}
 use lib.IntN.{ℤ, pos, negsuc, nat_abs}
 use borrow.Author.Tests.{leb-true, ltb-false, le-leb, not-true}
-use Rattle.proof_lists.specs.Each.{all_of, all_of-map_from}
+use Rattle.proof_lists.specs.Each.{list_all-map_from}
+use Rattle.std.specs.List.{list_all}
 use Rattle.proof_lists.specs.Tests.{cond_cases, by-test, and_left, and_right, both, or_right_false}
 use Rattle.rules.specs.declared.Act.{Act}
 use Rattle.rules.specs.declared.Act.TheVariants.{Start, Byte, Read, Stop, Timeout, Tick, Power, Apply}
@@ -25,8 +27,7 @@ use Rattle.rules.specs.declared.Outcome.{Outcome}
 use Rattle.rules.specs.declared.Pair.{Pair}
 use Rattle.rules.specs.declared.Phase.{Phase}
 use Rattle.rules.specs.declared.Phase.TheVariants.{Idle, Control, Deaf, MemoryCounter, MemoryData, MemoryRead, HalfSelected, CommandAddress, CommandData, CommandStop, SensorPointer, SensorHigh, SensorLow, SensorReadHigh, SensorReadLow}
-use Rattle.rules.specs.declared.Ruling.{Ruling}
-use Rattle.rules.specs.declared.Ruling.TheVariants.{Taken, Refused}
+use Rattle.rules.specs.Refusals.{Ruling}
 use Rattle.rules.specs.declared.Sensor as sensor
 use Rattle.rules.specs.declared.Slot.{Slot}
 use Rattle.rules.specs.Open.{open-fields, open-all}
@@ -367,7 +368,7 @@ slot_kept n a s f v = next-cases InRange n a s (λ e. v) (λ e. present-kept n a
 pub bus-kept : (a : Act) (b : Bus) → byte_fits (carried a) ≡ true → in_range b ≡ true → in_range (bus_next a b) ≡ true
 unfolding in_range bus_next
 bus-kept a b f v =
-    all_of-map_from slot_in_range (λ n s. slot_next n a s) (λ n s t. test (slot_next n a s) (slot_kept n a s f (facts s t))) 0 b.slots v
+    list_all-map_from slot_in_range (λ n s. slot_next n a s) (λ n s t. test (slot_next n a s) (slot_kept n a s f (facts s t))) 0 b.slots v
 
 -- an event that is taken has a byte for a byte
 fits-in-byte : (v : ℤ) → outside (pos 0) (pos 255) v ≡ false → leb (nat_abs v) 255 ≡ true
@@ -392,22 +393,22 @@ act-fits e w =
     P a = byte_fits (carried a) ≡ true
 
 fitting : Ruling → Type 0
-fitting (Taken a) = byte_fits (carried a) ≡ true
-fitting (Refused r) = Unit {0}
+fitting (Ok a) = byte_fits (carried a) ≡ true
+fitting (Err r) = Unit {0}
 
 judged-fits : (b : Bus) (m : List ℕ) (e : Event) (r : Ruling) → Judged b m e r → fitting r
 unfolding fitting
-judged-fits b m e (Refused r) (row-1 n h) = tt
-judged-fits b m e (Refused r) (row-6 n h i) = tt
-judged-fits b m e (Refused r) (row-2 n h i j) = tt
-judged-fits b m e (Refused r) (row-3 n h i j k) = tt
-judged-fits b m e (Refused r) (row-4 n h i j k l) = tt
-judged-fits b m e (Taken a) (no_row h i j k l) = act-fits e l
+judged-fits b m e (Err r) (row-1 n h) = tt
+judged-fits b m e (Err r) (row-6 n h i) = tt
+judged-fits b m e (Err r) (row-2 n h i j) = tt
+judged-fits b m e (Err r) (row-3 n h i j k) = tt
+judged-fits b m e (Err r) (row-4 n h i j k l) = tt
+judged-fits b m e (Ok a) (no_row h i j k l) = act-fits e l
 
 ruled-kept : (r : Ruling) (x : Bench) → fitting r → in_range x.bus ≡ true → in_range (ruled_next r x).bus ≡ true
 unfolding ruled_next taken fitting
-ruled-kept (Taken a) x f v = bus-kept a x.bus f v
-ruled-kept (Refused r) x f v = v
+ruled-kept (Ok a) x f v = bus-kept a x.bus f v
+ruled-kept (Err r) x f v = v
 
 -- every event keeps the range
 pub next-in-range : (e : Event) (x : Bench) → in_range x.bus ≡ true → in_range (next e x).bus ≡ true
@@ -435,16 +436,15 @@ pair-in-range p g =
       olders = λ e. record { first-half = refl; no_one = refl; no-two = refl; no-three = refl; set_if = λ l. absurd (false≢true l) };
     }
 
-pairs-in-range : (ps : List Pair) → all_of good_pair ps ≡ true → all_of slot_in_range (map setup_slot ps) ≡ true
-unfolding all_of
+pairs-in-range : (ps : List Pair) → list_all good_pair ps ≡ true → list_all slot_in_range (map setup_slot ps) ≡ true
 pairs-in-range [] g = refl
 pairs-in-range (p ∷ ps) g =
-    both _ _ (test (setup_slot p) (pair-in-range p (and_left (good_pair p) (all_of good_pair ps) g))) (pairs-in-range ps (and_right (good_pair p) (all_of good_pair ps) g))
+    both _ _ (test (setup_slot p) (pair-in-range p (and_left (good_pair p) (list_all good_pair ps) g))) (pairs-in-range ps (and_right (good_pair p) (list_all good_pair ps) g))
 
 pub setup-in-range : (ps : List Pair) → in_range (setup_of ps).bus ≡ true
 unfolding setup_of in_range
 setup-in-range ps =
-    cond_cases (λ (o : Outcome). all_of slot_in_range o.bus.slots ≡ true) (all_of good_pair ps) (λ e. pairs-in-range ps e) (λ e. unfold open-all in refl)
+    cond_cases (λ (o : Outcome). list_all slot_in_range o.bus.slots ≡ true) (list_all good_pair ps) (λ e. pairs-in-range ps e) (λ e. unfold open-all in refl)
 
 -- refusal 6 is for a state out of range alone
 pub is_six : Answer → Bool
@@ -455,17 +455,17 @@ is_six (answer.Data b) = false
 is_six (answer.Refused r) = eqb (refusal_number r) 6
 
 not_six : Ruling → Type 0
-not_six (Taken a) = Unit {0}
-not_six (Refused r) = eqb (refusal_number r) 6 ≡ false
+not_six (Ok a) = Unit {0}
+not_six (Err r) = eqb (refusal_number r) 6 ≡ false
 
 judged-not-six : (b : Bus) (m : List ℕ) (e : Event) (r : Ruling) → in_range b ≡ true → Judged b m e r → not_six r
 unfolding not_six refusal_number
-judged-not-six b m e (Refused r) v (row-1 n h) = ap (λ (k : ℕ). eqb k 6) n
-judged-not-six b m e (Refused r) v (row-6 n h i) = absurd (false≢true (sym i ∙ v))
-judged-not-six b m e (Refused r) v (row-2 n h i j) = ap (λ (k : ℕ). eqb k 6) n
-judged-not-six b m e (Refused r) v (row-3 n h i j k) = ap (λ (k : ℕ). eqb k 6) n
-judged-not-six b m e (Refused r) v (row-4 n h i j k l) = ap (λ (k : ℕ). eqb k 6) n
-judged-not-six b m e (Taken a) v (no_row h i j k l) = tt
+judged-not-six b m e (Err r) v (row-1 n h) = ap (λ (k : ℕ). eqb k 6) n
+judged-not-six b m e (Err r) v (row-6 n h i) = absurd (false≢true (sym i ∙ v))
+judged-not-six b m e (Err r) v (row-2 n h i j) = ap (λ (k : ℕ). eqb k 6) n
+judged-not-six b m e (Err r) v (row-3 n h i j k) = ap (λ (k : ℕ). eqb k 6) n
+judged-not-six b m e (Err r) v (row-4 n h i j k l) = ap (λ (k : ℕ). eqb k 6) n
+judged-not-six b m e (Ok a) v (no_row h i j k l) = tt
 
 shown-not-six : (c : Carried) (b : Bus) (m : List ℕ) → is_six (shown_for c b m) ≡ false
 unfolding shown_for is_six
@@ -475,19 +475,19 @@ shown-not-six carries.Nothing b m = refl
 
 ruled-not-six : (r : Ruling) (x : Bench) → not_six r → is_six (ruled_answer r x) ≡ false
 unfolding ruled_answer given shown not_six is_six
-ruled-not-six (Taken a) x h = shown-not-six (carried a) x.bus x.memory
-ruled-not-six (Refused r) x h = h
+ruled-not-six (Ok a) x h = shown-not-six (carried a) x.bus x.memory
+ruled-not-six (Err r) x h = h
 
 pub answered-not-six : (e : Event) (x : Bench) → in_range x.bus ≡ true → is_six (answered e x) ≡ false
 unfolding answered ruling_on
 answered-not-six e x v = ruled-not-six (ruling_on e x) x (judged-not-six x.bus x.memory e _ v (judged x.bus x.memory e))
 
 -- no run from a state in range, so none from setup, gets refusal 6
-pub never-six : (es : List Event) (x : Bench) → in_range x.bus ≡ true → all_of (λ a. not (is_six a)) (answers es x) ≡ true
-unfolding answers all_of
+pub never-six : (es : List Event) (x : Bench) → in_range x.bus ≡ true → list_all (λ a. not (is_six a)) (answers es x) ≡ true
+unfolding answers
 never-six [] x v = refl
 never-six (e ∷ es) x v = rw (answered-not-six e x v) (never-six es (next e x) (next-in-range e x v))
 
 pub never-six-from-setup : (ps : List Pair) (m : List ℕ) (es : List Event)
-    → all_of (λ a. not (is_six a)) (answers es (record { bus = (setup_of ps).bus; memory = m })) ≡ true
+    → list_all (λ a. not (is_six a)) (answers es (record { bus = (setup_of ps).bus; memory = m })) ≡ true
 never-six-from-setup ps m es = never-six es _ (setup-in-range ps)

@@ -8,7 +8,7 @@ use borrow.Author.Tests.{not-true}
 use lib.Bits.{bit_and}
 use lib.Dec.{eqb, leb}
 use lib.IntN.{ℤ}
-use Rattle.proof_lists.specs.Each.{all_of}
+use Rattle.std.specs.List.{list_all}
 use Rattle.proof_lists.specs.Tests.{cond_cases, and_left, and_right}
 use Rattle.rules.specs.declared.Act.{Act}
 use Rattle.rules.specs.declared.Applied.TheVariants.{Voltage, Temperature, WriteProtect}
@@ -93,7 +93,7 @@ is_heat (Apply k (Temperature t)) = true
 is_heat (Apply k (WriteProtect on)) = false
 
 unfoldable pub without_power : List Act → Bool
-without_power r = all_of (λ a. not (is_power a)) r
+without_power r = list_all (λ a. not (is_power a)) r
 
 -- what no exchange changes of a sensor but the word that it holds: what a slot lets go, what the ACK of a control byte does, reads and stops
 module _ (R : Sensor → Sensor → Type 0) (same : (x : Sensor) → R x x) (worded : (v : ℕ) (x : Sensor) → R x (with_word v x)) where
@@ -221,7 +221,7 @@ module _ (R : Sensor → Sensor → Type 0) (every : Respected R) where
     step-without-power n a s h = step-respects n a s (λ e. absurd (false≢true (sym h ∙ e))) (λ t e. converts s.sensor t)
 
     pub run-without-power : (n : ℕ) (r : List Act) (s : Slot) → without_power r ≡ true → R s.sensor (slot_after n r s).sensor
-    unfolding slot_after without_power all_of
+    unfolding slot_after without_power
     run-without-power n [] s h = as_is s
     run-without-power n (a ∷ r) s h =
         let t = slot_next n a s in

@@ -1,17 +1,17 @@
 -- Request P9 over whole runs of events, on any bench, refused ones among them: permanent protection is never lost, and an older module's upper 256 bytes never
 -- change.
 -- Assumes nothing.
+use Rattle.std.specs.Prelude.{Ok, Err}
 use Prim.Native.Nat.{ℕ, ◌+◌, ◌*◌, ◌<◌, ◌≤◌}
 use mathlib.Core.Path.{◌≡◌, refl, sym, ◌∙◌, ap}
 use mathlib.Core.Bool.{true}
 use mathlib.Core.List.{List, [], ◌∷◌}
 use lib.Dec.{eqb}
 use lib.ListN.{length, get_or}
-use Rattle.proof_lists.specs.Each.{all_of-at}
+use Rattle.proof_lists.specs.Each.{list_all-at}
 use Rattle.proof_lists.specs.Parts.{get_d_part}
 use Rattle.rules.specs.declared.Event.{Event}
-use Rattle.rules.specs.declared.Ruling.{Ruling}
-use Rattle.rules.specs.declared.Ruling.TheVariants.{Taken, Refused}
+use Rattle.rules.specs.Refusals.{Ruling}
 use Rattle.rules.specs.declared.Slot.{Slot}
 use Rattle.rules.specs.Fresh.{absent_slot}
 use Rattle.rules.specs.Modelled.{older, slot_bytes}
@@ -36,8 +36,8 @@ module _ (k : ℕ) where
   -- PERMANENT
   permanent-ruled : (r : Ruling) (x : Bench) → There x → (slot x).old.permanent ≡ true → (slot (ruled_next r x)).old.permanent ≡ true
   unfolding ruled_next slot_after
-  permanent-ruled (Taken a) x h p = ap (λ (s : Slot). s.old.permanent) (slot-taken absent_slot k a x h) ∙ stays-for-ever k (a ∷ []) (slot x) p
-  permanent-ruled (Refused n) x h p = p
+  permanent-ruled (Ok a) x h p = ap (λ (s : Slot). s.old.permanent) (slot-taken absent_slot k a x h) ∙ stays-for-ever k (a ∷ []) (slot x) p
+  permanent-ruled (Err n) x h p = p
 
   pub permanent-never-lost : (es : List Event) (x : Bench) → There x → (slot x).old.permanent ≡ true → (slot (after es x)).old.permanent ≡ true
   unfolding after next
@@ -47,8 +47,8 @@ module _ (k : ℕ) where
   -- UPPER BYTES: place i of the slot, from 256 on
   older-ruled : (r : Ruling) (x : Bench) → There x → older (slot x) ≡ true → older (slot (ruled_next r x)) ≡ true
   unfolding ruled_next older
-  older-ruled (Taken a) x h o = ap (λ (s : Slot). eqb s.kind 3) (slot-taken absent_slot k a x h) ∙ ap (λ (j : ℕ). eqb j 3) (kind-next k a (slot x)) ∙ o
-  older-ruled (Refused n) x h o = o
+  older-ruled (Ok a) x h o = ap (λ (s : Slot). eqb s.kind 3) (slot-taken absent_slot k a x h) ∙ ap (λ (j : ℕ). eqb j 3) (kind-next k a (slot x)) ∙ o
+  older-ruled (Err n) x h o = o
 
   module _ (i d : ℕ) (upper : 256 ≤ i) (own : i < slot_bytes) where
     abbrev byte : Bench → ℕ
@@ -56,11 +56,11 @@ module _ (k : ℕ) where
 
     upper-ruled : (r : Ruling) (x : Bench) → There x → in_range x.bus ≡ true → older (slot x) ≡ true → byte (ruled_next r x) ≡ byte x
     unfolding ruled_next in_range
-    upper-ruled (Taken a) x h v o =
-        let w = facts (slot x) (all_of-at slot_in_range k (slots_of x) absent_slot h v) in
+    upper-ruled (Ok a) x h v o =
+        let w = facts (slot x) (list_all-at slot_in_range k (slots_of x) absent_slot h v) in
         sym (get_d_part slot_bytes k (taken a x).memory i d own) ∙ ap (λ (m : List ℕ). get_or m i d) (part-taken absent_slot k a x h)
         ∙ upper-still a (slot x) (part_of k x) i d w o upper ∙ get_d_part slot_bytes k x.memory i d own
-    upper-ruled (Refused n) x h v o = refl
+    upper-ruled (Err n) x h v o = refl
 
     pub upper-never-changes : (es : List Event) (x : Bench) → There x → in_range x.bus ≡ true → older (slot x) ≡ true → byte (after es x) ≡ byte x
     unfolding after next

@@ -1,6 +1,7 @@
 -- The story of a slot, told of the bench: after any run of events from setup, refused ones among it, what an event changes of a slot's
 -- protection or bytes was begun earlier in that run.
 -- Assumes nothing.
+use Rattle.std.specs.Prelude.{Ok, Err}
 use Prim.Native.Nat.{ℕ, ◌<◌}
 use mathlib.Core.Path.{◌≡◌, refl, sym, ◌∙◌, ap, subst}
 use mathlib.Core.Bool.{true, false≢true, not}
@@ -15,8 +16,7 @@ use Rattle.rules.specs.declared.Act.TheVariants.{Start, Byte, Read, Stop, Timeou
 use Rattle.rules.specs.declared.Cut.{Cut}
 use Rattle.rules.specs.declared.Event.{Event}
 use Rattle.rules.specs.declared.Pair.{Pair}
-use Rattle.rules.specs.declared.Ruling.{Ruling}
-use Rattle.rules.specs.declared.Ruling.TheVariants.{Taken, Refused}
+use Rattle.rules.specs.Refusals.{Ruling}
 use Rattle.rules.specs.declared.Slot.{Slot}
 use Rattle.rules.specs.Modelled.{slot_count, memory_bytes}
 use Rattle.rules.specs.Fresh.{absent_slot, setup_slot, fresh_slot}
@@ -37,10 +37,10 @@ use Rattle.runs.proofs.TwoClerks.Demand3.{begun, setup-number}
 
 -- What ends the cycle of a slot that is s, and not with everything lost: its last tick, or a power cycle while it runs, with a number above 0.
 pub data Ended (s : Slot) : Ruling → Type 0 where
-  last_tick : s.left ≡ 1 → Ended s (Taken Tick)
-  cut_off : (k : Cut) → (k.0 ≡ 0 → ⊥) → (s.left ≡ 0 → ⊥) → Ended s (Taken (Power k))
+  last_tick : s.left ≡ 1 → Ended s (Ok Tick)
+  cut_off : (k : Cut) → (k.0 ≡ 0 → ⊥) → (s.left ≡ 0 → ⊥) → Ended s (Ok (Power k))
 
-ended : (a : Act) (s : Slot) → finishes a s ≡ true → Ended s (Taken a)
+ended : (a : Act) (s : Slot) → finishes a s ≡ true → Ended s (Ok a)
 unfolding finishes ends storing running
 ended Start s e = absurd (false≢true e)
 ended (Byte b) s e = absurd (false≢true e)
@@ -95,11 +95,11 @@ module _ (k : ℕ) (below : k < slot_count) (ps : List Pair) (eight : length ps 
 
   protection-ruled : (r : Ruling) → ((slot (ruled_next r bench)).protection ≡ (slot bench).protection → ⊥) → ProtectionTold (ruled_next r bench) r
   unfolding ruled_next
-  protection-ruled (Refused x) ne = absurd (ne refl)
-  protection-ruled (Taken a) ne =
+  protection-ruled (Err x) ne = absurd (ne refl)
+  protection-ruled (Ok a) ne =
       let step : slot (taken a bench) ≡ slot_next k a (slot_after k acts made) = slot-taken absent_slot k a bench there ∙ ap (slot_next k a) slot-there in
       let w = protection-story k made made-reach made-fresh.0 acts a (λ e. ne (ap (λ (s : Slot). s.protection) step ∙ e ∙ sym (ap (λ (s : Slot). s.protection) slot-there))) in
-      (subst (λ (s : Slot). Ended s (Taken a)) (sym slot-there) (ended a (slot_after k acts made) w.0), subst (CommandBegun k made acts) (sym (ap (λ (s : Slot). s.protection) step)) w.1)
+      (subst (λ (s : Slot). Ended s (Ok a)) (sym slot-there) (ended a (slot_after k acts made) w.0), subst (CommandBegun k made acts) (sym (ap (λ (s : Slot). s.protection) step)) w.1)
 
   pub protection-changes : (e : Event) → ((slot (next e bench)).protection ≡ (slot bench).protection → ⊥) → ProtectionTold (next e bench) (ruling_on e bench)
   unfolding next
@@ -112,11 +112,11 @@ module _ (k : ℕ) (below : k < slot_count) (ps : List Pair) (eight : length ps 
 
   bytes-ruled : (r : Ruling) → (part_of k (ruled_next r bench) ≡ part_of k bench → ⊥) → BytesTold r
   unfolding ruled_next
-  bytes-ruled (Refused x) ne = absurd (ne refl)
-  bytes-ruled (Taken a) ne =
+  bytes-ruled (Err x) ne = absurd (ne refl)
+  bytes-ruled (Ok a) ne =
       let step : part_of k (taken a bench) ≡ part_next a (slot_after k acts made) (part_of k bench) = part-taken absent_slot k a bench there ∙ ap (λ (s : Slot). part_next a s (part_of k bench)) slot-there in
       let w = bytes-story k made made-reach made-fresh.1 acts a (part_of k bench) (λ e. ne (step ∙ e)) in
-      (subst (λ (s : Slot). Ended s (Taken a)) (sym slot-there) (ended a (slot_after k acts made) w.0), subst (PageBegun k made acts) (sym slot-there) w.1)
+      (subst (λ (s : Slot). Ended s (Ok a)) (sym slot-there) (ended a (slot_after k acts made) w.0), subst (PageBegun k made acts) (sym slot-there) w.1)
 
   pub bytes-change : (e : Event) → (part_of k (next e bench) ≡ part_of k bench → ⊥) → BytesTold (ruling_on e bench)
   unfolding next

@@ -6,7 +6,7 @@ use mathlib.Core.Path.{◌≡◌, refl, sym, ◌∙◌, ap, ap₂, subst}
 use mathlib.Core.Bool.{true, false≢true}
 use mathlib.Core.List.{List, [], ◌∷◌}
 use lib.ListN.{length}
-use Rattle.proof_lists.specs.Each.{all_of}
+use Rattle.std.specs.List.{list_all}
 use Rattle.proof_lists.specs.Tests.{by-test, and_right}
 use Rattle.rules.specs.declared.Act.{Act}
 use Rattle.rules.specs.declared.Act.TheVariants.{Start}
@@ -56,7 +56,7 @@ module _ (d : Slot) (k : ℕ) where
   told-own (exchange xs) x h e =
       told-one d k (Start ∷ up_to_stop xs []) x h
       (λ i l ne.
-      (tt, silent i xs _ (all_named i k (λ q. ne (sym q)) (controls true xs) (and_right (some_of (controls true xs)) (all_of (names k) (controls true xs)) e))))
+      (tt, silent i xs _ (all_named i k (λ q. ne (sym q)) (controls true xs) (and_right (some_of (controls true xs)) (list_all (names k) (controls true xs)) e))))
   told-own (between g) x h e = absurd (false≢true e)
 
   own-items : (is : List Item) (x : Bench) → k < length (slots_of x) → own_told k is x ≡ own_alone k is (slot_at d k x) (part_of k x)

@@ -7,7 +7,7 @@ use mathlib.Core.Bool.{Bool, true, false, false≢true, not, ◌&&◌, ◌||◌,
 use mathlib.Core.List.{List, [], ◌∷◌}
 use lib.Dec.{eqb}
 use borrow.Author.Tests.{eqb-true, eq-eqb, ne_eqb}
-use Rattle.proof_lists.specs.Each.{all_of}
+use Rattle.std.specs.List.{list_all}
 use Rattle.proof_lists.specs.Tests.{by-test, and_left, and_right}
 use Rattle.rules.specs.Modelled.{slot_count}
 use Rattle.rules.specs.Control.{select_of}
@@ -25,8 +25,8 @@ some_byte t e = false≢true e
 
 -- the first one has select t, and some slot hears it
 first-named : (t c : ℕ) (cs : List ℕ) → addressed t (c ∷ cs) ≡ true → names t c ≡ true
-unfolding addressed some_of all_of
-first-named t c cs e = and_left (names t c) (all_of (names t) cs) e
+unfolding addressed some_of
+first-named t c cs e = and_left (names t c) (list_all (names t) cs) e
 
 first-select : (t c : ℕ) (cs : List ℕ) → addressed t (c ∷ cs) ≡ true → (select_of c).0 ≡ t
 unfolding names
@@ -45,7 +45,7 @@ named-heard t c e = heard (eqb (c / 16) 0xA) (eqb (c / 16) 0x3) (eqb (c / 16) 0x
 
 -- so it is not addressed to none
 pub addressed-not-none : (t : ℕ) (cs : List ℕ) → addressed t cs ≡ true → to_none cs ≡ false
-unfolding to_none all_of
+unfolding to_none
 addressed-not-none t [] e = absurd (some_byte t e)
 addressed-not-none t (c ∷ cs) e = rw (named-heard t c (first-named t c cs e))
 
@@ -90,7 +90,7 @@ module _ (cs : List ℕ) where
       to-several (λ t. excluded (addressed t cs) (shared cs) (addressed-not-shared t cs) e) (excluded (to_none cs) (shared cs) (none-not-shared cs) e) e
 
 pub classed : (cs : List ℕ) → Class cs
-classed [] = none-class [] (unfold to_none all_of in refl)
+classed [] = none-class [] (unfold to_none in refl)
 classed (c ∷ cs) =
     by-test (to_none (c ∷ cs)) (λ e. none-class (c ∷ cs) e) λ e.
     by-test (addressed (select_of c).0 (c ∷ cs)) (λ f. one_class (c ∷ cs) (select_of c).0 f) λ f.

@@ -6,7 +6,8 @@ use mathlib.Core.Bool.{true}
 use mathlib.Core.List.{List}
 use mathlib.Core.Option.{some}
 use lib.ListN.{length, length-map}
-use Rattle.proof_lists.specs.Each.{all_of, every-at}
+use Rattle.proof_lists.specs.Each.{every-at}
+use Rattle.std.specs.List.{list_all}
 use Rattle.proof_lists.specs.Parts.{part}
 use Rattle.proof_lists.specs.Tests.{cond_cases}
 use Rattle.rules.specs.declared.Act.{Act}
@@ -83,7 +84,7 @@ setup-ready ps m l = record { sized = l; ranged = setup-in-range ps }
 
 pub setup-number : (ps : List Pair) (m : List ℕ) → length ps ≡ slot_count → length (slots_of (begun ps m)) ≡ slot_count
 unfolding setup_of empty_bus
-setup-number ps m l = cond_cases (λ (o : Outcome). length o.bus.slots ≡ slot_count) (all_of good_pair ps) (λ e. length-map ps setup_slot ∙ l) (λ e. refl)
+setup-number ps m l = cond_cases (λ (o : Outcome). length o.bus.slots ≡ slot_count) (list_all good_pair ps) (λ e. length-map ps setup_slot ∙ l) (λ e. refl)
 
 pub setup-idle : (k : ℕ) (ps : List Pair) (m : List ℕ) → length ps ≡ slot_count → k < slot_count → Idles (slot k (begun ps m))
 unfolding fresh_slot

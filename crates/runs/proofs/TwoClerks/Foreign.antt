@@ -7,7 +7,7 @@ use mathlib.Core.Bool.{Bool, true, false, not, ◌&&◌, ◌||◌, and-false}
 use mathlib.Core.List.{List, [], ◌∷◌}
 use lib.Dec.{eqb}
 use borrow.Author.Tests.{eqb-true, eqb-false, ne_eqb, not-true}
-use Rattle.proof_lists.specs.Each.{all_of}
+use Rattle.std.specs.List.{list_all}
 use Rattle.proof_lists.specs.Tests.{cond_cases, by-test, and_left, and_right, or_cases}
 use Rattle.rules.specs.declared.Act.{Act}
 use Rattle.rules.specs.declared.Carried.{Carried}
@@ -60,23 +60,21 @@ named-unheard n t c ne e s =
     (λ p. rw (ne_eqb (c / 16) 0x6 (let q : c / 16 ≡ 10 = eqb-true (c / 16) 0xA p in omega arith), and-false (older s), p, g))
     (λ p. let q : c / 16 ≡ 3 = eqb-true (c / 16) 0x3 p in rw (ne_eqb (c / 16) 0x6 (omega arith), and-false (older s), ne_eqb (c / 16) 0xA (omega arith), p, g))
 
-all-mute : (n : ℕ) (cs : List ℕ) → all_of mute cs ≡ true → NoneHeard n cs
-unfolding all_of
+all-mute : (n : ℕ) (cs : List ℕ) → list_all mute cs ≡ true → NoneHeard n cs
 all-mute n [] e = tt
-all-mute n (c ∷ cs) e = (mute-unheard n c (and_left (mute c) (all_of mute cs) e), all-mute n cs (and_right (mute c) (all_of mute cs) e))
+all-mute n (c ∷ cs) e = (mute-unheard n c (and_left (mute c) (list_all mute cs) e), all-mute n cs (and_right (mute c) (list_all mute cs) e))
 
-pub all_named : (n t : ℕ) → (t ≡ n → ⊥) → (cs : List ℕ) → all_of (names t) cs ≡ true → NoneHeard n cs
-unfolding all_of
+pub all_named : (n t : ℕ) → (t ≡ n → ⊥) → (cs : List ℕ) → list_all (names t) cs ≡ true → NoneHeard n cs
 all_named n t ne [] e = tt
 all_named n t ne (c ∷ cs) e =
-    (named-unheard n t c ne (and_left (names t c) (all_of (names t) cs) e), all_named n t ne cs (and_right (names t c) (all_of (names t) cs) e))
+    (named-unheard n t c ne (and_left (names t c) (list_all (names t) cs) e), all_named n t ne cs (and_right (names t c) (list_all (names t) cs) e))
 
 to-other : (n : ℕ) (cs : List ℕ) → to_other n cs ≡ true → NoneHeard n cs
 unfolding to_other addressed some_of
 to-other n [] e = tt
 to-other n (c ∷ cs) e =
     let p : Bool = not (eqb (select_of c).0 n) in
-    let q : Bool = all_of (names (select_of c).0) (c ∷ cs) in
+    let q : Bool = list_all (names (select_of c).0) (c ∷ cs) in
     all_named n (select_of c).0 (eqb-false _ _ (not-true _ (and_left p q e))) (c ∷ cs) (and_right p q e)
 
 pub struck-unheard : (n : ℕ) (xs : List Inside) → struck n (exchange xs) ≡ true → NoneHeard n (controls true xs)

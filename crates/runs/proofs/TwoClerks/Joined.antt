@@ -1,5 +1,6 @@
 -- Runs joined end to end, and cut in two: of raw events, of acts, of items.
 -- Assumes nothing.
+use Rattle.std.specs.Prelude.{Ok, Err}
 use Prim.Native.Nat.{ℕ}
 use native.Mathlib.Omega.{arith}
 use mathlib.Core.Path.{◌≡◌, refl, sym, ◌∙◌, ap, ap₂}
@@ -8,8 +9,7 @@ use Rattle.rules.specs.declared.Act.{Act}
 use Rattle.rules.specs.declared.Act.TheVariants.{Start}
 use Rattle.rules.specs.declared.Answer.{Answer}
 use Rattle.rules.specs.declared.Event.{Event}
-use Rattle.rules.specs.declared.Ruling.{Ruling}
-use Rattle.rules.specs.declared.Ruling.TheVariants.{Taken, Refused}
+use Rattle.rules.specs.Refusals.{Ruling}
 use Rattle.rules.specs.Refusals.{kinds_of, ruled_by}
 use Rattle.rules.specs.Runs.{Bench, taken, next, answered, after, answers}
 use Rattle.runs.specs.Exchanges.{kept_by, acts_of, went, told, Inside, Item, exchange, between, inside_act, up_to_stop, item_acts, flatten, items_of, chunks}
@@ -37,8 +37,8 @@ answers-joined (e ∷ r) q x = ap (answered e x ∷◌) (answers-joined r q (nex
 -- their acts, refused events left out
 acts-one : (v : Ruling) (r q : List Act) → kept_by v (r ++ q) ≡ kept_by v r ++ q
 unfolding kept_by
-acts-one (Taken a) r q = refl
-acts-one (Refused n) r q = refl
+acts-one (Ok a) r q = refl
+acts-one (Err n) r q = refl
 
 acts-joined : (kinds : List ℕ) (r q : List Event) → acts_of kinds (r ++ q) ≡ acts_of kinds r ++ acts_of kinds q
 unfolding acts_of
@@ -109,12 +109,12 @@ module _ (kinds : List ℕ) where
   cut-one : (e : Event) (r : List Event) (v : Ruling) → ruled_by kinds e ≡ v → (a : Act) (ls bs : List Act) → kept_by v (acts_of kinds r) ≡ a ∷ (ls ++ bs)
       → ((cs ds : List Act) → acts_of kinds r ≡ cs ++ ds → Cut kinds r cs ds) → Cut kinds (e ∷ r) (a ∷ ls) bs
   unfolding kept_by acts_of
-  cut-one e r (Taken b) w a ls bs p more =
+  cut-one e r (Ok b) w a ls bs p more =
       let rest : acts_of kinds r ≡ ls ++ bs = cc in
       let same : b ≡ a = cc in
       let c : Cut kinds r ls bs = more ls bs rest in
       record { left = e ∷ c.left; right = c.right; whole = ap (e ∷◌) c.whole; lefts = rw w (ap₂ ◌∷◌ same c.lefts); rights = c.rights }
-  cut-one e r (Refused n) w a ls bs p more =
+  cut-one e r (Err n) w a ls bs p more =
       let c : Cut kinds r (a ∷ ls) bs = more (a ∷ ls) bs p in
       record { left = e ∷ c.left; right = c.right; whole = ap (e ∷◌) c.whole; lefts = rw w c.lefts; rights = c.rights }
 

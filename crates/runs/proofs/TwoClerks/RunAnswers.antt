@@ -1,5 +1,6 @@
 -- The answers of a run are those of its events one by one: an event that is refused does nothing, so the others go and answer as their acts do without it; and those answers fall into the items of the parse. A refused one is answered with its refusal.
 -- Assumes nothing.
+use Rattle.std.specs.Prelude.{Ok, Err}
 use Prim.Native.Nat.{ℕ}
 use mathlib.Core.Path.{◌≡◌, refl, sym, ◌∙◌, ap}
 use mathlib.Core.Bool.{true, cond}
@@ -11,8 +12,7 @@ use Rattle.rules.specs.declared.Act.TheVariants.{Start}
 use Rattle.rules.specs.declared.Answer.{Answer}
 use Rattle.rules.specs.declared.Answer.TheVariants as answer
 use Rattle.rules.specs.declared.Event.{Event}
-use Rattle.rules.specs.declared.Ruling.{Ruling}
-use Rattle.rules.specs.declared.Ruling.TheVariants.{Taken, Refused}
+use Rattle.rules.specs.Refusals.{Ruling}
 use Rattle.rules.specs.Modelled.{memory_bytes}
 use Rattle.rules.specs.Refusals.{kinds_of, in_range, ruled_by}
 use Rattle.rules.specs.Runs.{Bench, taken, given, ruling_on, ruled_next, ruled_answer, next, answered, after, answers}
@@ -26,19 +26,19 @@ use Rattle.runs.proofs.TwoClerks.Parse.{flatten-items}
 -- one event, however it is ruled: the bench, and the answer
 went-kept : (v : Ruling) (r : List Act) (x : Bench) → went r (ruled_next v x) ≡ went (kept_by v r) x
 unfolding went kept_by ruled_next
-went-kept (Taken a) r x = refl
-went-kept (Refused n) r x = refl
+went-kept (Ok a) r x = refl
+went-kept (Err n) r x = refl
 
 told-kept : (v : Ruling) (r : List Act) (x : Bench) → kept_answer v (ruled_answer v x) (told r (ruled_next v x)) ≡ told (kept_by v r) x
 unfolding told kept_by kept_answer ruled_next ruled_answer
-told-kept (Taken a) r x = refl
-told-kept (Refused n) r x = refl
+told-kept (Ok a) r x = refl
+told-kept (Err n) r x = refl
 
 -- the answers of a run's acts, and among them the refusals of its refused events, in the run's order
 unfoldable pub woven_by : Ruling → (List Answer → List Answer) → List Answer → List Answer
-woven_by (Taken a) f [] = f []
-woven_by (Taken a) f (y ∷ ys) = y ∷ f ys
-woven_by (Refused n) f ys = answer.Refused n ∷ f ys
+woven_by (Ok a) f [] = f []
+woven_by (Ok a) f (y ∷ ys) = y ∷ f ys
+woven_by (Err n) f ys = answer.Refused n ∷ f ys
 
 unfoldable pub woven : List ℕ → List Event → List Answer → List Answer
 woven kinds [] ys = []
@@ -46,8 +46,8 @@ woven kinds (e ∷ es) ys = woven_by (ruled_by kinds e) (woven kinds es) ys
 
 woven-one : (v : Ruling) (f : List Answer → List Answer) (r : List Act) (x : Bench) → woven_by v f (told (kept_by v r) x) ≡ ruled_answer v x ∷ f (told r (ruled_next v x))
 unfolding woven_by told kept_by ruled_answer ruled_next
-woven-one (Taken a) f r x = refl
-woven-one (Refused n) f r x = refl
+woven-one (Ok a) f r x = refl
+woven-one (Err n) f r x = refl
 
 -- a bench that meets neither row 1 nor row 6, with slots of these kinds
 pub record Sound (kinds : List ℕ) (x : Bench) : Type 0 where

@@ -11,7 +11,7 @@ use lib.Dec.{eqb, ltb}
 use lib.ListN.{length, take, drop}
 use lib.Seq.{sets, sets-eq, take-append_seam}
 use Rattle.std.proofs.Common.{Result, Ok, Err}
-use Rattle.proof_lists.specs.Each.{all_of}
+use Rattle.std.specs.List.{list_all}
 use Rattle.proof_lists.specs.Tests.{by-test, cond_cases}
 use Rattle.rules.specs.declared.Answer.TheVariants as answer
 use Rattle.rules.specs.declared.Refusal.{Refusal}
@@ -53,7 +53,7 @@ pub begin-good : (bs out : List ℕ) (x : Bench) → 16 ≤ length bs → Ok x �
 unfolding begin_of first_line goes_on cut_setup set_up_of is_bench bench_in
 begin-good bs out x h e =
     let c : ltb (length bs) 16 ≡ false = le-ltb (length bs) 16 h in
-    by-test (all_of good_pair (pairs_of bs))
+    by-test (list_all good_pair (pairs_of bs))
     (λ g. let f : Ok x ≡ Ok (begun (setup_of (pairs_of bs)).bus) = rw g at e in rw (c, g) (λ i. (Ok (bench_in (sym f i) x), out)))
     (λ g. let f : Ok x ≡ Err WrongSetup = rw g at e in absurd (false≢true (sym (ap is_bench f))))
 
@@ -62,7 +62,7 @@ pub begin-bad : (bs out o : List ℕ) (r : Refusal) (end : ℕ) → 16 ≤ lengt
 unfolding begin_of first_line goes_on cut_setup set_up_of is_bench why_of
 begin-bad bs out o r end h e p =
     let c : ltb (length bs) 16 ≡ false = le-ltb (length bs) 16 h in
-    by-test (all_of good_pair (pairs_of bs))
+    by-test (list_all good_pair (pairs_of bs))
     (λ g. let f : Err r ≡ Ok (begun (setup_of (pairs_of bs)).bus) = rw g at e in absurd (false≢true (ap is_bench f)))
     (λ g.
     let f : Err r ≡ Err WrongSetup = rw g at e in
@@ -84,7 +84,7 @@ pub first-length : (bs : List ℕ) → length (first_line bs) ≤ 6
 unfolding first_line
 first-length bs =
     cond_cases (λ (l : List ℕ). length l ≤ 6) (cut_setup bs) (λ e. omega arith)
-    (λ e. cond_cases (λ (l : List ℕ). length l ≤ 6) (all_of good_pair (pairs_of bs)) (λ e. omega arith) (λ e. omega arith))
+    (λ e. cond_cases (λ (l : List ℕ). length l ≤ 6) (list_all good_pair (pairs_of bs)) (λ e. omega arith) (λ e. omega arith))
 
 pub last-length : (n : ℕ) → length (last_line n) ≤ 6
 unfolding last_line

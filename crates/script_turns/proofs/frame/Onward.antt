@@ -8,7 +8,7 @@ use native.Mathlib.Omega.{arith}
 use lib.ListN.{length}
 use lib.Seq.{sets}
 use Rattle.std.proofs.Common.{Result, Ok, Err}
-use Rattle.proof_lists.specs.Each.{all_of}
+use Rattle.std.specs.List.{list_all}
 use Rattle.proof_lists.specs.Tests.{by-test}
 use Rattle.rules.specs.Refusals.{good_pair}
 use Rattle.rules.specs.Runs.{Bench}
@@ -36,7 +36,7 @@ unfolding first_line goes_on
 first-none bs e =
     by-test (cut_setup bs)
     (λ c. absurd (false≢true (rw c at e)))
-    (λ c. let g : all_of good_pair (pairs_of bs) ≡ true = rw c at e in rw (c, g))
+    (λ c. let g : list_all good_pair (pairs_of bs) ≡ true = rw c at e in rw (c, g))
 
 pub begin-onward : (bs out o : List ℕ) (end : ℕ) → begin_of bs out ≡ (Err end, o) → 6 ≤ length out → end ≤ length out
 unfolding begin_of end_of

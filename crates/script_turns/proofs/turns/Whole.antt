@@ -10,7 +10,7 @@ use borrow.Author.Tests.{lt-ltb, le-ltb}
 use lib.Dec.{ltb}
 use lib.ListN.{length, take, drop, length-append}
 use lib.Seq.{sets, length-sets, take-append_seam, take-append-add, drop-append-add}
-use Rattle.proof_lists.specs.Each.{all_of}
+use Rattle.std.specs.List.{list_all}
 use Rattle.proof_lists.specs.Tests.{by-test}
 use Rattle.rules.specs.declared.Pair.{Pair}
 use Rattle.rules.specs.Refusals.{good_pair}
@@ -108,7 +108,7 @@ writes-cut head buf out rs l room = writes-by head buf out rs room ∙ rw (lt-lt
 -- the script's output for a whole setup and what follows it
 script-after : (head more : List ℕ) → length head ≡ 16
     → script_of (head ++ more)
-    ≡ cond (all_of good_pair (pairs_of head)) (lines_to (begun_at (pairs_of head)) more (records_in more) ++ ending more) bad_setup_line
+    ≡ cond (list_all good_pair (pairs_of head)) (lines_to (begun_at (pairs_of head)) more (records_in more) ++ ending more) bad_setup_line
 unfolding script_of
 script-after head more l =
     let long : ltb (length (head ++ more)) 16 ≡ false = le-ltb (length (head ++ more)) 16 (rw (length-append head more) (omega arith)) in
@@ -116,7 +116,7 @@ script-after head more l =
     rw (long, pairs-of head more l, d)
 
 -- a bad setup, whatever follows it
-pub script-bad : (head more : List ℕ) → length head ≡ 16 → all_of good_pair (pairs_of head) ≡ false → script_of (head ++ more) ≡ bad_setup_line
+pub script-bad : (head more : List ℕ) → length head ≡ 16 → list_all good_pair (pairs_of head) ≡ false → script_of (head ++ more) ≡ bad_setup_line
 script-bad head more l g = script-after head more l ∙ rw g
 
 -- ANY OTHER: sixteen bytes are read as setup, the rest comes in reads of any sizes that fit the buffers, and the output is the script's
@@ -126,6 +126,6 @@ unfolding first_line goes_on cut_setup
 writes-whole head buf out rs l room f =
     let ps : List Pair = pairs_of head in
     let c : ltb (length head) 16 ≡ false = le-ltb (length head) 16 (omega arith) in
-    by-test (all_of good_pair ps)
+    by-test (list_all good_pair ps)
     (λ g. writes-by head buf out rs room ∙ rw (script-after head (input_of rs) l, c, g) (turns-whole (begun_at ps) buf [] out rs (omega arith) refl room f))
     (λ g. writes-by head buf out rs room ∙ rw (script-after head (input_of rs) l, c, g))

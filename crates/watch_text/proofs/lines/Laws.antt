@@ -12,7 +12,8 @@ use borrow.Author.Tests.{eq-eqb, ne_eqb}
 use lib.Dec.{eqb}
 use lib.ListN.{length, get_or, drop, length-append, get_or-append}
 use lib.Seq.{sets, drop-cons, drop-drop, get_or-drop, get_or-append-add}
-use Rattle.proof_lists.specs.Each.{all_of, get_d_any}
+use Rattle.proof_lists.specs.Each.{get_d_any}
+use Rattle.std.specs.List.{list_all}
 use Rattle.proof_lists.specs.Same.{same}
 use Rattle.proof_lists.specs.Tests.{by-test, and_left, and_right}
 use Rattle.rules.specs.declared.Bus.{Bus}
@@ -41,26 +42,26 @@ told [] ns = []
 told (c ∷ cs) ns = (c ∷ cond (sign c) (decimal (get_or ns 0 0)) []) ++ told cs (drop (cond (sign c) 1 0) ns)
 
 -- characters that are no sign stay as they are
-plain : (xs ys ns : List ℕ) → all_of (λ c. not (sign c)) xs ≡ true → told (xs ++ ys) ns ≡ xs ++ told ys ns
-unfolding told all_of
+plain : (xs ys ns : List ℕ) → list_all (λ c. not (sign c)) xs ≡ true → told (xs ++ ys) ns ≡ xs ++ told ys ns
+unfolding told
 plain [] ys ns h = refl
 plain (x ∷ xs) ys ns h =
-    let e : sign x ≡ false = off (sign x) (and_left (not (sign x)) (all_of (λ c. not (sign c)) xs) h) in
-    rw e (ap (x ∷◌) (plain xs ys ns (and_right (not (sign x)) (all_of (λ c. not (sign c)) xs) h)))
+    let e : sign x ≡ false = off (sign x) (and_left (not (sign x)) (list_all (λ c. not (sign c)) xs) h) in
+    rw e (ap (x ∷◌) (plain xs ys ns (and_right (not (sign x)) (list_all (λ c. not (sign c)) xs) h)))
   where
     off : (b : Bool) → not b ≡ true → b ≡ false
     off true e = absurd (false≢true e)
     off false e = refl
 
 -- so with a number for each name it is the definition's text
-pub told_names : (ss : List String) (ns : List ℕ) → all_of (λ name. all_of (λ c. not (sign c)) (quoted name)) ss ≡ true → length ns ≡ length ss
+pub told_names : (ss : List String) (ns : List ℕ) → list_all (λ name. list_all (λ c. not (sign c)) (quoted name)) ss ≡ true → length ns ≡ length ss
     → told (signed ss) ns ≡ number_texts ss ns
-unfolding told signed number_texts number_text all_of
+unfolding told signed number_texts number_text
 told_names [] ns h l = refl
 told_names (name ∷ ss) [] h l = absurd (omega arith)
 told_names (name ∷ ss) (n ∷ ns) h l =
-    let a : Bool = all_of (λ c. not (sign c)) (quoted name) in
-    let b : Bool = all_of (λ s. all_of (λ c. not (sign c)) (quoted s)) ss in
+    let a : Bool = list_all (λ c. not (sign c)) (quoted name) in
+    let b : Bool = list_all (λ s. list_all (λ c. not (sign c)) (quoted s)) ss in
     let i : told (signed ss) ns ≡ number_texts ss ns = told_names ss ns (and_right a b h) (omega arith) in
     let t : told (0x3D ∷ signed ss) (n ∷ ns) ≡ (0x3D ∷ decimal n) ++ number_texts ss ns = ap (λ (l : List ℕ). (0x3D ∷ decimal n) ++ l) i in
     let p : told (quoted name ++ (0x3D ∷ signed ss)) (n ∷ ns) ≡ (quoted name ++ (0x3D ∷ decimal n)) ++ number_texts ss ns =
@@ -125,9 +126,9 @@ module _ (s : Slot) where
         (λ o. let n : kind_letters s.kind ≡ 0 = rw (f, o) in absurd (omega (arith, names-length, n)))
 
   -- with a number for each of them
-  unsigned : all_of (λ name. all_of (λ c. not (sign c)) (quoted name)) (names s) ≡ true
-  unfolding names common_names pin_names older_names quoted all_of
-  unsigned = kind-names (λ n ss. all_of (λ name. all_of (λ c. not (sign c)) (quoted name)) ss ≡ true) s refl refl refl
+  unsigned : list_all (λ name. list_all (λ c. not (sign c)) (quoted name)) (names s) ≡ true
+  unfolding names common_names pin_names older_names quoted
+  unsigned = kind-names (λ n ss. list_all (λ name. list_all (λ c. not (sign c)) (quoted name)) ss ≡ true) s refl refl refl
 
   as_many : length (names s) ≡ count_of s.kind
   unfolding names common_names pin_names older_names kind_names sensing older

@@ -3,7 +3,7 @@ use mathlib.Core.Path.{refl, ◌∙◌, ap}
 use Prim.Native.Nat.{◌≤◌, ◌<◌, ◌+◌, ◌*◌}
 use native.Mathlib.Omega.{arith}
 use lib.ListN.{length, length-take, length-drop}
-use Rattle.proof_lists.specs.Each.{all_of-at}
+use Rattle.proof_lists.specs.Each.{list_all-at}
 use Rattle.rules.specs.Refusals.{slot_in_range}
 use Rattle.bus_slots.specs.Foreseen.{heard_in, carrying}
 use Rattle.rules.proofs.Past.{no_slot}
@@ -24,7 +24,7 @@ next-x-requires c =
     let g = f.args in
     let h : l.i < length g.slots = omega arith in
     let r : 512 * (l.i + 1) ≤ length g.mem.now = omega arith in
-    (l.invariant.5, rw (old g.a g.slots g.mem.now l.i h r l.all l.mem l.shown.ack l.shown.driven l.shown.byte l.invariant.8) (all_of-at slot_in_range l.i g.slots no_slot h l.invariant.4), simp (length-take, length-drop) (omega arith))
+    (l.invariant.5, rw (old g.a g.slots g.mem.now l.i h r l.all l.mem l.shown.ack l.shown.driven l.shown.byte l.invariant.8) (list_all-at slot_in_range l.i g.slots no_slot h l.invariant.4), simp (length-take, length-drop) (omega arith))
 
 pub loop-i-preserved : goal.loop-i-preserved
 loop-i-preserved c =
