@@ -3,12 +3,13 @@
 // status that a result has, the script `run` gives it.
 #![tactic(auto)]
 
+use script_streams::{opening, reading};
+
 fn main(rt: HostRuntime) {
-    let mut mem = [0u8; 4096];
-    let mut out = io::large_buffer();
-    let begun = save_opening::open(&mut mem, &mut out);
-    if begun.on {
-        let bus = begun.bus;
-        script_streams::reading::serve(&mut rt.stdin(), bus, &mut mem, &mut out);
+    let mut input = rt.stdin();
+    let output = rt.stdout();
+    let mut out = opening::room::<65536>();
+    if let Ok(mut bench) = save_opening::open(&mut input, &output, &mut out) {
+        reading::serve(&mut input, &output, &mut bench, &mut out);
     }
 }

@@ -1,29 +1,27 @@
 -- What a program that begins so has written, in whatever reads its input comes: where nothing follows all of it, and where something may, that nothing is
 -- written yet, and what is begun with is what the form restores to.
 -- Assumes nothing.
-use mathlib.Core.Path.{◌≡◌, sym, ◌∙◌, ap, ap₂}
-use mathlib.Core.Bool.{true, false, false≢true}
+use mathlib.Core.Path.{◌≡◌, refl, sym, ◌∙◌, ap, ap₂}
+use mathlib.Core.Bool.{Bool, true, false, false≢true}
 use mathlib.Core.List.{List, [], ◌++◌, append-nil}
 use Prim.Native.Nat.{ℕ, ◌<◌, ◌≤◌}
 use native.Mathlib.Omega.{arith}
-use borrow.Author.Tests.{lt-ltb, le-ltb, ltb-true, ltb-false, eq-eqb}
+use borrow.Author.Tests.{lt-ltb, le-ltb, ltb-true, ltb-false}
 use lib.Dec.{ltb}
-use lib.ListN.{length, take, drop, length-append, length-replicate, drop_of_length-le, get_or-append}
-use lib.Seq.{sets, take_at, drop_at}
+use lib.ListN.{length, take, drop, length-append, drop_of_length-le, get_or-append}
+use lib.Seq.{take_at, drop_at}
+use Rattle.std.proofs.Common.{Result, Ok, Err}
 use Rattle.proof_lists.specs.Tests.{by-test}
-use Rattle.rules.specs.declared.Answer.TheVariants.{Refused}
-use Rattle.rules.specs.declared.Refusal.TheVariants.{WrongForm}
-use Rattle.rules.specs.Modelled.{memory_bytes}
-use Rattle.rules.specs.Refusals.{wrong_length, empty_bus}
+use Rattle.rules.specs.Refusals.{empty_bus}
 use Rattle.script_text.specs.Letters.{short_line, refusal_line}
-use Rattle.script_turns.specs.declared.frame.Begun.{Begun}
+use Rattle.rules.specs.Runs.{Bench}
 use Rattle.script_turns.specs.Frame.{starting_memory}
 use Rattle.script_turns.proofs.frame.Laws.{written}
-use Rattle.save_rules.specs.Reading.{accepted, restored, restore_of}
+use Rattle.save_rules.specs.Reading.{accepted, restored}
 use Rattle.save_rules.proofs.Back.{restores-form}
 use Rattle.save_opening.specs.Opened.{Opened}
 use Rattle.save_opening.specs.Opening.{bad_form_line, form_bytes, too_long, wanted_bytes, stopped_by, begun_by, begin_of, opened_by}
-use Rattle.save_opening.proofs.Laws.{bad-form}
+use Rattle.save_opening.proofs.Laws.{bad-form, starting-length, restores-none}
 
 -- the length stands in the first four bytes
 bytes-first : (head more : List ℕ) → length head ≡ 4 → form_bytes (head ++ more) ≡ form_bytes head
@@ -34,16 +32,6 @@ bytes-first head more l =
 long-first : (head more : List ℕ) → length head ≡ 4 → too_long (head ++ more) ≡ too_long head
 unfolding too_long
 long-first head more l = ap (ltb 65535) (bytes-first head more l)
-
--- a form that is refused
-pub starting-length : length starting_memory ≡ memory_bytes
-unfolding starting_memory
-starting-length = length-replicate {A = ℕ} memory_bytes 0xFF
-
-restores-none : (form : List ℕ) → accepted form starting_memory ≡ false
-    → restore_of empty_bus starting_memory form ≡ (record { bus = empty_bus; answer = Refused WrongForm }, starting_memory)
-unfolding restore_of wrong_length
-restores-none form a = rw (eq-eqb (length starting_memory) memory_bytes starting-length, a)
 
 -- what is due for each sort of input: `k` has it for a form that came whole, and for what stands behind it
 module _ (k : List ℕ → List ℕ → List ℕ) where
@@ -72,19 +60,31 @@ module _ (k : List ℕ → List ℕ → List ℕ) where
       le-ltb (length (form ++ more)) (form_bytes head) (rw (length-append form more) (omega arith)) in
       rw (whole head (form ++ more) l, long-first head (form ++ more) l, t, d, bytes-first head (form ++ more) l, u, take_at form more (form_bytes head) n, drop_at form more (form_bytes head) n)
 
+is_bench : Result Bench ℕ → Bool
+is_bench (Ok x) = true
+is_bench (Err end) = false
+
+bench_in : Result Bench ℕ → Bench → Bench
+bench_in (Ok x) y = x
+bench_in (Err end) y = y
+
+put_by : Result Bench ℕ → List ℕ → List ℕ
+put_by (Ok x) o = []
+put_by (Err end) o = take end o
+
 -- THE BEGINNING, of the contract of `open`
-module _ (out m o : List ℕ) (r : Begun) (p : Opened out r m o) (room : 6 ≤ length out) where
+module _ (out o : List ℕ) (r : Result Bench ℕ) (p : Opened out r o) where
   abbrev head : List ℕ
   head = p.head
 
   abbrev form : List ℕ
   form = p.form
 
-  goes-on : r.on ≡ (begin_of head form out).0.on
-  goes-on = sym (ap (λ (b : Begun × List ℕ × List ℕ). b.0.on) p.begun)
+  goes-on : is_bench r ≡ is_bench (begin_of head form out).0
+  goes-on = sym (ap (λ (b : Result Bench ℕ × List ℕ). is_bench b.0) p.begun)
 
-  puts : take r.end o ≡ take (begin_of head form out).0.end (begin_of head form out).2
-  puts = sym (ap (λ (b : Begun × List ℕ × List ℕ). take b.0.end b.2) p.begun)
+  puts : put_by r o ≡ put_by (begin_of head form out).0 (begin_of head form out).1
+  puts = sym (ap (λ (b : Result Bench ℕ × List ℕ). put_by b.0 b.1) p.begun)
 
   -- a form that came whole
   pub record Came : Type 0 where
@@ -93,10 +93,10 @@ module _ (out m o : List ℕ) (r : Begun) (p : Opened out r m o) (room : 6 ≤ l
     pub whole : length form ≡ form_bytes head
 
   -- WHERE NOTHING FOLLOWS: the input ends in the length or in the form, or the length is too large or the form refused, whatever is behind it
-  pub writes-first : (k : List ℕ → List ℕ → List ℕ) → ((more : List ℕ) → accepted form starting_memory ≡ false → k form more ≡ bad_form_line) → r.on ≡ false
-      → (more : List ℕ) → (length head < 4 → more ≡ []) × (length form < wanted_bytes head → more ≡ []) → take r.end o ≡ opened_by k (head ++ (form ++ more))
-  unfolding begin_of stopped_by begun_by refusal_line wanted_bytes
-  writes-first k bad e more over =
+  first : 6 ≤ length out → (k : List ℕ → List ℕ → List ℕ) → ((more : List ℕ) → accepted form starting_memory ≡ false → k form more ≡ bad_form_line) → is_bench r ≡ false
+      → (more : List ℕ) → (length head < 4 → more ≡ []) × (length form < wanted_bytes head → more ≡ []) → put_by r o ≡ opened_by k (head ++ (form ++ more))
+  unfolding begin_of stopped_by begun_by refusal_line wanted_bytes is_bench put_by
+  first room k bad e more over =
       by-test (ltb (length head) 4)
       (λ c.
       let l : length head < 4 = ltb-true (length head) 4 c in
@@ -119,21 +119,20 @@ module _ (out m o : List ℕ) (r : Begun) (p : Opened out r m o) (room : 6 ≤ l
       let g : accepted form starting_memory ≡ false =
       by-test (accepted form starting_memory)
       (λ g. absurd (false≢true (sym e ∙ goes-on ∙ rw (c, t, f, restores-form empty_bus starting_memory form starting-length g)))) (λ g. g) in
-      puts ∙ rw (c, t, f, restores-none form g) (ap (λ (z : List ℕ). take (length z) (sets out 0 z)) bad-form ∙ written out bad_form_line (omega arith)
+      puts ∙ rw (c, t, f, restores-none form g, bad-form) (written out bad_form_line (omega arith)
       ∙ sym (by_form k head form more l t n ∙ bad more g))
 
-  -- WHERE SOMETHING MAY FOLLOW: nothing is written and the output is as it was, the form came whole and is accepted, and bus and memory are those that it restores to
-  pub record Restored : Type 0 where
+  -- WHERE SOMETHING MAY FOLLOW: nothing is put and the output is as it was, the form came whole and is accepted, and the bench is what it restores to
+  pub record Restored (x : Bench) : Type 0 where
     pub came : Came
     pub good : accepted form starting_memory ≡ true
-    pub silent : take r.end o ≡ []
     pub kept : o ≡ out
-    pub bench : record { bus = r.bus; memory = m } ≡ restored form starting_memory
+    pub bench : x ≡ restored form starting_memory
 
-  pub goes-restored : r.on ≡ true → Restored
-  unfolding begin_of stopped_by begun_by refusal_line wanted_bytes restored
-  goes-restored e =
-      let b : (begin_of head form out).0.on ≡ true = sym goes-on ∙ e in
+  restores : (x : Bench) → is_bench r ≡ true → bench_in r x ≡ x → Restored x
+  unfolding begin_of stopped_by begun_by refusal_line wanted_bytes restored is_bench bench_in
+  restores x e y =
+      let b : is_bench (begin_of head form out).0 ≡ true = sym goes-on ∙ e in
       by-test (ltb (length head) 4) (λ c. absurd (false≢true (rw c at b))) λ c.
       by-test (too_long head) (λ t. absurd (false≢true (rw (c, t) at b))) λ t.
       by-test (ltb (length form) (form_bytes head)) (λ f. absurd (false≢true (rw (c, t, f) at b))) λ f.
@@ -145,8 +144,20 @@ module _ (out m o : List ℕ) (r : Begun) (p : Opened out r m o) (room : 6 ≤ l
       record {
         came = record { four = l; short = t; whole = n };
         good = g;
-        silent = puts ∙ rw (c, t, f, s);
-        kept = sym (ap (λ (z : Begun × List ℕ × List ℕ). z.2) p.begun) ∙ rw (c, t, f, s);
-        bench = sym (ap (λ (z : Begun × List ℕ × List ℕ). record { bus = z.0.bus; memory = z.1 }) p.begun) ∙ rw (c, t, f, s);
+        kept = sym (ap (λ (z : Result Bench ℕ × List ℕ). z.1) p.begun) ∙ rw (c, t, f, s);
+        bench = sym y ∙ sym (ap (λ (z : Result Bench ℕ × List ℕ). bench_in z.0 x) p.begun) ∙ rw (c, t, f, s);
       })
       (λ g. absurd (false≢true (rw (c, t, f, restores-none form g, bad-form) at b)))
+
+-- so in the one case
+pub writes-first : (out o : List ℕ) (end : ℕ) (p : Opened out (Err end) o) → 6 ≤ length out → (k : List ℕ → List ℕ → List ℕ)
+    → ((more : List ℕ) → accepted p.form starting_memory ≡ false → k p.form more ≡ bad_form_line)
+    → (more : List ℕ) → (length p.head < 4 → more ≡ []) × (length p.form < wanted_bytes p.head → more ≡ [])
+    → take end o ≡ opened_by k (p.head ++ (p.form ++ more))
+unfolding is_bench put_by
+writes-first out o end p room k bad more over = first out o (Err end) p room k bad refl more over
+
+-- and in the other
+pub goes-restored : (out o : List ℕ) (x : Bench) (p : Opened out (Ok x) o) → Restored out o (Ok x) p x
+unfolding is_bench bench_in
+goes-restored out o x p = restores out o (Ok x) p x refl refl

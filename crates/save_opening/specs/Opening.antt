@@ -1,11 +1,11 @@
 -- How programs begin with a saved form: what they make of the bytes that were read as its length and as the form.
 -- Assumes nothing.
-use Rattle.std.specs.Prelude.{ℕ, ◌+◌, ◌*◌, Bool, false, cond, List, [], ◌∷◌, eqb, ltb, length, get_or, take, drop}
+use Rattle.std.specs.Prelude.{ℕ, ◌+◌, ◌*◌, Bool, cond, List, [], ◌∷◌, eqb, ltb, length, get_or, take, drop, Result, Ok, Err}
 use Rattle.std.proofs.lemmas.List.Edits.{sets}
 use Rattle.rules.specs.declared.Outcome.{Outcome}
 use Rattle.rules.specs.Refusals.{empty_bus}
+use Rattle.rules.specs.Runs.{Bench}
 use Rattle.script_text.specs.Letters.{short_line, refusal_line}
-use Rattle.script_turns.specs.declared.frame.Begun.{Begun}
 use Rattle.script_turns.specs.Frame.{starting_memory}
 use Rattle.save_rules.specs.Reading.{restore_of}
 
@@ -25,17 +25,17 @@ too_long bs = ltb 65535 (form_bytes bs)
 unfoldable pub wanted_bytes : List ℕ → ℕ
 wanted_bytes bs = cond (ltb (length bs) 4) 0 (cond (too_long bs) 0 (form_bytes bs))
 
--- what is begun with, where nothing follows the line, and where a form was read: then the memory and the output
-unfoldable pub stopped_by : List ℕ → List ℕ → Begun × List ℕ × List ℕ
-stopped_by line out = (record { bus = empty_bus; end = length line; on = false }, starting_memory, sets out 0 line)
+-- the beginning, where nothing follows the line, and where a form was read: the bench, or where the line ends; then the output
+unfoldable pub stopped_by : List ℕ → List ℕ → Result Bench ℕ × List ℕ
+stopped_by line out = (Err (length line), sets out 0 line)
 
-unfoldable pub begun_by : Outcome × List ℕ → List ℕ → Begun × List ℕ × List ℕ
+unfoldable pub begun_by : Outcome × List ℕ → List ℕ → Result Bench ℕ × List ℕ
 begun_by r out =
     let line : List ℕ = refusal_line r.0.answer in
-    (record { bus = r.0.bus; end = length line; on = eqb (length line) 0 }, r.1, sets out 0 line)
+    (cond (eqb (length line) 0) (Ok (record { bus = r.0.bus; memory = r.1 })) (Err (length line)), sets out 0 line)
 
 -- the beginning, from the bytes that were read as the form's length and those read as the form
-unfoldable pub begin_of : List ℕ → List ℕ → List ℕ → Begun × List ℕ × List ℕ
+unfoldable pub begin_of : List ℕ → List ℕ → List ℕ → Result Bench ℕ × List ℕ
 begin_of head form out =
     cond (ltb (length head) 4) (stopped_by short_line out)
     (cond (too_long head) (stopped_by bad_form_line out)

@@ -2,14 +2,13 @@
 // `reading`: all that decides is said and proved in `frame` and `turns`.
 #![tactic(auto)]
 
-use script_streams::opening::STDOUT_FILENO;
+use script_streams::{opening, reading};
 
 fn main(rt: HostRuntime) {
-    let mut mem = [0u8; 4096];
-    let mut out = io::large_buffer();
-    let begun = script_streams::opening::begin(STDOUT_FILENO, &mut mem, &mut out);
-    if begun.on {
-        let bus = begun.bus;
-        script_streams::reading::serve(&mut rt.stdin(), bus, &mut mem, &mut out);
+    let mut input = rt.stdin();
+    let output = rt.stdout();
+    let mut out = opening::room::<65536>();
+    if let Ok(mut bench) = opening::begin(&mut input, &output, &mut out) {
+        reading::serve(&mut input, &output, &mut bench, &mut out);
     }
 }

@@ -1,43 +1,57 @@
-// How the programs that read a setup begin: it is read, and what `frame` puts at the front of the output is written; and how such a front is written.
-// Which output it goes to, a program says by its descriptor.
-ghost use Rattle.std.specs.Prelude.{◌≡◌, true, ◌≤◌, length};
-ghost use Rattle.rules.specs.Modelled.{memory_bytes};
-ghost use Rattle.rules.specs.Refusals.{in_range};
+// How the programs that read a setup begin: it is read, and what `frame` puts at the front of the output is written; how a room is filled from the
+// input, and how such a front is written. Which output it goes to, a program says.
+ghost use Rattle.std.specs.Prelude.{◌≡◌, ◌≤◌, length};
 ghost use Rattle.script_streams.specs.Opened.{Opened};
-ghost use Rattle.script_streams.specs.Written.{descriptor_of};
 
-use script_turns::frame::Begun;
+use bus_bench::Bench;
+use std::io::{Print, Read, Stdin};
 
-// The descriptors of standard input, standard output and standard error.
-pub const STDIN_FILENO: i32 = 0;
-
-pub const STDOUT_FILENO: i32 = 1;
-
-pub const STDERR_FILENO: i32 = 2;
-
-// The descriptor of standard output, or of standard error.
-pub fn descriptor(output: bool) -> i32
-    ensures { result ≡ descriptor_of output }
+// A room of so many zeros. What is lent of it as a slice has its length.
+pub fn room<const N: usize>() -> [u8; N]
+    ensures { N ≡ length result }
 {
-    if output { STDOUT_FILENO } else { STDERR_FILENO }
+    [0; N]
+}
+
+// One read: how many bytes came, which are then at the front of the room; none where the input has ended or the read failed.
+pub fn came(input: &mut Stdin, room: &mut [u8]) -> usize
+    ensures { result ≤ length room.new }
+{
+    input.read(room).unwrap_or(0)
+}
+
+// Read after read, until the room is full or a read brings nothing: how many bytes came, which are then at the front of the room.
+pub fn fill(input: &mut Stdin, room: &mut [u8]) -> usize
+    ensures { result ≤ length room.new }
+{
+    let mut done = 0;
+    while done < room.len() {
+        let n = came(input, &mut room[done..]);
+        if n == 0 {
+            break;
+        }
+        done += n;
+    }
+    done
 }
 
 // Writes the front of an output, as far as its end says.
-pub fn write(to: i32, out: &[u8], end: usize)
+pub fn write<P: Print>(to: &P, out: &[u8], end: usize)
     requires { end ≤ length out.now }
 {
-    io::write_all(to, &out[..end]);
+    let _ = to.write_all(&out[..end]);
 }
 
-// Reads sixteen bytes, or as many as come, begins with them, and writes `short`, `R5` or nothing. Records may follow where the result says so.
-pub fn begin(to: i32, mem: &mut [u8], out: &mut [u8]) -> Begun
-    requires { (length mem.old ≡ memory_bytes) × (6 ≤ length out.old) }
-    ensures { (in_range result.bus ≡ true) × Opened out.old result mem.new out.new }
+// Reads sixteen bytes, or as many as come, begins with them, and writes `short`, `R5` or nothing. Records may follow where there is a bench.
+pub fn begin<P: Print>(input: &mut Stdin, to: &P, out: &mut [u8]) -> Result<Bench, usize>
+    requires { 6 ≤ length out.old }
+    ensures { Opened out.old result out.new }
 {
     let mut pairs = [0u8; 16];
-    let n = io::read_full(STDIN_FILENO, &mut pairs);
-    let begun = script_turns::frame::begin(&pairs[..n], mem, out);
-    let end = begun.end;
-    write(to, out, end);
+    let n = fill(input, &mut pairs);
+    let begun = script_turns::frame::begin(&pairs[..n], out);
+    if let Err(end) = begun {
+        write(to, out, end);
+    }
     begun
 }

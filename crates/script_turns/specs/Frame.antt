@@ -1,15 +1,15 @@
 -- Document 01, "The script program": how it begins and how it ends, on the bytes that were read and the buffers that are lent. What a step has
 -- written is the front of the output, as far as its end says.
 -- Assumes nothing.
-use Rattle.std.specs.Prelude.{ℕ, Bool, not, cond, ◌&&◌, List, [], ◌∷◌, eqb, ltb, length, replicate}
+use Rattle.std.specs.Prelude.{ℕ, Bool, not, cond, ◌&&◌, List, [], ◌∷◌, eqb, ltb, length, replicate, Result, Ok, Err}
 use Rattle.std.proofs.lemmas.List.Edits.{sets}
 use Rattle.std.specs.List.{list_all}
-use Rattle.rules.specs.declared.Bus.{Bus}
 use Rattle.rules.specs.Modelled.{memory_bytes}
-use Rattle.rules.specs.Refusals.{good_pair, empty_bus, setup_of}
+use Rattle.rules.specs.Refusals.{good_pair, setup_of}
+use Rattle.rules.specs.Runs.{Bench}
+use Rattle.bus_bench.specs.Beginning.{begun}
 use Rattle.script_text.specs.Records.{pairs_of}
 use Rattle.script_text.specs.Letters.{short_line}
-use Rattle.script_turns.specs.declared.frame.Begun.{Begun}
 
 -- "A bad setup gives `R5` alone."
 abbrev pub bad_setup_line : List ℕ
@@ -31,14 +31,10 @@ first_line bs = cond (cut_setup bs) short_line (cond (list_all good_pair (pairs_
 unfoldable pub goes_on : List ℕ → Bool
 goes_on bs = not (cut_setup bs) && list_all good_pair (pairs_of bs)
 
--- the bus; a setup that is cut yields that of a refused one
-unfoldable pub first_bus : List ℕ → Bus
-first_bus bs = cond (cut_setup bs) empty_bus (setup_of (pairs_of bs)).bus
-
--- the beginning, from the bytes that were read as setup: then the memory and the output
-unfoldable pub begin_of : List ℕ → List ℕ → Begun × List ℕ × List ℕ
+-- the beginning, from the bytes that were read as setup: the bench, or where the line ends; then the output
+unfoldable pub begin_of : List ℕ → List ℕ → Result Bench ℕ × List ℕ
 begin_of bs out =
-    (record { bus = first_bus bs; end = length (first_line bs); on = goes_on bs }, starting_memory, sets out 0 (first_line bs))
+    (cond (goes_on bs) (Ok (begun (setup_of (pairs_of bs)).bus)) (Err (length (first_line bs))), sets out 0 (first_line bs))
 
 -- so many bytes of a record came
 unfoldable pub last_line : ℕ → List ℕ

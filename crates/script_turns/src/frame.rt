@@ -1,75 +1,23 @@
-// What stands around the script program's turns: the beginning, what is kept from one turn to the next, the end. Each takes what was read
-// and puts what is to be written at the front of a lent output. Their `requires` are about the sizes of the buffers and the counts in them;
-// the program meets them, and is proved to.
-ghost use Rattle.std.specs.Prelude.{◌≡◌, ◌+◌, ◌≤◌, length, drop, replicate};
-ghost use Rattle.proof_lists.specs.Each.{filled};
-ghost use Rattle.rules.specs.Modelled.{memory_bytes};
-ghost use Rattle.rules.specs.Refusals.{setup_of};
-ghost use Rattle.script_text.specs.Records.{pairs_of};
+// What stands around the script program's turns: the beginning and the end. Each takes what was read and puts what is to be written at the front of a
+// lent output. Their `requires` are about the sizes of the buffers; the program meets them, and is proved to.
+ghost use Rattle.std.specs.Prelude.{◌≡◌, ◌≤◌, length};
 ghost use Rattle.script_turns.specs.Frame.{begin_of, finish_of};
 
-use rules::{Bus, Outcome};
+use bus_bench::Bench;
+use rules::Answer;
 
-// The bus of a setup's sixteen bytes, or refusal 5.
-fn setup(bytes: &[u8]) -> Outcome
-    requires { 16 ≤ length bytes.now }
-    ensures { result ≡ setup_of (pairs_of bytes.now) }
+// The beginning, from the bytes that were read as setup: fewer than sixteen are a setup that is cut. The bench that records are run on, with nothing
+// put; or, where none follow, `short` or `R5` put at the front of the output, and where that ends.
+pub fn begin(bytes: &[u8], out: &mut [u8]) -> Result<Bench, usize>
+    requires { 6 ≤ length out.old }
+    ensures { begin_of bytes.now out.old ≡ (result, out.new) }
 {
-    bus_setup::setup(script_text::records::pairs(bytes))
-}
-
-// Memory as it starts.
-pub fn fill(mem: &mut [u8])
-    ensures { mem.new ≡ replicate (length mem.old) 0xFF }
-{
-    let count = mem.len();
-    for i in 0..count {
-        mem[i] = 0xFF;
-    }
-}
-
-// The bus at the beginning, where what is to be written ends, and whether records follow.
-#[derive(Clone, Copy)]
-pub struct Begun {
-    pub bus: Bus,
-    pub end: usize,
-    pub on: bool,
-}
-
-// The beginning, from the bytes that were read as setup: fewer than sixteen are a setup that is cut. The memory is filled, and `short`, `R5` or
-// nothing put at the front of the output; records follow where nothing is.
-pub fn begin(bytes: &[u8], mem: &mut [u8], out: &mut [u8]) -> Begun
-    requires { (length mem.old ≡ memory_bytes) × (6 ≤ length out.old) }
-    ensures { begin_of bytes.now out.old ≡ (result, mem.new, out.new) }
-{
-    fill(mem);
     if bytes.len() < 16 {
-        let none = bus_setup::empty_bus();
-        let end = script_text::letters::put_short(out);
-        return Begun {
-            bus: none,
-            end,
-            on: false,
-        };
+        return Err(script_text::letters::put_short(out));
     }
-    let made = setup(bytes);
-    let bus = made.bus;
-    let answer = made.answer;
-    let end = script_text::letters::put_refusal(out, answer);
-    Begun {
-        bus,
-        end,
-        on: end == 0,
-    }
-}
-
-// A record that is cut: its bytes, from `from` on, go to the front of the buffer, where the rest of it will follow.
-pub fn keep(bytes: &mut [u8], from: usize, count: usize)
-    requires { from + count ≤ length bytes.old }
-    ensures { bytes.new ≡ filled bytes.old (drop from bytes.old) count }
-{
-    for i in 0..count {
-        bytes[i] = bytes[from + i];
+    match Bench::set_up(script_text::records::pairs(bytes)) {
+        Ok(bench) => Ok(bench),
+        Err(why) => Err(script_text::letters::put_line(out, 0, Answer::Refused(why))),
     }
 }
 

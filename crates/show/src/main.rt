@@ -4,12 +4,13 @@
 // gives it.
 #![tactic(auto)]
 
-fn main() {
-    let mut mem = [0u8; 4096];
-    let mut out = io::large_buffer();
-    let begun = save_opening::open(&mut mem, &mut out);
-    if begun.on {
-        let bus = begun.bus;
-        watch_streams::watch(bus, &mut mem, &mut out);
+use script_streams::opening;
+
+fn main(rt: HostRuntime) {
+    let mut input = rt.stdin();
+    let output = rt.stdout();
+    let mut out = opening::room::<65536>();
+    if let Ok(mut bench) = save_opening::open(&mut input, &output, &mut out) {
+        let _ = watch_streams::watch(&mut input, &output, &mut bench, &mut out);
     }
 }

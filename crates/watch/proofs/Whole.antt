@@ -9,16 +9,17 @@ use borrow.Author.Tests.{lt-ltb, le-ltb, ltb-true, ltb-false}
 use lib.Dec.{ltb}
 use lib.ListN.{length, take, drop, length-append}
 use lib.Seq.{drop-append_seam}
+use Rattle.std.proofs.Common.{Ok, Err}
 use Rattle.std.specs.List.{list_all}
 use Rattle.proof_lists.specs.Tests.{by-test}
-use Rattle.rules.specs.declared.Bus.{Bus}
-use Rattle.rules.specs.Refusals.{good_pair, setup_of}
+use Rattle.rules.specs.Refusals.{good_pair}
+use Rattle.rules.specs.Runs.{Bench}
 use Rattle.script_text.specs.Letters.{short_line}
 use Rattle.script_text.specs.Records.{pairs_of}
 use Rattle.script_text.proofs.records.Laws.{pairs-of}
-use Rattle.script_turns.specs.declared.frame.Begun.{Begun}
-use Rattle.script_turns.specs.Frame.{bad_setup_line, starting_memory, cut_setup, first_line, goes_on, first_bus, begin_of}
+use Rattle.script_turns.specs.Frame.{bad_setup_line, cut_setup, first_line, goes_on}
 use Rattle.script_turns.specs.Script.{begun_at}
+use Rattle.script_turns.proofs.frame.Onward.{begin-goes, begin-stops}
 use Rattle.script_turns.proofs.frame.Laws.{first-length, written}
 use Rattle.script_streams.specs.Opened.{Opened}
 use Rattle.watch_streams.specs.Texts.{watched_text}
@@ -46,45 +47,35 @@ module _ (head more : List ℕ) (l : length head ≡ 16) where
   unfolding watch_of
   of-good g = rw (whole, pairs-of head more l, g, behind)
 
--- THE WHOLE PROGRAM, of the contracts of `opening::begin` and of `watch_streams::watch`, which follows where records may: what they put at the front of the output, one
--- after another, is `watch_of` of all bytes that came. The output is of 65,536 bytes.
-module _ (out m o : List ℕ) (r : Begun) (p : Opened out r m o) (room : length out ≡ 65536) where
-  abbrev head : List ℕ
-  head = p.head
-
-  goes-on : r.on ≡ goes_on head
-  unfolding begin_of
-  goes-on = sym (ap (λ (b : Begun × List ℕ × List ℕ). b.0.on) p.begun)
-
-  puts_first : take r.end o ≡ first_line head
-  unfolding begin_of
-  puts_first =
-      sym (ap (λ (b : Begun × List ℕ × List ℕ). take b.0.end b.2) p.begun) ∙ written out (first_line head) (omega (arith, first-length head))
-
+-- THE WHOLE PROGRAM, of the contracts of `opening::begin` and of `watch_streams::watch`, which follows where there is a bench: what they put at the
+-- front of the output, one after another, is `watch_of` of all bytes that came. The output is of 65,536 bytes.
+module _ (out o : List ℕ) (room : length out ≡ 65536) where
   -- WHERE NOTHING FOLLOWS: fewer than sixteen bytes came, which is all of the input, or the setup is bad, whatever is behind it
-  pub writes-first : r.on ≡ false → (more : List ℕ) → (length head < 16 → more ≡ []) → take r.end o ≡ watch_of (head ++ more)
+  pub writes-first : (end : ℕ) (p : Opened out (Err end) o) (more : List ℕ) → (length p.head < 16 → more ≡ []) → take end o ≡ watch_of (p.head ++ more)
   unfolding goes_on cut_setup first_line
-  writes-first e more over =
+  writes-first end p more over =
+      let head : List ℕ = p.head in
+      let s = begin-stops head out o end p.begun in
+      let f : take end o ≡ first_line head = ap₂ take s.1 s.2 ∙ written out (first_line head) (omega (arith, first-length head)) in
       by-test (ltb (length head) 16)
       (λ c.
       let l : length head < 16 = ltb-true (length head) 16 c in
-      puts_first ∙ rw c (sym (ap watch_of (ap (head ++◌) (over l) ∙ append-nil head) ∙ of_cut head l)))
+      f ∙ rw c (sym (ap watch_of (ap (head ++◌) (over l) ∙ append-nil head) ∙ of_cut head l)))
       (λ c.
       let l : length head ≡ 16 = let h = ltb-false (length head) 16 c in omega (arith, h, p.fits) in
-      let g : list_all good_pair (pairs_of head) ≡ false = rw c at (sym goes-on ∙ e) in
-      puts_first ∙ rw (c, g) (sym (of-bad head more l g)))
+      let g : list_all good_pair (pairs_of head) ≡ false = rw c at s.0 in
+      f ∙ rw (c, g) (sym (of-bad head more l g)))
 
-  -- WHERE RECORDS FOLLOW, and the reads came to the input's end
-  pub writes-all : (told : Bool) (stored wrote : List ℕ) (w : Watched r.bus m o told stored wrote) → r.on ≡ true → Exhausted w.reads
-      → take r.end o ++ watched_put r.bus m o told stored wrote w ≡ watch_of (head ++ input_of w.reads)
-  unfolding goes_on cut_setup first_line first_bus begin_of begun_at
-  writes-all told stored wrote w e x =
-      let c : ltb (length head) 16 ≡ false = by-test (ltb (length head) 16) (λ c. absurd (false≢true (rw c at (sym goes-on ∙ e)))) (λ c. c) in
+  -- WHERE RECORDS FOLLOW, and the reads came to the input's end: nothing has been put, and then
+  pub writes-all : (x : Bench) (p : Opened out (Ok x) o) (told : Bool) (y : Bench) (wrote : List ℕ) (w : Watched x o told y wrote) → Exhausted w.reads
+      → watched_put x o told y wrote w ≡ watch_of (p.head ++ input_of w.reads)
+  unfolding goes_on cut_setup
+  writes-all x p told y wrote w e =
+      let head : List ℕ = p.head in
+      let s = begin-goes head out o x p.begun in
+      let c : ltb (length head) 16 ≡ false = by-test (ltb (length head) 16) (λ c. absurd (false≢true (rw c at s.0))) (λ c. c) in
       let l : length head ≡ 16 = let h = ltb-false (length head) 16 c in omega (arith, h, p.fits) in
-      let g : list_all good_pair (pairs_of head) ≡ true = rw c at (sym goes-on ∙ e) in
-      let f : take r.end o ≡ [] = puts_first ∙ rw (c, g) in
-      let b : r.bus ≡ (setup_of (pairs_of head)).bus = sym (ap (λ (b : Begun × List ℕ × List ℕ). b.0.bus) p.begun) ∙ rw c in
-      let n : m ≡ starting_memory = sym (ap (λ (b : Begun × List ℕ × List ℕ). b.1) p.begun) in
-      ap (◌++ watched_put r.bus m o told stored wrote w) f ∙ watched-writes r.bus m o told stored wrote w x
-      ∙ ap₂ (λ (a : Bus) (k : List ℕ). watched_text (record { bus = a; memory = k }) (input_of w.reads)) b n
+      let g : list_all good_pair (pairs_of head) ≡ true = rw c at s.0 in
+      watched-writes x o told y wrote w e
+      ∙ ap (λ (z : Bench). watched_text z (input_of w.reads)) s.1
       ∙ sym (of-good head (input_of w.reads) l g)

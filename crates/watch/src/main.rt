@@ -2,14 +2,13 @@
 // It begins as the script does, by `opening`, and goes on by `watch_streams`: all that decides is said and proved there and in `watch_text`.
 #![tactic(auto)]
 
-use script_streams::opening::STDOUT_FILENO;
+use script_streams::opening;
 
-fn main() {
-    let mut mem = [0u8; 4096];
-    let mut out = io::large_buffer();
-    let begun = script_streams::opening::begin(STDOUT_FILENO, &mut mem, &mut out);
-    if begun.on {
-        let bus = begun.bus;
-        watch_streams::watch(bus, &mut mem, &mut out);
+fn main(rt: HostRuntime) {
+    let mut input = rt.stdin();
+    let output = rt.stdout();
+    let mut out = opening::room::<65536>();
+    if let Ok(mut bench) = opening::begin(&mut input, &output, &mut out) {
+        let _ = watch_streams::watch(&mut input, &output, &mut bench, &mut out);
     }
 }

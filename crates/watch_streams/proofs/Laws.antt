@@ -1,23 +1,18 @@
 -- The steps as the code takes them, and read after read.
 -- Assumes nothing.
 use mathlib.Core.Path.{◌≡◌, refl, sym, ◌∙◌, ap, ap₂}
-use mathlib.Core.Bool.{Bool, true, false, false≢true, not, ◌&&◌}
+use mathlib.Core.Bool.{Bool, true, false, false≢true}
 use mathlib.Core.List.{List, [], ◌∷◌, ◌++◌}
 use Prim.Native.Nat.{ℕ, ◌+◌, ◌≤◌, ◌<◌}
 use native.Mathlib.Nat.{zero-add}
 use native.Mathlib.Omega.{arith}
-use borrow.Author.Tests.{lt-ltb, le-ltb, ltb-true, ltb-false, lt-leb, le-leb}
-use lib.Dec.{ltb, leb}
+use borrow.Author.Tests.{lt-ltb, le-ltb}
 use lib.ListN.{length, take, length-append}
 use lib.Seq.{sets, length-take-le}
-use Rattle.proof_lists.specs.Tests.{by-test, cond_cases}
+use Rattle.rules.specs.declared.Answer.{Answer}
 use Rattle.rules.specs.declared.Bus.{Bus}
 use Rattle.rules.specs.declared.Event.{Event}
-use Rattle.rules.specs.declared.Outcome.{Outcome}
-use Rattle.rules.specs.Refusals.{in_range}
-use Rattle.rules.specs.Runs.{Bench, next, answered, event_of}
-use Rattle.rules.proofs.Range.Kept.{next-in-range}
-use Rattle.bus_event.proofs.Onward.{event-bench, event-answer}
+use Rattle.rules.specs.Runs.{Bench, next, answered}
 use Rattle.script_text.specs.Records.{record_at}
 use Rattle.script_text.specs.Letters.{line_of}
 use Rattle.script_text.proofs.letters.Laws.{Put, put_on}
@@ -25,66 +20,33 @@ use Rattle.script_turns.specs.Frame.{last_line, finish_of}
 use Rattle.script_turns.proofs.frame.Laws.{last-length}
 use Rattle.script_streams.specs.Reading.{most_reads}
 use Rattle.watch_text.specs.Lines.{change_lines, bench_lines}
-use Rattle.watch_streams.specs.declared.Going.{Going}
-use Rattle.watch_streams.specs.declared.Stepped.{Stepped}
 use Rattle.watch_streams.specs.Texts.{record_text}
 use Rattle.watch_streams.specs.Steps.{cut, read_text, read_next, step_of}
-use Rattle.watch_streams.specs.Reading.{bench_left, out_left, Went, UpToLast, Exhausted, Watched}
+use Rattle.watch_streams.specs.Reading.{bench_left, out_left, UpToLast, Exhausted, Watched}
 
 -- fewer bytes than a record has
-pub cut_by : (b : Bus) (m bs out o : List ℕ) (end : ℕ) → length bs < 4 → finish_of (length bs) out ≡ (end, o)
-    → (step_of (record { bus = b; memory = m }) bs out ≡ (record { bus = b; end = end }, m, o)) × (end ≤ 6)
+pub cut_by : (x : Bench) (bs out o : List ℕ) (end : ℕ) → length bs < 4 → finish_of (length bs) out ≡ (end, o)
+    → (step_of x bs out ≡ (end, x, o)) × (end ≤ 6)
 unfolding step_of read_text read_next finish_of
-cut_by b m bs out o end h e =
+cut_by x bs out o end h e =
     let c : cut bs ≡ true = lt-ltb (length bs) 4 h in
     let k : length (last_line (length bs)) ≡ end = ap (λ (z : ℕ × List ℕ). z.0) e in
-    (rw c (λ i. (record { bus = b; end = (e i).0 }, m, (e i).1)), omega (arith, last-length (length bs)))
+    (rw c (λ i. ((e i).0, x, (e i).1)), omega (arith, last-length (length bs)))
 
 -- a record: its line, and those of the slots
-module _ (b : Bus) (m bs out : List ℕ) (e : Event) (y : Outcome) (n : List ℕ) (f : e ≡ record_at bs 0) (g : event_of b m e ≡ (y, n)) where
-  abbrev begun : Bench
-  begun = record { bus = b; memory = m }
-
-  after : record { bus = y.bus; memory = n } ≡ next (record_at bs 0) begun
-  after = event-bench b m e y n g ∙ ap (λ (v : Event). next v begun) f
-
-  pub step_by : (o p : List ℕ) (line end : ℕ) → 4 ≤ length bs → Put out 0 (line_of y.answer) line o
-      → Put o line (change_lines b.slots y.bus.slots) end p → step_of begun bs out ≡ (record { bus = y.bus; end = end }, n, p)
-  unfolding step_of read_text read_next record_text
-  step_by o p line end h k l =
-      let c : cut bs ≡ false = le-ltb (length bs) 4 h in
-      let a : y.answer ≡ answered (record_at bs 0) begun = event-answer b m e y n g ∙ ap (λ (v : Event). answered v begun) f in
-      let t : line_of y.answer ++ change_lines b.slots y.bus.slots ≡ record_text (record_at bs 0) begun =
-      ap₂ (λ (v : List ℕ) (w : Bench). v ++ change_lines b.slots w.bus.slots) (ap line_of a) after in
-      let q : Put out 0 (record_text (record_at bs 0) begun) end p =
-      rw t at (put_on out o p 0 line end (line_of y.answer) (change_lines b.slots y.bus.slots) k l) in
-      let j : length (record_text (record_at bs 0) begun) ≡ end = sym (q.0 ∙ zero-add _) in
-      rw c (λ i. (record { bus = (sym after i).bus; end = j i }, (sym after i).memory, sym q.1 i))
-
--- one read
-pub went-by : (b : Bus) (m out xs stored o : List ℕ) (n : ℕ) (s : Stepped) (told : Bool) → n ≤ length xs → length xs ≡ 4
-    → step_of (record { bus = b; memory = m }) (take n xs) out ≡ (s, stored, o)
-    → Went (record { bus = b; memory = m }) out (record { bus = s.bus; told = told; on = told && leb 4 n }) stored o
-unfolding step_of
-went-by b m out xs stored o n s told h l e =
-    let k : length (take n xs) ≡ n = length-take-le n xs h in
-    record {
-      came = take n xs;
-      fits = omega arith;
-      bench = sym (ap (λ (z : Stepped × List ℕ × List ℕ). record { bus = z.0.bus; memory = z.1 }) e);
-      put = sym (ap (λ (z : Stepped × List ℕ × List ℕ). z.2) e);
-      on = ap (told &&◌) (whole n ∙ sym (ap (λ i. not (ltb i 4)) k));
-    }
-  where
-    whole : (n : ℕ) → leb 4 n ≡ not (ltb n 4)
-    whole n = by-test (ltb n 4) (λ e. rw e (lt-leb 4 n (ltb-true n 4 e))) (λ e. rw e (le-leb 4 n (ltb-false n 4 e)))
-
--- the bus stays in range
-pub step-in-range : (x : Bench) (bs out stored o : List ℕ) (s : Stepped) → in_range x.bus ≡ true → step_of x bs out ≡ (s, stored, o) → in_range s.bus ≡ true
-unfolding step_of read_next
-step-in-range x bs out stored o s h e =
-    sym (ap (λ (z : Stepped × List ℕ × List ℕ). in_range z.0.bus) e)
-    ∙ cond_cases (λ (y : Bench). in_range y.bus ≡ true) (cut bs) (λ c. h) (λ c. next-in-range (record_at bs 0) x h)
+pub step_by : (x : Bench) (bs out : List ℕ) (e : Event) (a : Answer) (y : Bench) (o p : List ℕ) (line end : ℕ)
+    → 4 ≤ length bs → e ≡ record_at bs 0 → y ≡ next e x → a ≡ answered e x
+    → Put out 0 (line_of a) line o → Put o line (change_lines x.bus.slots y.bus.slots) end p → step_of x bs out ≡ (end, y, p)
+unfolding step_of read_text read_next record_text
+step_by x bs out e a y o p line end h f n w k l =
+    let c : cut bs ≡ false = le-ltb (length bs) 4 h in
+    let after : y ≡ next (record_at bs 0) x = n ∙ ap (λ (v : Event). next v x) f in
+    let t : line_of a ++ change_lines x.bus.slots y.bus.slots ≡ record_text (record_at bs 0) x =
+    ap₂ (λ (v : List ℕ) (z : Bench). v ++ change_lines x.bus.slots z.bus.slots) (ap line_of (w ∙ ap (λ (v : Event). answered v x) f)) after in
+    let q : Put out 0 (record_text (record_at bs 0) x) end p =
+    rw t at (put_on out o p 0 line end (line_of a) (change_lines x.bus.slots y.bus.slots) k l) in
+    let j : length (record_text (record_at bs 0) x) ≡ end = sym (q.0 ∙ zero-add _) in
+    rw c (λ i. (j i, sym after i, sym q.1 i))
 
 -- reads that were all whole records
 unfoldable pub Each : List (List ℕ) → Type 0
@@ -125,66 +87,69 @@ unfolding out_left bench_left
 out-more x out [] c = refl
 out-more x out (d ∷ cs) c = out-more (read_next x d) (sets out 0 (read_text x d)) cs c
 
--- what the reads so far led to, and whether they go on
-pub record Ongoing (x : Bench) (out₀ : List ℕ) (g : Going) (m out : List ℕ) (turns : ℕ) : Type 0 where
+-- the first lines, of the bench as it is seen
+pub first-lines : (x : Bench) (b : Bus) (m out first : List ℕ) → record { bus = b; memory = m } ≡ x → first ≡ sets out 0 (bench_lines b)
+    → first ≡ sets out 0 (bench_lines x.bus)
+first-lines x b m out first e f = f ∙ ap (λ (y : Bench). sets out 0 (bench_lines y.bus)) e
+
+-- what the reads so far led to, where they go on
+pub record Ongoing (x : Bench) (out₀ : List ℕ) (y : Bench) (out : List ℕ) (number : ℕ) : Type 0 where
   pub reads : List (List ℕ)
-  pub bench : record { bus = g.bus; memory = m } ≡ bench_left x reads
+  pub bench : y ≡ bench_left x reads
   pub put : out ≡ out_left x out₀ reads
-  pub number : length reads + turns ≡ most_reads
-  pub onward : g.on ≡ true → Each reads
-  pub ended : g.on ≡ false → UpToLast reads × (g.told ≡ true → Exhausted reads)
+  pub made : length reads ≡ number
+  pub whole : Each reads
 
--- where the first lines could not be written there is no read; else there are those to come
-pub ongoing-none : (b : Bus) (m out : List ℕ) (told : Bool) → Ongoing (record { bus = b; memory = m }) out (record { bus = b; told = told; on = told }) m out most_reads
-unfolding bench_left out_left Each UpToLast
-ongoing-none b m out told = record {
-  reads = [];
-  bench = refl;
-  put = refl;
-  number = refl;
-  onward = λ e. tt;
-  ended = λ e. (tt, λ f. absurd (false≢true (sym e ∙ f)));
-}
+pub ongoing-none : (x : Bench) (out : List ℕ) → Ongoing x out x out 0
+unfolding bench_left out_left Each
+ongoing-none x out = record { reads = []; bench = refl; put = refl; made = refl; whole = tt }
 
-module _ (x : Bench) (out₀ : List ℕ) (g : Going) (m out : List ℕ) (turns : ℕ) (a : Ongoing x out₀ g m out turns) where
-  pub ongoing-more : (k : ℕ) (r : Going) (stored written : List ℕ) → turns ≡ k + 1 → g.on ≡ true
-      → Went (record { bus = g.bus; memory = m }) out r stored written → Ongoing x out₀ r stored written k
-  ongoing-more k r stored written e o w =
-      let c : List ℕ = w.came in
-      let z : Each a.reads = a.onward o in
-      record {
-        reads = a.reads ++ c ∷ [];
-        bench = w.bench ∙ ap (λ (y : Bench). read_next y c) a.bench ∙ sym (bench-more x a.reads c);
-        put = w.put ∙ ap₂ (λ (u : List ℕ) (y : Bench). sets u 0 (read_text y c)) a.put a.bench ∙ sym (out-more x out₀ a.reads c);
-        number = omega (arith, a.number, e, length-append a.reads (c ∷ []));
-        onward = λ f. each_more a.reads c z (whole c w.fits (right r.told (cut c) (sym w.on ∙ f)));
-        ended = λ f. (last_more a.reads c z w.fits, λ t. over-more a.reads c z (short (cut c) (rw t at (sym w.on ∙ f))));
-      }
-    where
-      right : (t b : Bool) → (t && not b) ≡ true → b ≡ false
-      right true false f = refl
-      right true true f = absurd (false≢true f)
-      right false b f = absurd (false≢true f)
+-- where the first lines could not be written there is no read
+pub watched-none : (x : Bench) (out first : List ℕ) → first ≡ sets out 0 (bench_lines x.bus) → Watched x out false x first
+unfolding bench_left out_left UpToLast
+watched-none x out first f = record { reads = []; bench = refl; put = f; before = tt; over = λ e _. absurd (false≢true e) }
 
-      whole : (c : List ℕ) → length c ≤ 4 → cut c ≡ false → length c ≡ 4
-      whole c h f = let l : 4 ≤ length c = ltb-false (length c) 4 f in omega arith
+module _ (x : Bench) (out first : List ℕ) (f : first ≡ sets out 0 (bench_lines x.bus)) (y : Bench) (o : List ℕ) (number : ℕ) (a : Ongoing x first y o number) where
+  -- one read more: it is of four bytes at most
+  module _ (four : List ℕ) (n : ℕ) (h : n ≤ length four) (l : length four ≡ 4) (end : ℕ) (z : Bench) (p : List ℕ) (e : step_of y (take n four) o ≡ (end, z, p)) where
+    came-length : length (take n four) ≡ n
+    came-length = length-take-le n four h
 
-      short : (b : Bool) → not b ≡ false → b ≡ true
-      short true f = refl
-      short false f = absurd (false≢true (sym f))
+    more-bench : z ≡ bench_left x (a.reads ++ take n four ∷ [])
+    unfolding step_of
+    more-bench = sym (ap (λ (v : ℕ × Bench × List ℕ). v.1) e) ∙ ap (λ (v : Bench). read_next v (take n four)) a.bench ∙ sym (bench-more x a.reads (take n four))
 
--- the loop's end: no more reads, or too many of them
-pub watched-by : (b : Bus) (m out first : List ℕ) (g : Going) (stored written : List ℕ) (turns : ℕ) → first ≡ sets out 0 (bench_lines b)
-    → Ongoing (record { bus = b; memory = m }) first g stored written turns → (g.on && ltb 0 turns) ≡ false → Watched b m out g.told stored written
-watched-by b m out first g stored written turns f a t =
-    let x : Bench = record { bus = b; memory = m } in
-    record {
-      reads = a.reads;
-      memory = ap (λ (z : Bench). z.memory) a.bench;
-      put = a.put ∙ ap (λ (o : List ℕ). out_left x o a.reads) f;
-      before = by-test g.on (λ o. each_last a.reads (a.onward o)) (λ o. (a.ended o).0);
-      over = λ d n. by-test g.on (λ o. absurd (n (made (rw o at t)))) (λ o. (a.ended o).1 d);
+    more-put : p ≡ out_left x first (a.reads ++ take n four ∷ [])
+    unfolding step_of
+    more-put =
+        sym (ap (λ (v : ℕ × Bench × List ℕ). v.2) e)
+        ∙ ap₂ (λ (u : List ℕ) (v : Bench). sets u 0 (read_text v (take n four))) a.put a.bench ∙ sym (out-more x first a.reads (take n four))
+
+    pub ongoing-more : 4 ≤ n → Ongoing x first z p (number + 1)
+    ongoing-more k = record {
+      reads = a.reads ++ take n four ∷ [];
+      bench = more-bench;
+      put = more-put;
+      made = length-append a.reads (take n four ∷ []) ∙ ap (◌+ 1) a.made;
+      whole = each_more a.reads (take n four) a.whole (omega (arith, came-length));
     }
-  where
-    made : ltb 0 turns ≡ false → length a.reads ≡ most_reads
-    made h = let l : turns ≤ 0 = ltb-false 0 turns h in omega (arith, a.number)
+
+    -- and then the end, of the input or of the telling
+    pub watched-by : (told : Bool) → (told ≡ true → n < 4) → Watched x out told z p
+    watched-by told t = record {
+      reads = a.reads ++ take n four ∷ [];
+      bench = more-bench;
+      put = more-put ∙ ap (λ (u : List ℕ). out_left x u (a.reads ++ take n four ∷ [])) f;
+      before = last_more a.reads (take n four) a.whole (omega (arith, came-length));
+      over = λ d _. over-more a.reads (take n four) a.whole (lt-ltb (length (take n four)) 4 (rw came-length (t d)));
+    }
+
+  -- more reads than any input has
+  pub watched-over : number ≡ most_reads → Watched x out true y o
+  watched-over k = record {
+    reads = a.reads;
+    bench = a.bench;
+    put = a.put ∙ ap (λ (u : List ℕ). out_left x u a.reads) f;
+    before = each_last a.reads a.whole;
+    over = λ _ n. absurd (n (a.made ∙ k));
+  }

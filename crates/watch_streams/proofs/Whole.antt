@@ -8,7 +8,6 @@ use native.Mathlib.Omega.{arith}
 use borrow.Author.Tests.{le-ltb, ltb-true}
 use lib.ListN.{length, drop, length-append}
 use lib.Seq.{drop-append_seam}
-use Rattle.rules.specs.declared.Bus.{Bus}
 use Rattle.rules.specs.Runs.{Bench, next}
 use Rattle.script_text.specs.Records.{record_at}
 use Rattle.script_text.proofs.records.Laws.{record-first}
@@ -52,7 +51,7 @@ reads-put x (c ∷ d ∷ cs) e =
     rw f (ap (record_text (record_at c 0) x ++◌) (reads-put (next (record_at c 0) x) (d ∷ cs) e.1) ∙ sym (text-cons x c (input_of (d ∷ cs)) e.0))
 
 -- WHAT `watch` PUTS AT THE FRONT OF THE OUTPUT, of its contract, one after another, where the reads came to the input's end
-pub watched-writes : (b : Bus) (m out : List ℕ) (told : Bool) (stored wrote : List ℕ) (w : Watched b m out told stored wrote) → Exhausted w.reads
-    → watched_put b m out told stored wrote w ≡ watched_text (record { bus = b; memory = m }) (input_of w.reads)
+pub watched-writes : (x : Bench) (out : List ℕ) (told : Bool) (y : Bench) (wrote : List ℕ) (w : Watched x out told y wrote) → Exhausted w.reads
+    → watched_put x out told y wrote w ≡ watched_text x (input_of w.reads)
 unfolding watched_put watched_text
-watched-writes b m out told stored wrote w x = ap (bench_lines b ++◌) (reads-put (record { bus = b; memory = m }) w.reads x)
+watched-writes x out told y wrote w e = ap (bench_lines x.bus ++◌) (reads-put x w.reads e)

@@ -6,7 +6,6 @@ use Rattle.std.proofs.lemmas.List.Edits.{sets}
 use Rattle.rules.specs.Runs.{Bench, next}
 use Rattle.script_text.specs.Records.{record_at}
 use Rattle.script_turns.specs.Frame.{last_line}
-use Rattle.watch_streams.specs.declared.Stepped.{Stepped}
 use Rattle.watch_streams.specs.Texts.{record_text}
 
 -- what is read at a time is the bytes of one record, or fewer: then the input has ended
@@ -20,6 +19,6 @@ read_text x c = cond (cut c) (last_line (length c)) (record_text (record_at c 0)
 unfoldable pub read_next : Bench → List ℕ → Bench
 read_next x c = cond (cut c) x (next (record_at c 0) x)
 
--- a step: then the memory and the output
-unfoldable pub step_of : Bench → List ℕ → List ℕ → Stepped × List ℕ × List ℕ
-step_of x c out = (record { bus = (read_next x c).bus; end = length (read_text x c) }, (read_next x c).memory, sets out 0 (read_text x c))
+-- a step: where what it put ends; then the bench and the output
+unfoldable pub step_of : Bench → List ℕ → List ℕ → ℕ × Bench × List ℕ
+step_of x c out = (length (read_text x c), read_next x c, sets out 0 (read_text x c))

@@ -1,19 +1,22 @@
 -- Reads one after another: a read as what came and what stands behind it, and one read more.
 -- Assumes nothing.
 use mathlib.Core.Path.{◌≡◌, refl, sym, ◌∙◌, ap, ap₂}
-use mathlib.Core.Bool.{Bool, true, false, false≢true, cond, ◌&&◌}
+use mathlib.Core.Bool.{true, false≢true}
 use mathlib.Core.List.{List, [], ◌∷◌, ◌++◌}
 use Prim.Native.Nat.{ℕ, ◌+◌, ◌%◌, ◌<◌, ◌≤◌}
 use native.Mathlib.Omega.{arith}
+use borrow.Author.Tests.{lt-ltb}
 use lib.Dec.{ltb}
 use lib.ListN.{length, take, drop, take-append-drop, length-drop, length-append}
 use lib.Seq.{length-take-le}
-use Rattle.rules.specs.declared.Bus.{Bus}
+use Rattle.std.proofs.Common.{Option, Some, None}
+use Rattle.std.specs.Prelude.{IfSome, IsSome}
+use Rattle.rules.specs.Runs.{Bench}
+use Rattle.script_turns.specs.declared.turns.Turned.{Turned}
 use Rattle.script_turns.specs.Frame.{finish_of}
 use Rattle.script_turns.specs.Steps.{turn_of}
 use Rattle.script_turns.specs.Program.{Read, read_into, input_of, Fits}
-use Rattle.script_streams.specs.declared.reading.Going.{Going}
-use Rattle.script_streams.specs.Reading.{brought, Ran, turns_leave, begun, ran_of, Went, Reached, UpToLast, most_reads, Ended, Served}
+use Rattle.script_streams.specs.Reading.{brought, Ran, turns_leave, begun, Reached, UpToLast, most_reads, Ended, finished_by, Served}
 use Rattle.script_streams.proofs.reading.Whole.{turns-left}
 
 -- the read that left a buffer
@@ -29,23 +32,17 @@ module _ (buf read : List ℕ) (held n : ℕ) where
   came-length h = length-take-le n (drop held read) (rw (length-drop held read) (omega arith))
 
 -- a turn over it
-pub went-by : (lines : Bool) (g r : Going) (m buf read out stored moved written : List ℕ) (n end : ℕ) → take g.held read ≡ take g.held buf
-    → turn_of g.bus m read g.held n out ≡ (record { bus = r.bus; end = end; held = r.held }, stored, moved, written)
-    → (lines ≡ false → r.told ≡ true) → r.on ≡ r.told && ltb 0 n → g.held + n ≤ length read → g.held + n ≤ 65536
-    → Went lines (ran_of g true m buf out) r stored moved written
+pub turned-by : (q : Ran) (read : List ℕ) (n : ℕ) (t : Turned) (y : Bench) (moved written : List ℕ) → take q.held read ≡ take q.held q.buf
+    → turn_of q.bench read q.held n q.out ≡ (t, y, moved, written) → q.held + n ≤ length read
+    → turns_leave q (came q.buf read q.held n ∷ []) ≡ record { bench = y; buf = moved; held = t.held; came = ltb 0 n; out = written }
 unfolding turns_leave
-went-by lines g r m buf read out stored moved written n end k e w o h f =
-    let c : Read = came buf read g.held n in
-    let l : length c.came ≡ n = came-length buf read g.held n h in
-    let t : turn_of g.bus m (read_into buf g.held c) g.held (length c.came) out ≡ (record { bus = r.bus; end = end; held = r.held }, stored, moved, written) =
-    ap₂ (λ (b : List ℕ) (i : ℕ). turn_of g.bus m b g.held i out) (came-into buf read g.held n k) l ∙ e in
+turned-by q read n t y moved written k e h =
+    let c : Read = came q.buf read q.held n in
+    let l : length c.came ≡ n = came-length q.buf read q.held n h in
     let z : brought c ≡ ltb 0 n = ap (ltb 0) l in
-    record {
-      read = c;
-      fits = rw l f;
-      turned = λ i. record { bench = record { bus = (t i).0.bus; memory = (t i).1 }; buf = (t i).2; held = (t i).0.held; came = brought c; out = (t i).3 };
-      onward = record { told = w; on = o ∙ ap (r.told &&◌) (sym z) };
-    }
+    let p : turn_of q.bench (read_into q.buf q.held c) q.held (length c.came) q.out ≡ (t, y, moved, written) =
+    ap₂ (λ (b : List ℕ) (i : ℕ). turn_of q.bench b q.held i q.out) (came-into q.buf read q.held n k) l ∙ e in
+    λ i. record { bench = (p i).1; buf = (p i).2; held = (p i).0.held; came = z i; out = (p i).3 }
 
 -- no read yet, and one more
 pub reached-none : (q : Ran) → Reached q q
@@ -82,10 +79,6 @@ last_more [] r a = tt
 last_more (p ∷ []) r a = (a.0, tt)
 last_more (p ∷ s ∷ rs) r a = (a.0, last_more (s ∷ rs) r a.1)
 
-both : (a b : Bool) → (a && b) ≡ true → (a ≡ true) × (b ≡ true)
-both true b e = (refl, e)
-both false b e = absurd (false≢true e)
-
 -- reads that fit, and one more behind what is then held
 fits_more : (room held : ℕ) (rs : List Read) (r : Read) → held < 4 → Fits room held rs → (held + length (input_of rs)) % 4 + length r.came ≤ room
     → Fits room held (rs ++ r ∷ [])
@@ -96,79 +89,87 @@ fits_more room held (p ∷ rs) r h f l = (
   fits_more room ((held + length p.came) % 4) rs r (omega arith) f.1 (omega (arith, length-append p.came (input_of rs))),
 )
 
--- where the reads go on: all had room and brought something, and so many may still come
-pub record Ongoing (q : Ran) (g : Going) (m buf out : List ℕ) (n : ℕ) : Type 0 where
-  pub reached : Reached q (ran_of g true m buf out)
+-- where the reads go on: all had room and brought something
+pub record Ongoing (x : Bench) (buf₀ out₀ : List ℕ) (number : ℕ) (y : Bench) (buf : List ℕ) (held : ℕ) (out : List ℕ) : Type 0 where
+  pub reached : Reached (begun x buf₀ out₀) (record { bench = y; buf = buf; held = held; came = true; out = out })
   pub fits : Fits 65536 0 reached.reads
   pub each : Each reached.reads
-  pub number : length reached.reads + n ≡ most_reads
-  pub told : g.told ≡ true
-  pub on : g.on ≡ true
+  pub made : length reached.reads ≡ number
 
-pub ongoing-none : (b : Bus) (m buf out : List ℕ) → Ongoing (begun (record { bus = b; memory = m }) buf out) (record { bus = b; held = 0; told = true; on = true }) m buf out most_reads
+pub ongoing-none : (x : Bench) (buf out : List ℕ) → Ongoing x buf out 0 x buf 0 out
 unfolding Each Fits reached-none
-ongoing-none b m buf out = record { reached = reached-none _; fits = tt; each = tt; number = refl; told = refl; on = refl }
+ongoing-none x buf out = record { reached = reached-none _; fits = tt; each = tt; made = refl }
 
--- one read more, and on or not
-module _ (lines : Bool) (b : Bus) (m₀ buf₀ out₀ : List ℕ) (g : Going) (m buf out : List ℕ) (n : ℕ) (a : Ongoing (begun (record { bus = b; memory = m₀ }) buf₀ out₀) g m buf out n) where
-  more-fits : (r : Read) → g.held + length r.came ≤ 65536 → Fits 65536 0 (a.reached.reads ++ r ∷ [])
-  more-fits r f =
-      let t = turns-left (begun (record { bus = b; memory = m₀ }) buf₀ out₀) [] a.reached.reads refl (omega arith) refl in
-      let k : g.held ≡ length (input_of a.reached.reads) % 4 = sym (ap (λ (z : Ran). z.held) a.reached.turned) ∙ t.1 in
-      fits_more 65536 0 a.reached.reads r (omega arith) a.fits (omega arith)
+-- one read more
+module _ (x : Bench) (buf₀ out₀ : List ℕ) (number : ℕ) (y : Bench) (buf : List ℕ) (held : ℕ) (out : List ℕ)
+    (a : Ongoing x buf₀ out₀ number y buf held out)
+    (read : List ℕ) (n : ℕ) (t : Turned) (z : Bench) (moved written : List ℕ)
+    (k : take held read ≡ take held buf) (e : turn_of y read held n out ≡ (t, z, moved, written)) (h : held + n ≤ length read) (f : length read ≡ 65536) where
+  next : Read
+  next = came buf read held n
 
-  pub ongoing-more : (k : ℕ) (r : Going) (stored moved written : List ℕ) → n ≡ k + 1 → Went lines (ran_of g true m buf out) r stored moved written → r.on ≡ true
-      → Ongoing (begun (record { bus = b; memory = m₀ }) buf₀ out₀) r stored moved written k
-  unfolding reached-more
-  ongoing-more k r stored moved written e w o =
-      let h = both r.told (brought w.read) (sym w.onward.on ∙ o) in
-      let l : length (a.reached.reads ++ w.read ∷ []) ≡ length a.reached.reads + 1 = length-append a.reached.reads (w.read ∷ []) in
-      let t : turns_leave (ran_of g true m buf out) (w.read ∷ []) ≡ ran_of r true stored moved written =
-      w.turned ∙ ap (λ (z : Bool). ran_of r z stored moved written) h.1 in
+  next-came : length next.came ≡ n
+  unfolding next
+  next-came = came-length buf read held n h
+
+  next-reached : Reached (begun x buf₀ out₀) (record { bench = z; buf = moved; held = t.held; came = ltb 0 n; out = written })
+  next-reached = reached-more _ _ _ a.reached next (unfold next in turned-by (record { bench = y; buf = buf; held = held; came = true; out = out }) read n t z moved written k e h)
+
+  next-fits : Fits 65536 0 (a.reached.reads ++ next ∷ [])
+  next-fits =
+      let w = turns-left (begun x buf₀ out₀) [] a.reached.reads refl (omega arith) refl in
+      let i : held ≡ length (input_of a.reached.reads) % 4 = sym (ap (λ (z : Ran). z.held) a.reached.turned) ∙ w.1 in
+      fits_more 65536 0 a.reached.reads next (omega arith) a.fits (omega (arith, next-came))
+
+  pub ongoing-more : 0 < n → Ongoing x buf₀ out₀ (number + 1) z moved t.held written
+  unfolding next-reached reached-more
+  ongoing-more o =
+      let b : ltb 0 n ≡ true = lt-ltb 0 n o in
       record {
-        reached = reached-more _ _ _ a.reached w.read t;
-        fits = more-fits w.read w.fits;
-        each = each_more a.reached.reads w.read a.each h.1;
-        number = omega (arith, a.number, e, l);
-        told = h.0;
-        on = o;
+        reached = record { reads = next-reached.reads; turned = next-reached.turned ∙ ap (λ c. record { bench = z; buf = moved; held = t.held; came = c; out = written }) b };
+        fits = next-fits;
+        each = each_more a.reached.reads next a.each (ap (ltb 0) next-came ∙ b);
+        made = length-append a.reached.reads (next ∷ []) ∙ ap (◌+ 1) a.made;
       }
 
-  pub ended_by : (r : Going) (stored moved written : List ℕ) → Went lines (ran_of g true m buf out) r stored moved written → r.on ≡ false
-      → Ended lines b m₀ out₀ r stored written
-  unfolding reached-more
-  ended_by r stored moved written w o = record {
+  -- and then the end, of the input or of the telling
+  pub ended_by : (end : Option ℕ) → IfSome end (λ i. i ≡ t.held) → (IsSome end → n ≡ 0) → Ended x out₀ end z written
+  unfolding next-reached reached-more
+  ended_by end w o = record {
     buf = buf₀;
     moved = moved;
-    came = brought w.read;
-    reached = reached-more _ _ _ a.reached w.read w.turned;
-    fits = more-fits w.read w.fits;
-    before = last_more a.reached.reads w.read a.each;
-    onward = w.onward;
-    over = λ e. absurd (false≢true (sym o ∙ e));
+    held = t.held;
+    came = ltb 0 n;
+    reached = next-reached;
+    fits = next-fits;
+    before = last_more a.reached.reads next a.each;
+    told = w;
+    over = λ s c. absurd (nothing (o s) c);
   }
+    where
+      nothing : n ≡ 0 → ltb 0 n ≡ true → ⊥
+      nothing i c = false≢true (sym (ap (ltb 0) i) ∙ c)
 
-  pub ended-over : n ≡ 0 → Ended lines b m₀ out₀ g m out
-  ended-over e = record {
-    buf = buf₀;
-    moved = buf;
-    came = true;
-    reached = a.reached;
-    fits = a.fits;
-    before = each_last a.reached.reads a.each;
-    onward = record { told = λ _. a.told; on = a.on ∙ sym (ap (◌&& true) a.told) };
-    over = λ _. omega (arith, a.number, e);
-  }
+pub ended-over : (x : Bench) (buf₀ out₀ : List ℕ) (number : ℕ) (y : Bench) (buf : List ℕ) (held : ℕ) (out : List ℕ) → Ongoing x buf₀ out₀ number y buf held out
+    → number ≡ most_reads → Ended x out₀ (Some held) y out
+ended-over x buf₀ out₀ number y buf held out a e = record {
+  buf = buf₀;
+  moved = buf;
+  held = held;
+  came = true;
+  reached = a.reached;
+  fits = a.fits;
+  before = each_last a.reached.reads a.each;
+  told = refl;
+  over = λ _ _. a.made ∙ e;
+}
 
 -- the last line, or none after a write that failed
-module _ (b : Bus) (m out : List ℕ) (g : Going) (stored left : List ℕ) (e : Ended true b m out g stored left) where
-  pub served-told : (end : ℕ) (written : List ℕ) → g.told ≡ true → finish_of g.held left ≡ (end, written) → Served b m out stored written
-  served-told end written t f = record {
-    going = g;
-    left = left;
-    ended = e;
-    finished = sym (ap (λ (z : ℕ × List ℕ). z.1) f) ∙ sym (ap (λ (z : Bool). cond z (finish_of g.held left).1 left) t);
-  }
+module _ (x : Bench) (out : List ℕ) (y : Bench) (left : List ℕ) where
+  pub served-told : (held end : ℕ) (written : List ℕ) → Ended x out (Some held) y left → finish_of held left ≡ (end, written) → Served x out y written
+  unfolding finished_by
+  served-told held end written e f = record { end = Some held; left = left; ended = e; finished = sym (ap (λ (z : ℕ × List ℕ). z.1) f) }
 
-  pub served-untold : g.told ≡ false → Served b m out stored left
-  served-untold t = record { going = g; left = left; ended = e; finished = sym (ap (λ (z : Bool). cond z (finish_of g.held left).1 left) t) }
+  pub served-untold : Ended x out None y left → Served x out y left
+  unfolding finished_by
+  served-untold e = record { end = None; left = left; ended = e; finished = refl }

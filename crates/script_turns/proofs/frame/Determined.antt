@@ -8,7 +8,8 @@ use contract.Lifetimes.{Lfts}
 use borrow.Fn.World.{ArgsD, ResD}
 use borrow.Fn.Kinds.{ended_of}
 use denote.Triple.Clauses.{AtExit}
-use Rattle.script_turns.specs.declared.frame.Begun.{Begun}
+use Rattle.std.proofs.Common.{Result}
+use Rattle.rules.specs.Runs.{Bench}
 use Rattle.script_turns.specs.contracts.frame.begin as begin
 use Rattle.script_turns.proofs.frame.begin.Kinds as begin_kinds
 use Rattle.script_turns.proofs.frame.begin.Reads as begin_reads
@@ -16,14 +17,13 @@ use Rattle.script_turns.specs.contracts.frame.finish as finish
 use Rattle.script_turns.proofs.frame.finish.Kinds as finish_kinds
 use Rattle.script_turns.proofs.frame.finish.Reads as finish_reads
 
--- begin: the bus, the end, whether records follow; every byte of the memory and of the output
-pub begin-decides : (κs : Lfts 3) (a : ArgsD begin.signature κs) (r q : ResD begin.signature κs) (s o : AtExit (ended_of 3 begin_kinds.ps begin_kinds.r) κs)
-    → begin_reads.Post κs a r s → begin_reads.Post κs a q o → (r ≡ q) × (s.1.0.now ≡ o.1.0.now) × (s.1.1.0.now ≡ o.1.1.0.now)
+-- begin: the bench, or the end; every byte of the output
+pub begin-decides : (κs : Lfts 2) (a : ArgsD begin.signature κs) (r q : ResD begin.signature κs) (s o : AtExit (ended_of 2 begin_kinds.ps begin_kinds.r) κs)
+    → begin_reads.Post κs a r s → begin_reads.Post κs a q o → (r ≡ q) × (s.1.0.now ≡ o.1.0.now)
 begin-decides κs a r q s o p t = each _ _ (sym p ∙ t)
   where
-    each : (x y : Begun × List ℕ × List ℕ) → x ≡ y → (x.0 ≡ y.0) × (x.1 ≡ y.1) × (x.2 ≡ y.2)
-    each x y e =
-        (ap (λ (z : Begun × List ℕ × List ℕ). z.0) e, ap (λ (z : Begun × List ℕ × List ℕ). z.1) e, ap (λ (z : Begun × List ℕ × List ℕ). z.2) e)
+    each : (x y : Result Bench ℕ × List ℕ) → x ≡ y → (x.0 ≡ y.0) × (x.1 ≡ y.1)
+    each x y e = (ap (λ (z : Result Bench ℕ × List ℕ). z.0) e, ap (λ (z : Result Bench ℕ × List ℕ). z.1) e)
 
 -- finish: the end, and every byte of the output
 pub finish-decides : (κs : Lfts 1) (a : ArgsD finish.signature κs) (r q : ResD finish.signature κs) (s o : AtExit (ended_of 1 finish_kinds.ps finish_kinds.r) κs)

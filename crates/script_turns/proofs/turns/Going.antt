@@ -1,70 +1,76 @@
 -- The state of a run after k records, and one record more.
 -- Assumes nothing.
-use Prim.Native.Nat.{ℕ, ◌+◌, ◌*◌, ◌≤◌}
-use native.Mathlib.Nat.{zero-add}
+use Prim.Native.Nat.{ℕ, ◌+◌, ◌*◌, ◌/◌, ◌<◌, ◌≤◌}
+use native.Mathlib.Nat.{zero-add, add-zero}
 use native.Mathlib.Omega.{arith}
 use mathlib.Core.Path.{◌≡◌, refl, sym, ◌∙◌, ap, ap₂}
-use mathlib.Core.Bool.{true}
 use mathlib.Core.List.{List, ◌++◌}
-use lib.ListN.{length, length-append}
-use lib.Seq.{sets}
+use lib.ListN.{length, drop, length-append, length-drop}
+use lib.Seq.{sets, drop-append_seam, drop-drop}
 use Rattle.proof_lists.specs.Stores.{sets-append}
-use Rattle.rules.specs.declared.Bus.{Bus}
+use Rattle.rules.specs.declared.Answer.{Answer}
 use Rattle.rules.specs.declared.Event.{Event}
-use Rattle.rules.specs.declared.Outcome.{Outcome}
-use Rattle.rules.specs.Modelled.{memory_bytes}
-use Rattle.rules.specs.Refusals.{in_range}
-use Rattle.rules.specs.Runs.{Bench, next, answered, event_of}
-use Rattle.rules.proofs.Range.Kept.{next-in-range}
-use Rattle.rules.proofs.Memory.Stored.{memory-length-next}
+use Rattle.rules.specs.Runs.{Bench, next, answered}
 use Rattle.script_text.specs.Records.{record_at}
 use Rattle.script_text.specs.Letters.{line_of}
 use Rattle.script_turns.specs.Script.{records_in, bench_to, lines_to}
 use Rattle.script_turns.specs.Steps.{run_of}
 use Rattle.script_text.proofs.letters.Laws.{line-length}
-use Rattle.bus_event.proofs.Onward.{event-bench, event-answer}
+use Rattle.script_text.proofs.records.Laws.{record-first, record-later}
 use Rattle.script_turns.proofs.turns.Laws.{bench-step, lines_step}
 
--- bus b, memory m, output out and its end, after k records of bs from the bench x and the output o
-pub record Going (x : Bench) (bs o : List ℕ) (k : ℕ) (b : Bus) (m out : List ℕ) (end : ℕ) : Type 0 where
-  pub ranged : in_range b ≡ true
-  pub sized : length m ≡ memory_bytes
-  pub bench : record { bus = b; memory = m } ≡ bench_to x bs k
+-- bench y, output out and its end, and the bytes that are left, after k records of bs from the bench x and the output o
+pub record Going (x : Bench) (bs o : List ℕ) (k : ℕ) (y : Bench) (out : List ℕ) (end : ℕ) (rest : List ℕ) : Type 0 where
+  pub bench : y ≡ bench_to x bs k
   pub ends : end ≡ length (lines_to x bs k)
   pub most : end ≤ 4 * k
   pub wrote : out ≡ sets o 0 (lines_to x bs k)
+  pub left : rest ≡ drop (4 * k) bs
+  pub room : 4 * k ≤ length bs
 
-pub going-none : (b : Bus) (m bs out : List ℕ) → (in_range b ≡ true) × (length m ≡ memory_bytes) × (length bs ≤ length out)
-    → Going (record { bus = b; memory = m }) bs out 0 b m out 0
+pub going-none : (x : Bench) (bs out : List ℕ) → Going x bs out 0 x out 0 bs
 unfolding bench_to lines_to
-going-none b m bs out p = record { ranged = p.0; sized = p.1; bench = refl; ends = refl; most = omega arith; wrote = refl }
+going-none x bs out = record { bench = refl; ends = refl; most = omega arith; wrote = refl; left = refl; room = omega arith }
 
-module _ (x : Bench) (bs o : List ℕ) (k : ℕ) (b : Bus) (m out : List ℕ) (end : ℕ) (g : Going x bs o k b m out end) where
-  pub going_on : (e : Event) → e ≡ record_at bs (4 * k) → (y : Outcome) (n : List ℕ) → event_of b m e ≡ (y, n)
-      → (stop : ℕ) (wrote : List ℕ) → (stop ≡ end + length (line_of y.answer)) × (wrote ≡ sets out end (line_of y.answer))
-      → Going x bs o (k + 1) y.bus n wrote stop
-  going_on e f y n p stop wrote q =
-      let z : Bench = record { bus = b; memory = m } in
-      let w : record { bus = y.bus; memory = n } ≡ next e z = event-bench b m e y n p in
-      let a : y.answer ≡ answered (record_at bs (4 * k)) (bench_to x bs k) = event-answer b m e y n p ∙ ap₂ answered f g.bench in
+module _ (x : Bench) (bs o : List ℕ) (k : ℕ) (y : Bench) (out : List ℕ) (end : ℕ) (rest : List ℕ) (g : Going x bs o k y out end rest) where
+  -- what has been run and what is left are all of the bytes
+  going-room : length rest + 4 * k ≡ length bs
+  going-room = ap (λ r. length r + 4 * k) g.left ∙ ap (◌+ (4 * k)) (length-drop (4 * k) bs) ∙ omega (arith, g.room)
+
+  left-more : (four more : List ℕ) → rest ≡ four ++ more → length four ≡ 4 → length rest ≡ 4 + length more
+  left-more four more f h = ap length f ∙ length-append four more ∙ ap (◌+ length more) h
+
+  -- and then its line has room
+  pub going-next : (four more : List ℕ) → rest ≡ four ++ more → length four ≡ 4 → (room : ℕ) → length bs ≤ room → end + 4 ≤ room
+  going-next four more f h room r = omega (arith, g.most, going-room, left-more four more f h)
+
+  pub going_on : (four more : List ℕ) → rest ≡ four ++ more → length four ≡ 4
+      → (e : Event) → e ≡ record_at four 0 → (z : Bench) → z ≡ next e y → (a : Answer) → a ≡ answered e y
+      → (stop : ℕ) (wrote : List ℕ) → (stop ≡ end + length (line_of a)) × (wrote ≡ sets out end (line_of a))
+      → Going x bs o (k + 1) z wrote stop more
+  going_on four more f h e r z n a w stop wrote q =
+      let i : e ≡ record_at bs (4 * k) =
+      r ∙ sym (record-first four more 0 (omega arith)) ∙ ap (λ u. record_at u 0) (sym f ∙ g.left) ∙ record-later bs (4 * k) 0 ∙ ap (record_at bs) (add-zero (4 * k)) in
+      let v : a ≡ answered (record_at bs (4 * k)) (bench_to x bs k) = w ∙ ap₂ answered i g.bench in
       let l : List ℕ = lines_to x bs k in
-      let t : List ℕ = line_of y.answer in
-      let s : lines_to x bs (k + 1) ≡ l ++ t = lines_step x bs k ∙ ap (λ r. l ++ line_of r) (sym a) in
+      let t : List ℕ = line_of a in
+      let s : lines_to x bs (k + 1) ≡ l ++ t = lines_step x bs k ∙ ap (λ r. l ++ line_of r) (sym v) in
+      let d : drop 4 rest ≡ more = ap (drop 4) f ∙ ap (λ j. drop j (four ++ more)) (sym h) ∙ drop-append_seam four more in
       record {
-        ranged = ap (λ (v : Bench). in_range v.bus) w ∙ next-in-range e z g.ranged;
-        sized = ap (λ (v : Bench). length v.memory) w ∙ memory-length-next e z ∙ g.sized;
-        bench = w ∙ ap₂ next f g.bench ∙ sym (bench-step x bs k);
+        bench = n ∙ ap₂ next i g.bench ∙ sym (bench-step x bs k);
         ends = q.0 ∙ ap (λ i. i + length t) g.ends ∙ sym (ap length s ∙ length-append l t);
-        most = omega (arith, q.0, g.most, line-length y.answer);
+        most = omega (arith, q.0, g.most, line-length a);
         wrote = q.1 ∙ ap₂ (λ u i. sets u i t) g.wrote (g.ends ∙ sym (zero-add (length l))) ∙ sym (ap (sets o 0) s ∙ sets-append o 0 l t);
+        left = sym d ∙ ap (drop 4) g.left ∙ drop-drop 4 (4 * k) bs ∙ ap (λ j. drop j bs) (omega arith);
+        room = omega (arith, going-room, left-more four more f h);
       }
 
--- after the last whole record
-pub going-ended : (x : Bench) (bs o : List ℕ) (k : ℕ) (b : Bus) (m out : List ℕ) (end : ℕ) → Going x bs o k b m out end → k ≡ records_in bs
-    → run_of x bs o ≡ (record { bus = b; end = end }, m, out)
-unfolding run_of
-going-ended x bs o k b m out end g e =
-    let p : bench_to x bs (records_in bs) ≡ record { bus = b; memory = m } = ap (bench_to x bs) (sym e) ∙ sym g.bench in
-    let q : length (lines_to x bs (records_in bs)) ≡ end = ap (λ i. length (lines_to x bs i)) (sym e) ∙ sym g.ends in
-    let s : sets o 0 (lines_to x bs (records_in bs)) ≡ out = ap (λ i. sets o 0 (lines_to x bs i)) (sym e) ∙ sym g.wrote in
-    λ t. (record { bus = (p t).bus; end = q t }, (p t).memory, s t)
+  -- after the last whole record
+  pub going-ended : length rest < 4 → run_of x bs o ≡ (end, y, out)
+  unfolding run_of records_in
+  going-ended h =
+      let e : length bs / 4 ≡ k = omega (arith, going-room) in
+      let p : bench_to x bs (length bs / 4) ≡ y = ap (bench_to x bs) e ∙ sym g.bench in
+      let q : length (lines_to x bs (length bs / 4)) ≡ end = ap (λ i. length (lines_to x bs i)) e ∙ sym g.ends in
+      let s : sets o 0 (lines_to x bs (length bs / 4)) ≡ out = ap (λ i. sets o 0 (lines_to x bs i)) e ∙ sym g.wrote in
+      λ t. (q t, p t, s t)

@@ -1,13 +1,12 @@
--- What whoever goes on from a step needs of it: the bus is in range, what is to be written lies in the output, less than a record is held.
+-- What whoever goes on from a step needs of it: what is to be written lies in the output, less than a record is held. And records keep a bench in range.
 -- Assumes nothing.
-use mathlib.Core.Path.{◌≡◌, refl, sym, ◌∙◌, ap}
+use mathlib.Core.Path.{◌≡◌, refl, ◌∙◌, ap}
 use mathlib.Core.Bool.{true}
 use mathlib.Core.List.{List}
 use Prim.Native.Nat.{ℕ, zero, suc, ◌+◌, ◌*◌, ◌/◌, ◌<◌, ◌≤◌}
 use native.Mathlib.Omega.{arith}
 use lib.ListN.{length, take}
 use lib.Seq.{length-take-le}
-use Rattle.rules.specs.declared.Bus.{Bus}
 use Rattle.rules.specs.Refusals.{in_range}
 use Rattle.rules.specs.Runs.{Bench}
 use Rattle.rules.proofs.Memory.Stored.{memory-length-next}
@@ -29,17 +28,12 @@ unfolding bench_to
 bench-length x bs zero = refl
 bench-length x bs (suc n) = memory-length-next (record_at bs (4 * n)) (bench_to x bs n) ∙ bench-length x bs n
 
-pub turn-onward : (b : Bus) (m buf out : List ℕ) (held n : ℕ) (r : Turned) (s q o : List ℕ)
-    → turn_of b m buf held n out ≡ (r, s, q, o) → (in_range b ≡ true) × (held + n ≤ length buf) × (length buf ≤ length out)
-    → (in_range r.bus ≡ true) × (r.end ≤ length out) × (r.held < 4)
+pub turn-onward : (x : Bench) (buf out : List ℕ) (held n : ℕ) (r : Turned) (y : Bench) (q o : List ℕ)
+    → turn_of x buf held n out ≡ (r, y, q, o) → (held + n ≤ length buf) × (length buf ≤ length out) → (r.end ≤ length out) × (r.held < 4)
 unfolding turn_of run_of records_in
-turn-onward b m buf out held n r s q o e h =
-    let x : Bench = record { bus = b; memory = m } in
+turn-onward x buf out held n r y q o e h =
     let bs : List ℕ = take (held + n) buf in
-    let l : length bs ≡ held + n = length-take-le (held + n) buf h.1 in
-    let k : length (lines_to x bs (length bs / 4)) ≡ r.end = ap (λ (z : Turned × List ℕ × List ℕ × List ℕ). z.0.end) e in
-    let d : length (left_of bs) ≡ r.held = ap (λ (z : Turned × List ℕ × List ℕ × List ℕ). z.0.held) e in (
-      sym (ap (λ (z : Turned × List ℕ × List ℕ × List ℕ). in_range z.0.bus) e) ∙ bench-in-range x bs (length bs / 4) h.0,
-      omega (arith, lines-length x bs (length bs / 4), h.1, h.2),
-      omega (arith, left-length bs),
-    )
+    let l : length bs ≡ held + n = length-take-le (held + n) buf h.0 in
+    let k : length (lines_to x bs (length bs / 4)) ≡ r.end = ap (λ (z : Turned × Bench × List ℕ × List ℕ). z.0.end) e in
+    let d : length (left_of bs) ≡ r.held = ap (λ (z : Turned × Bench × List ℕ × List ℕ). z.0.held) e in
+    (omega (arith, lines-length x bs (length bs / 4), h.0, h.1), omega (arith, left-length bs))

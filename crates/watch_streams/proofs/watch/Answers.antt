@@ -1,43 +1,29 @@
--- From read to read the bus is in range, the buffers keep their lengths, and the reads so far led here.
-use Prim.Native.Nat.{◌<◌}
+-- From read to read the reads so far led here.
+use mathlib.Core.Bool.{true, false, false≢true}
 use native.Mathlib.Omega.{arith}
-use borrow.Author.Tests.{ltb-true}
-use lib.Dec.{ltb}
-use Rattle.proof_lists.specs.Tests.{and_left, and_right}
-use Rattle.watch_streams.proofs.Laws.{ongoing-none, ongoing-more, watched-by}
+use Rattle.std.proofs.lemmas.Result.{err_from_is_err_and}
+use Rattle.watch_streams.proofs.Laws.{first-lines, ongoing-none, ongoing-more, watched-none, watched-by, watched-over}
 use Rattle.watch_streams.proofs.watch.Goals as goal
 
-pub put_bench-end-requires : goal.put_bench-end-requires
-put_bench-end-requires c = omega arith
+pub returns-in_err-write_all : goal.returns-in_err-write_all
+returns-in_err-write_all c =
+    let p = err_from_is_err_and c.from_residual.result c.from_residual.ensures.1 in
+    rw p.1 (watched-none _ _ _ (first-lines _ _ _ _ _ c.bench.view_is c.put_bench-end.ensures.1))
 
-pub tell-told-requires : goal.tell-told-requires
-tell-told-requires c = omega (arith, c.put_bench-end.ensures.2)
+pub loop-init : goal.loop-init
+loop-init c = ongoing-none _ _
 
-pub loop-g-init : goal.loop-g-init
-loop-g-init c = (c.requires.0, omega arith, omega arith, ongoing-none _ _ _ _)
+pub returns-in_err-write_all-2 : goal.returns-in_err-write_all-2
+returns-in_err-write_all-2 c =
+    let r = c.from_residual-in_err-write_all-2 in
+    let p = err_from_is_err_and r.result r.ensures.1 in
+    rw p.1 (watched-by _ c.args.out.now c.put_bench-end.new.out (first-lines _ _ _ _ _ c.bench.view_is c.put_bench-end.ensures.1) _ _ _ c.loop.invariant c.fill-n.new.room c.fill-n.result c.fill-n.ensures (omega arith) _ _ _ c.step-end.ensures.0 false (λ e. absurd (false≢true e)))
 
-pub read_on-g-requires : goal.read_on-g-requires
-read_on-g-requires c = (c.loop-g.invariant.0, omega arith, omega arith)
+pub returns-then-n-lt4 : goal.returns-then-n-lt4
+returns-then-n-lt4 c = watched-by _ c.args.out.now c.put_bench-end.new.out (first-lines _ _ _ _ _ c.bench.view_is c.put_bench-end.ensures.1) _ _ _ c.loop.invariant c.fill-n.new.room c.fill-n.result c.fill-n.ensures (omega arith) _ _ _ c.step-end.ensures.0 true (λ _. c.if-n-lt4.true)
 
-pub overflow_sub-turns : goal.overflow_sub-turns
-overflow_sub-turns c = omega (arith, ltb-true 0 c.loop-g.turns (and_right c.loop-g.g.on (ltb 0 c.loop-g.turns) c.loop-g-test.true))
-
-pub loop-g-smaller : goal.loop-g-smaller
-loop-g-smaller c = omega (arith, ltb-true 0 c.loop-g.turns (and_right c.loop-g.g.on (ltb 0 c.loop-g.turns) c.loop-g-test.true))
-
-pub loop-g-preserved : goal.loop-g-preserved
-loop-g-preserved c =
-    let l = c.loop-g in
-    let r = c.read_on-g.ensures in
-    let t = c.loop-g-test.true in
-    let n : 0 < l.turns = ltb-true 0 l.turns (and_right l.g.on (ltb 0 l.turns) t) in
-    (r.0, omega arith, omega arith, ongoing-more _ _ _ _ _ _ l.invariant.3 _ _ _ _ (omega arith) (and_left l.g.on (ltb 0 l.turns) t) r.1)
-
-pub shape_of-mem : goal.shape_of-mem
-shape_of-mem c = omega arith
-
-pub shape_of-out : goal.shape_of-out
-shape_of-out c = omega arith
+pub loop-preserved : goal.loop-preserved
+loop-preserved c = ongoing-more _ c.args.out.now c.put_bench-end.new.out (first-lines _ _ _ _ _ c.bench.view_is c.put_bench-end.ensures.1) _ _ _ c.loop.invariant c.fill-n.new.room c.fill-n.result c.fill-n.ensures (omega arith) _ _ _ c.step-end.ensures.0 (omega arith)
 
 pub returns : goal.returns
-returns c = watched-by _ _ _ _ _ _ _ _ c.put_bench-end.ensures.1 c.loop-g.invariant.3 c.loop-g-test.false
+returns c = watched-over _ c.args.out.now _ (first-lines _ _ _ _ _ c.bench.view_is c.put_bench-end.ensures.1) _ _ _ c.loop.invariant (omega arith)

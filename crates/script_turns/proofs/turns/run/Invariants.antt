@@ -1,14 +1,10 @@
--- After each turn one record more has been run.
+-- After each turn one record more has been run, and those behind it are left.
 use mathlib.Core.Path.{◌≡◌}
-use Prim.Native.Nat.{◌≤◌, ◌*◌, ◌/◌, ◌-◌}
+use Prim.Native.Nat.{◌≤◌}
 use lib.ListN.{length}
 use Rattle.script_turns.proofs.turns.Going.{Going}
 use Rattle.script_turns.proofs.turns.run.Given as goal
 
-abbrev pub invariant-loop-i : goal.invariant-loop-i
-invariant-loop-i l = (l.i ≤ l.count) × (4 * l.count ≤ length l.records) × (length l.records ≤ length l.initial.out) × (l.count ≡ length l.records / 4)
-    × (length l.out ≡ length l.initial.out)
-    × Going (record { bus = l.initial.x.bus; memory = l.initial.mem }) l.records l.initial.out l.i l.x.bus l.mem l.out l.end
-
-abbrev pub decreases-loop-i : goal.decreases-loop-i
-decreases-loop-i l = l.count - l.i
+abbrev pub invariant-loop-four : goal.invariant-loop-four
+invariant-loop-four l = (l.four-iterator.size ≡ 4) × (length l.out ≡ length l.initial.out) × (length l.records ≤ length l.initial.out)
+    × Going l.initial.bench l.records l.initial.out (length l.yielded) l.bench l.out l.end l.four-iterator.rest.now
