@@ -1,3 +1,4 @@
 pub mod Heeded
 pub mod ReadOut
 pub mod Signals
+pub mod Open

@@ -2,3 +2,4 @@ pub mod Foreseen
 pub mod Shown
 pub mod Stepped
 pub mod Taken
+pub mod Open
