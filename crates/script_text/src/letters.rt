@@ -1,8 +1,10 @@
 // The answers as lines, put into a lent output: the paper's letters, digits and numbers; and numbers in decimal.
+// Kept: a slice with a place beside it, here and in the crates above. A struct of the two proves as well (tried), but each of its methods then needs a
+// clause more, that it still holds the same slice, and each step of a program, which is lent the slice alone, would wrap it and take the place out.
+// Kept: printing by `put` and not by Display: std's `write!` promises its bytes only on Ok, and no clause says when it is Ok; here every byte is promised.
 ghost use Rattle.std.specs.Prelude.{◌≡◌, ◌∷◌, [], ◌+◌, ◌≤◌, ◌<◌, length};
 ghost use Rattle.std.proofs.lemmas.List.Edits.{sets};
-ghost use Rattle.rules.specs.Events.{refusal_number};
-ghost use Rattle.script_text.specs.Decimal.{digit, decimal};
+ghost use Rattle.script_text.specs.Decimal.{decimal};
 ghost use Rattle.script_text.specs.Letters.{hex_digit, answer_text, line_of, short_line, refusal_line};
 
 use rules::{Answer, Refusal};
@@ -14,24 +16,6 @@ pub fn hex_digit(n: u8) -> u8
     ensures { result ≡ hex_digit n }
 {
     if n < 10 { b'0' + n } else { b'A' + (n - 10) }
-}
-
-// The paper's number of a refusal.
-fn number_of(r: Refusal) -> u8
-    ensures { result ≡ refusal_number r }
-{
-    match r {
-        Refusal::MemoryLength => 1,
-        Refusal::UnknownKind => 2,
-        Refusal::WrongSlot => 3,
-        Refusal::WrongValue => 4,
-        Refusal::WrongSetup => 5,
-        Refusal::WrongState => 6,
-        Refusal::ProtectedPage => 7,
-        Refusal::Busy => 8,
-        Refusal::TooShort => 9,
-        Refusal::WrongForm => 10,
-    }
 }
 
 // A text, or any other elements, put at a place; the place after them.
@@ -88,7 +72,7 @@ fn put_number(out: &mut [u8], at: usize, r: Refusal) -> usize
         × (out.new ≡ sets out.old at (answer_text (Answer.Refused r))) }
 {
     let end = put(out, at, b"R");
-    put_decimal(out, end, usize::from(number_of(r)))
+    put_decimal(out, end, usize::from(u8::from(r)))
 }
 
 // An answer's text without a line's end, put at a place; the place after it.

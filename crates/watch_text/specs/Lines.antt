@@ -51,6 +51,15 @@ number_texts [] ns = []
 number_texts (name ∷ more) [] = []
 number_texts (name ∷ more) (n ∷ ns) = number_text name n ++ number_texts more ns
 
+-- the same of names by their bytes, as the code has them
+unfoldable pub text_of : List ℕ → ℕ → List ℕ
+text_of name n = 0x20 ∷ name ++ 0x3D ∷ decimal n
+
+unfoldable pub texts_of : List (List ℕ) → List ℕ → List ℕ
+texts_of [] ns = []
+texts_of (name ∷ more) [] = []
+texts_of (name ∷ more) (n ∷ ns) = text_of name n ++ texts_of more ns
+
 -- "the slot, and `name=number` for each field in a fixed order"
 unfoldable pub slot_line : ℕ → Slot → List ℕ
 slot_line n s = decimal n ++ (number_texts (names s) (numbers_of s) ++ 0x0A ∷ [])

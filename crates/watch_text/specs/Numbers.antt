@@ -1,6 +1,6 @@
 -- Every number of a slot, in the order of its line. A later request puts its numbers behind the last.
 -- Assumes nothing.
-use Rattle.std.specs.Prelude.{ℕ, Bool, cond, List, [], ◌∷◌, ◌++◌, map}
+use Rattle.std.specs.Prelude.{ℕ, ◌-◌, Bool, cond, List, [], ◌∷◌, ◌++◌, map, length, replicate}
 use Rattle.rules.specs.declared.Older.{Older}
 use Rattle.rules.specs.declared.Phase.{Phase}
 use Rattle.rules.specs.declared.Phase.TheVariants.{Idle, Control, Deaf, MemoryCounter, MemoryData, MemoryRead, HalfSelected, CommandAddress, CommandData, CommandStop, SensorPointer, SensorHigh, SensorLow, SensorReadHigh, SensorReadLow}
@@ -58,3 +58,10 @@ unfoldable pub numbers_of : Slot → List ℕ
 numbers_of s =
     plain_numbers s ++ (map bit s.protection ++ (map bit s.coming ++ (s.latch ++ (map bit s.marks ++ (sensor_numbers s.sensor
     ++ kind_numbers s)))))
+
+-- numbers with noughts behind them, so that there are as many whatever a slot's kind: three of its kind, and sixty in all
+unfoldable pub three : List ℕ → List ℕ
+three ns = ns ++ replicate (3 - length ns) 0
+
+unfoldable pub sixty : List ℕ → List ℕ
+sixty ns = ns ++ replicate (60 - length ns) 0

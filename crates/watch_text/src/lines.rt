@@ -1,68 +1,117 @@
 // Slots' lines, put into a lent output: a slot's own, and those of all present slots whose numbers changed.
-ghost use Rattle.std.specs.Prelude.{◌≡◌, cond, ◌∷◌, [], ◌+◌, ◌≤◌, ◌<◌, eqb, length, get_or};
+ghost use Rattle.std.specs.Prelude.{◌≡◌, ◌+◌, ◌≤◌, length, map};
 ghost use Rattle.std.proofs.lemmas.List.Edits.{sets};
-ghost use Rattle.script_text.specs.Decimal.{decimal};
+ghost use Rattle.script_text.specs.Quoted.{quoted};
 ghost use Rattle.watch_text.specs.Numbers.{numbers_of};
-ghost use Rattle.watch_text.specs.Lines.{names, signed, number_texts, slot_line, change_line, change_lines, bench_lines};
+ghost use Rattle.watch_text.specs.Lines.{kind_names, names, text_of, texts_of, number_texts, slot_line, change_line, change_lines, bench_lines};
 
 use super::numbers;
 use rules::{Bus, Slot};
+use script_text::letters::{put, put_decimal};
 
-// The names of a slot's numbers, as they stand in its line: each behind a space, with a sign behind it for its number to follow. First those that
-// every slot has, then the EVENT pin's and an older module's.
-const NAMES: [u8; 483] =
-    *b" kind= length= left= half= counter= place= voltage= phase= protection0= protection1= protection2= protection3= coming0= coming1= coming2= coming3= latch0= latch1= latch2= latch3= latch4= latch5= latch6= latch7= latch8= latch9= latch10= latch11= latch12= latch13= latch14= latch15= mark0= mark1= mark2= mark3= mark4= mark5= mark6= mark7= mark8= mark9= mark10= mark11= mark12= mark13= mark14= mark15= pointer= configuration= high= low= critical= temperature= resolution= timeout= word=";
+// The names of a slot's numbers, in their order: first those that every slot has, then the EVENT pin's and an older module's.
+const NAMES: [&str; 57] = [
+    "kind",
+    "length",
+    "left",
+    "half",
+    "counter",
+    "place",
+    "voltage",
+    "phase",
+    "protection0",
+    "protection1",
+    "protection2",
+    "protection3",
+    "coming0",
+    "coming1",
+    "coming2",
+    "coming3",
+    "latch0",
+    "latch1",
+    "latch2",
+    "latch3",
+    "latch4",
+    "latch5",
+    "latch6",
+    "latch7",
+    "latch8",
+    "latch9",
+    "latch10",
+    "latch11",
+    "latch12",
+    "latch13",
+    "latch14",
+    "latch15",
+    "mark0",
+    "mark1",
+    "mark2",
+    "mark3",
+    "mark4",
+    "mark5",
+    "mark6",
+    "mark7",
+    "mark8",
+    "mark9",
+    "mark10",
+    "mark11",
+    "mark12",
+    "mark13",
+    "mark14",
+    "mark15",
+    "pointer",
+    "configuration",
+    "high",
+    "low",
+    "critical",
+    "temperature",
+    "resolution",
+    "timeout",
+    "word",
+];
 
-const PIN_NAMES: [u8; 26] = *b" asserted= level= pending=";
+const PIN_NAMES: [&str; 3] = ["asserted", "level", "pending"];
 
-const OLDER_NAMES: [u8; 35] = *b" permanent= lasting= write-protect=";
+const OLDER_NAMES: [&str; 3] = ["permanent", "lasting", "write-protect"];
 
-// A character of the names, and behind a sign the number at place k, put at a place of the output; the place after them.
-fn put_next(out: &mut [u8], at: usize, b: u8, s: Slot, k: usize) -> usize
-    requires { at + 6 ≤ length out.old }
-    ensures { (result ≡ at + length (b ∷ cond (eqb b 0x3D) (decimal (get_or (numbers_of s) k 0)) []))
-        × (out.new ≡ sets out.old at (b ∷ cond (eqb b 0x3D) (decimal (get_or (numbers_of s) k 0)) [])) × (result ≤ at + 6) }
+// A number by its name, put at a place; the place after it.
+#[tactic(auto, unfolding(crate::specs::Lines::text_of))]
+fn put_text(out: &mut [u8], at: usize, name: &str, number: u16) -> usize
+    requires { at + length (text_of name.now number) ≤ length out.old }
+    ensures { (result ≡ at + length (text_of name.now number)) × (out.new ≡ sets out.old at (text_of name.now number)) }
 {
-    let next = script_text::letters::put_one(out, at, b);
-    if b == b'=' {
-        return script_text::letters::put_decimal(out, next, numbers::number(s, k) as usize);
-    }
-    next
+    let start = put(out, at, b" ");
+    let sign = put(out, start, name.as_bytes());
+    let digits = put(out, sign, b"=");
+    put_decimal(out, digits, usize::from(number))
 }
 
-// The place of the number that comes next.
-fn counted(k: usize, b: u8) -> usize
-    requires { k ≤ 518 }
-    ensures { (result ≡ k + cond (eqb b 0x3D) 1 0) × (result ≤ k + 1) }
+// Numbers by their names, of which there may be fewer, or more; the place after them.
+fn put_texts(out: &mut [u8], from: usize, names: &[&str], numbers: &[u16]) -> usize
+    requires { from + length (texts_of (map (λ name. name.now) names.now) numbers.now) ≤ length out.old }
+    ensures { (result ≡ from + length (texts_of (map (λ name. name.now) names.now) numbers.now))
+        × (out.new ≡ sets out.old from (texts_of (map (λ name. name.now) names.now) numbers.now)) }
 {
-    if b == b'=' { k + 1 } else { k }
+    let mut at = from;
+    for (name, number) in names.iter().zip(numbers) {
+        at = put_text(out, at, name, *number);
+    }
+    at
 }
 
-// How many characters a slot's names have, by its kind.
-fn named(s: Slot) -> usize
-    ensures { (result ≡ length (signed (names s))) × (result ≤ 518) }
+// Those that a slot has by its kind.
+fn put_own(out: &mut [u8], at: usize, s: Slot, numbers: &[u16]) -> usize
+    requires { at + length (texts_of (map quoted (kind_names s)) numbers.now) ≤ length out.old }
+    ensures { (result ≡ at + length (texts_of (map quoted (kind_names s)) numbers.now))
+        × (out.new ≡ sets out.old at (texts_of (map quoted (kind_names s)) numbers.now)) }
 {
-    if s.kind == 2 {
-        return 509;
+    if s.has_sensor() {
+        put_texts(out, at, &PIN_NAMES, numbers)
+    } else if s.is_older() {
+        put_texts(out, at, &OLDER_NAMES, numbers)
+    } else {
+        at
     }
-    if s.kind == 3 {
-        return 518;
-    }
-    483
-}
-
-// The character at a place of them.
-fn letter(s: Slot, i: usize) -> u8
-    requires { i < length (signed (names s)) }
-    ensures { result ≡ get_or (signed (names s)) i 0 }
-{
-    if i < 483 {
-        return NAMES[i];
-    }
-    if s.kind == 2 {
-        return PIN_NAMES[i - 483];
-    }
-    OLDER_NAMES[i - 483]
 }
 
 // All numbers of a slot with their names; the place after them.
@@ -71,15 +120,9 @@ fn put_numbers(out: &mut [u8], from: usize, s: Slot) -> usize
     ensures { (result ≡ from + length (number_texts (names s) (numbers_of s)))
         × (out.new ≡ sets out.old from (number_texts (names s) (numbers_of s))) × (result ≤ from + 3108) }
 {
-    let mut at = from;
-    let mut k = 0;
-    let size = named(s);
-    for i in 0..size {
-        let b = letter(s, i);
-        at = put_next(out, at, b, s, k);
-        k = counted(k, b);
-    }
-    at
+    let all = numbers::numbers(s);
+    let own = put_texts(out, from, &NAMES, &all);
+    put_own(out, own, s, &all[numbers::COMMON..])
 }
 
 // A slot's line: its number, all its numbers by their names, and the line's end.
@@ -87,18 +130,19 @@ fn put_slot(out: &mut [u8], at: usize, n: usize, s: Slot) -> usize
     requires { (n ≤ 8) × (at + 3110 ≤ length out.old) }
     ensures { (result ≡ at + length (slot_line n s)) × (out.new ≡ sets out.old at (slot_line n s)) × (result ≤ at + 3110) }
 {
-    let first = script_text::letters::put_decimal(out, at, n);
+    let first = put_decimal(out, at, n);
     let last = put_numbers(out, first, s);
-    script_text::letters::put_one(out, last, b'\n')
+    put(out, last, b"\n")
 }
 
 // The line of a slot that is present and whose numbers are no longer what they were; of any other nothing.
+#[tactic(auto, unfolding(crate::specs::Lines::change_line))]
 fn put_change(out: &mut [u8], at: usize, n: usize, was: Slot, is: Slot) -> usize
     requires { (n ≤ 8) × (at + 3110 ≤ length out.old) }
     ensures { (result ≡ at + length (change_line n was is)) × (out.new ≡ sets out.old at (change_line n was is))
         × (result ≤ at + 3110) }
 {
-    if (is.kind == 0) | numbers::same_numbers(was, is) {
+    if is.is_absent() || numbers::same_numbers(was, is) {
         return at;
     }
     put_slot(out, at, n, is)
@@ -111,10 +155,8 @@ pub fn put_changes(out: &mut [u8], from: usize, was: [Slot; 8], is: [Slot; 8]) -
         × (result ≤ from + 24880) }
 {
     let mut at = from;
-    for n in 0..8usize {
-        let a = was[n];
-        let b = is[n];
-        at = put_change(out, at, n, a, b);
+    for (n, (was, is)) in was.iter().zip(&is).enumerate() {
+        at = put_change(out, at, n, *was, *is);
     }
     at
 }
@@ -124,8 +166,5 @@ pub fn put_bench(out: &mut [u8], bus: Bus) -> usize
     requires { 24880 ≤ length out.old }
     ensures { (result ≡ length (bench_lines bus)) × (out.new ≡ sets out.old 0 (bench_lines bus)) × (result ≤ 24880) }
 {
-    let none = bus_setup::empty_bus();
-    let was = none.slots;
-    let is = bus.slots;
-    put_changes(out, 0, was, is)
+    put_changes(out, 0, bus_setup::empty_bus().slots, bus.slots)
 }

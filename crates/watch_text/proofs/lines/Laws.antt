@@ -1,39 +1,38 @@
--- Names with a number behind each: a text put character by character, as the code does it, is that of the definition; and lines one behind the other.
+-- Names with a number behind each, put one behind the other, as the code does it, are the text of the definition; and so are lines.
 -- Assumes nothing.
-use mathlib.Core.Path.{◌≡◌, refl, sym, ◌∙◌, ap, ap₂}
-use mathlib.Core.Bool.{Bool, true, false, false≢true, cond, not, ◌||◌}
-use mathlib.Core.List.{List, [], ◌∷◌, ◌++◌, append_assoc, append-nil}
-use Prim.Native.Nat.{ℕ, zero, suc, ◌+◌, ◌-◌, ◌≤◌, ◌<◌}
+use mathlib.Core.Path.{◌≡◌, refl, sym, ◌∙◌, ap}
+use mathlib.Core.Bool.{Bool, true, false, false≢true, cond, not}
+use mathlib.Core.List.{List, [], ◌∷◌, ◌++◌, map, append_assoc, append-nil}
+use Prim.Native.Nat.{ℕ, zero, suc, ◌+◌, ◌-◌, ◌≤◌, ◌<◌, min}
 use Prim.Native.String.{String}
-use native.Mathlib.Nat.{add-zero, zero-add}
+use native.Mathlib.Nat.{zero-add}
 use native.Mathlib.Numerals.{add-one}
 use native.Mathlib.Omega.{arith}
-use borrow.Author.Tests.{eq-eqb, ne_eqb}
 use lib.Dec.{eqb}
-use lib.ListN.{length, get_or, drop, length-append, get_or-append}
-use lib.Seq.{sets, drop-cons, drop-drop, get_or-drop, get_or-append-add}
+use lib.ListN.{length, get_or, take, drop, replicate, length-append, length-map, length-drop, length-replicate, get_or-map}
+use Rattle.std.proofs.Common.{take_all}
+use Rattle.std.proofs.lemmas.List.{map-append}
+use Rattle.std.proofs.lemmas.List.FromFn.{length-enumerate_from, get_or-enumerate_from}
+use Rattle.std.proofs.lemmas.Slice.Zip.{length-zip, get_or-zip}
+use Rattle.std.specs.List.{enumerate_from, zip}
+use lib.Seq.{sets, length-sets, get_or-drop}
 use Rattle.proof_lists.specs.Each.{get_d_any}
 use Rattle.std.specs.List.{list_all}
-use Rattle.proof_lists.specs.Same.{same}
 use Rattle.proof_lists.specs.Tests.{by-test, and_left, and_right}
 use Rattle.rules.specs.declared.Bus.{Bus}
 use Rattle.rules.specs.declared.Slot.{Slot}
-use Rattle.rules.specs.Modelled.{absent, sensing, older}
+use Rattle.rules.specs.Modelled.{sensing, older}
 use Rattle.rules.specs.Fresh.{absent_slot}
 use Rattle.rules.specs.Refusals.{empty_bus}
 use Rattle.script_text.specs.Decimal.{decimal}
 use Rattle.script_text.specs.Quoted.{quoted}
 use Rattle.script_text.proofs.letters.Decimal.{decimal-one, digits-most}
 use Rattle.script_text.proofs.letters.Laws.{Put, put_on}
-use Rattle.watch_text.specs.Numbers.{numbers_of}
-use Rattle.watch_text.proofs.numbers.Laws.{count_of}
-use Rattle.watch_text.specs.Lines.{common_names, pin_names, older_names, kind_names, names, signed, number_text, number_texts, slot_line, change_line, change_lines_to, change_lines, bench_lines}
+use Rattle.watch_text.specs.Numbers.{numbers_of, sixty}
+use Rattle.watch_text.proofs.numbers.Laws.{count_of, at_most}
+use Rattle.watch_text.specs.Lines.{common_names, pin_names, older_names, kind_names, names, signed, number_text, number_texts, text_of, texts_of, slot_line, change_line, change_lines_to, change_lines, bench_lines}
 
--- how many characters the names have that a slot has by its kind
-abbrev pub kind_letters : ℕ → ℕ
-kind_letters kind = cond (eqb kind 2) 26 (cond (eqb kind 3) 35 0)
-
--- a text with the next of some numbers behind each sign
+-- a text put character by character, with the next of some numbers behind each sign; docs/PORT.md names what it comes to
 abbrev pub sign : ℕ → Bool
 sign c = eqb c 0x3D
 
@@ -69,134 +68,139 @@ told_names (name ∷ ss) (n ∷ ns) h l =
     ∙ sym (append_assoc (quoted name) (0x3D ∷ decimal n) (number_texts ss ns)) in
     ap (λ (l : List ℕ). 0x20 ∷ l) p
 
--- THE NAMES OF A SLOT: those of its kind stand behind the others, which have 483 characters
-kind-names : (P : ℕ → List String → Type 0) (s : Slot) → P 26 pin_names → P 35 older_names → P 0 [] → P (kind_letters s.kind) (kind_names s)
+-- names in quotes by their bytes
+pub texts-quoted : (ss : List String) (ns : List ℕ) → texts_of (map quoted ss) ns ≡ number_texts ss ns
+unfolding texts_of text_of number_texts number_text
+texts-quoted [] ns = refl
+texts-quoted (name ∷ ss) [] = refl
+texts-quoted (name ∷ ss) (n ∷ ns) = ap (number_text name n ++◌) (texts-quoted ss ns)
+
+-- names behind others have the numbers that are left, and numbers that no name is for are not put
+texts-append : (xs ys : List (List ℕ)) (ns : List ℕ) → length xs ≤ length ns → texts_of (xs ++ ys) ns ≡ texts_of xs ns ++ texts_of ys (drop (length xs) ns)
+unfolding texts_of
+texts-append [] ys ns h = refl
+texts-append (x ∷ xs) ys [] h = absurd (omega arith)
+texts-append (x ∷ xs) ys (n ∷ ns) h =
+    ap (text_of x n ++◌) (texts-append xs ys ns (omega arith)) ∙ sym (append_assoc (text_of x n) (texts_of xs ns) (texts_of ys (drop (length xs) ns)))
+
+texts-enough : (xs : List (List ℕ)) (ns ms : List ℕ) → length xs ≤ length ns → texts_of xs (ns ++ ms) ≡ texts_of xs ns
+unfolding texts_of
+texts-enough [] ns ms h = refl
+texts-enough (x ∷ xs) [] ms h = absurd (omega arith)
+texts-enough (x ∷ xs) (n ∷ ns) ms h = ap (text_of x n ++◌) (texts-enough xs ns ms (omega arith))
+
+-- so many of them, the next, and those behind it
+abbrev pub front : List (List ℕ) → List ℕ → ℕ → List ℕ
+front xs ns k = texts_of (take k xs) (take k ns)
+
+texts-split : (xs : List (List ℕ)) (ns : List ℕ) (k : ℕ) → k < length xs → k < length ns
+    → texts_of xs ns ≡ front xs ns k ++ (text_of (get_or xs k []) (get_or ns k 0) ++ texts_of (drop (suc k) xs) (drop (suc k) ns))
+unfolding texts_of
+texts-split [] ns k h l = absurd (omega arith)
+texts-split (x ∷ xs) [] k h l = absurd (omega arith)
+texts-split (x ∷ xs) (n ∷ ns) zero h l = refl
+texts-split (x ∷ xs) (n ∷ ns) (suc k) h l =
+    ap (text_of x n ++◌) (texts-split xs ns k (omega arith) (omega arith))
+    ∙ sym (append_assoc (text_of x n) (front xs ns k) (text_of (get_or xs k []) (get_or ns k 0) ++ texts_of (drop (suc k) xs) (drop (suc k) ns)))
+
+texts-next : (xs : List (List ℕ)) (ns : List ℕ) (k : ℕ) → k < length xs → k < length ns
+    → front xs ns (suc k) ≡ front xs ns k ++ text_of (get_or xs k []) (get_or ns k 0)
+unfolding texts_of
+texts-next [] ns k h l = absurd (omega arith)
+texts-next (x ∷ xs) [] k h l = absurd (omega arith)
+texts-next (x ∷ xs) (n ∷ ns) zero h l = append-nil (text_of x n)
+texts-next (x ∷ xs) (n ∷ ns) (suc k) h l =
+    ap (text_of x n ++◌) (texts-next xs ns k (omega arith) (omega arith)) ∙ sym (append_assoc (text_of x n) (front xs ns k) (text_of (get_or xs k []) (get_or ns k 0)))
+
+-- a name by its place
+pub name-at : {A : Type 0} (f : A → List ℕ) (xs : List A) (k : ℕ) (x : A) → k < length xs → x ≡ get_or xs k x → f x ≡ get_or (map f xs) k []
+name-at f xs k x h e = ap f e ∙ sym (get_or-map f xs k x) ∙ get_d_any (map f xs) k (f x) [] (rw length-map h)
+
+-- the next has room where all have, and is put behind the others; with no next they are all
+module _ (xs : List (List ℕ)) (ns out₀ out : List ℕ) (from k at : ℕ) (g : Put out₀ from (front xs ns k) at out) (h : k < length xs) (l : k < length ns) where
+  pub next-room : from + length (texts_of xs ns) ≤ length out₀ → at + length (text_of (get_or xs k []) (get_or ns k 0)) ≤ length out
+  next-room r =
+      let t : List ℕ = text_of (get_or xs k []) (get_or ns k 0) in
+      let u : List ℕ = texts_of (drop (suc k) xs) (drop (suc k) ns) in
+      let e = ap length (texts-split xs ns k h l) ∙ length-append (front xs ns k) (t ++ u) in
+      rw (g.1, length-sets) (omega (arith, g.0, r, e, length-append t u))
+
+  pub next-put : (end : ℕ) (o : List ℕ) → Put out at (text_of (get_or xs k []) (get_or ns k 0)) end o → Put out₀ from (front xs ns (k + 1)) end o
+  next-put end o p = rw (add-one, texts-next xs ns k h l) (put_on out₀ out o from at end (front xs ns k) (text_of (get_or xs k []) (get_or ns k 0)) g p)
+
+pub front-all : (xs : List (List ℕ)) (ns : List ℕ) (k : ℕ) → k ≡ min (length xs) (length ns) → front xs ns k ≡ texts_of xs ns
+unfolding texts_of
+front-all [] ns zero e = refl
+front-all [] ns (suc k) e = absurd (omega arith)
+front-all (x ∷ xs) [] zero e = refl
+front-all (x ∷ xs) [] (suc k) e = absurd (omega arith)
+front-all (x ∷ xs) (n ∷ ns) zero e = absurd (omega arith)
+front-all (x ∷ xs) (n ∷ ns) (suc k) e = ap (text_of x n ++◌) (front-all xs ns k (omega arith))
+
+-- a number of two bytes has at most five digits, so with its name, space and sign it has seven characters more than its name
+pub number-room : (n : ℕ) → n < 65536 → length (decimal n) ≤ 5
+number-room n h = digits-most 4 n (omega arith)
+
+abbrev pub Small : List ℕ → Type 0
+Small ns = (i : ℕ) → get_or ns i 0 < 65536
+
+small-take : (k : ℕ) (ns : List ℕ) → Small ns → Small (take k ns)
+small-take zero ns h i = omega arith
+small-take (suc k) [] h i = omega arith
+small-take (suc k) (n ∷ ns) h zero = h 0
+small-take (suc k) (n ∷ ns) h (suc i) = small-take k ns (λ j. h (suc j)) i
+
+abbrev pub room : List (List ℕ) → ℕ
+room [] = 0
+room (x ∷ xs) = length x + 7 + room xs
+
+pub texts-room : (xs : List (List ℕ)) (ns : List ℕ) → Small ns → length (texts_of xs ns) ≤ room xs
+unfolding texts_of text_of
+texts-room [] ns h = omega arith
+texts-room (x ∷ xs) [] h = omega arith
+texts-room (x ∷ xs) (n ∷ ns) h =
+    let a = length-append (0x20 ∷ x) (0x3D ∷ decimal n) in
+    let b = length-append ((0x20 ∷ x) ++ (0x3D ∷ decimal n)) (texts_of xs ns) in
+    omega (arith, a, b, number-room n (h 0), texts-room xs ns (λ i. h (suc i)))
+
+-- THE NAMES OF A SLOT: those of its kind stand behind the others
+kind-names : (P : List String → Type 0) (s : Slot) → P pin_names → P older_names → P [] → P (kind_names s)
 unfolding kind_names sensing older
-kind-names P s f g h =
-    by-test (eqb s.kind 2) (λ e. rw e f) λ e. by-test (eqb s.kind 3) (λ o. rw (e, o) g) λ o. rw (e, o) h
+kind-names P s f g h = by-test (eqb s.kind 2) (λ e. rw e f) λ e. by-test (eqb s.kind 3) (λ o. rw (e, o) g) λ o. rw (e, o) h
 
-letters-of : (s : Slot) → length (signed (kind_names s)) ≡ kind_letters s.kind
-unfolding signed quoted pin_names older_names
-letters-of s = kind-names (λ n ss. length (signed ss) ≡ n) s refl refl refl
-
-signed-append : (xs ys : List String) → signed (xs ++ ys) ≡ signed xs ++ signed ys
-unfolding signed
-signed-append [] ys = refl
-signed-append (x ∷ xs) ys = ap (λ (l : List ℕ). 0x20 ∷ l) (ap (λ (l : List ℕ). quoted x ++ 0x3D ∷ l) (signed-append xs ys) ∙ sym (append_assoc (quoted x) (0x3D ∷ signed xs) (signed ys)))
+pub common-room : (ns : List ℕ) → Small ns → length (texts_of (map quoted common_names) ns) ≤ 768
+unfolding common_names quoted
+common-room ns h = texts-room (map quoted common_names) ns h
 
 module _ (s : Slot) where
-  parted : signed (names s) ≡ signed common_names ++ signed (kind_names s)
-  unfolding names
-  parted = signed-append common_names (kind_names s)
-
-  common-length : length (signed common_names) ≡ 483
-  unfolding signed common_names quoted
-  common-length = refl
-
-  pub names-length : length (signed (names s)) ≡ 483 + kind_letters s.kind
-  names-length = ap length parted ∙ length-append (signed common_names) (signed (kind_names s)) ∙ ap₂ ◌+◌ common-length (letters-of s)
-
-  pub common-at : (i : ℕ) → i < 483 → get_or (signed common_names) i 0 ≡ get_or (signed (names s)) i 0
-  common-at i h = sym (ap (λ (l : List ℕ). get_or l i 0) parted ∙ get_or-append (signed common_names) (signed (kind_names s)) 0 i (rw common-length h))
-
-  pub kind-names-at : (i : ℕ) → 483 ≤ i → get_or (signed (kind_names s)) (i - 483) 0 ≡ get_or (signed (names s)) i 0
-  kind-names-at i h =
-      let e : length (signed common_names) + (i - 483) ≡ i = omega (arith, common-length) in
-      sym (ap (λ (l : List ℕ). get_or l i 0) parted ∙ sym (ap (λ j. get_or (signed common_names ++ signed (kind_names s)) j 0) e)
-      ∙ get_or-append-add (signed common_names) (signed (kind_names s)) (i - 483) 0)
-
-  -- a character of them
-  module _ (i : ℕ) (h : i < length (signed (names s))) (l : 483 ≤ i) where
-    pub pin-letter : s.kind ≡ 2 → (i - 483 < 26) × (get_or (signed pin_names) (i - 483) 0 ≡ get_or (signed (names s)) i 0)
-    unfolding kind_names sensing
-    pin-letter e =
-        let n : kind_letters s.kind ≡ 26 = rw e in
-        let k : pin_names ≡ kind_names s = rw e in
-        (omega (arith, names-length, n), ap (λ ss. get_or (signed ss) (i - 483) 0) k ∙ kind-names-at i l)
-
-    pub older-letter : (s.kind ≡ 2 → ⊥) → (i - 483 < 35) × (get_or (signed older_names) (i - 483) 0 ≡ get_or (signed (names s)) i 0)
-    unfolding kind_names sensing older
-    older-letter e =
-        let f : eqb s.kind 2 ≡ false = ne_eqb s.kind 2 e in
-        by-test (eqb s.kind 3)
-        (λ o.
-        let n : kind_letters s.kind ≡ 35 = rw (f, o) in
-        let k : older_names ≡ kind_names s = rw (f, o) in
-        (omega (arith, names-length, n), ap (λ ss. get_or (signed ss) (i - 483) 0) k ∙ kind-names-at i l))
-        (λ o. let n : kind_letters s.kind ≡ 0 = rw (f, o) in absurd (omega (arith, names-length, n)))
-
-  -- with a number for each of them
-  unsigned : list_all (λ name. list_all (λ c. not (sign c)) (quoted name)) (names s) ≡ true
-  unfolding names common_names pin_names older_names quoted
-  unsigned = kind-names (λ n ss. list_all (λ name. list_all (λ c. not (sign c)) (quoted name)) ss ≡ true) s refl refl refl
-
+  -- as many as numbers
   as_many : length (names s) ≡ count_of s.kind
   unfolding names common_names pin_names older_names kind_names sensing older
   as_many = by-test (eqb s.kind 2) (λ e. rw e) λ e. by-test (eqb s.kind 3) (λ o. rw (e, o)) λ o. rw (e, o)
 
-  pub slot-told : (ns : List ℕ) → length ns ≡ count_of s.kind → told (signed (names s)) ns ≡ number_texts (names s) ns
-  slot-told ns l = told_names (names s) ns unsigned (l ∙ sym as_many)
+  -- with noughts behind the numbers: the names that every slot has, and those of its kind
+  pub slot-texts : (ns : List ℕ) → length ns ≡ count_of s.kind
+      → texts_of (map quoted common_names) (sixty ns) ++ texts_of (map quoted (kind_names s)) (take 3 (drop 57 (sixty ns))) ≡ number_texts (names s) ns
+  unfolding names common_names sixty
+  slot-texts ns l =
+      let m : length (map quoted (names s)) ≡ length ns = length-map (names s) quoted ∙ as_many ∙ sym l in
+      let c : length (sixty ns) ≡ 60 = rw (length-append, length-replicate) (omega (arith, l, at_most s.kind)) in
+      ap (λ vs. texts_of (map quoted common_names) (sixty ns) ++ texts_of (map quoted (kind_names s)) vs) (take_all 3 (drop 57 (sixty ns)) (rw length-drop (omega (arith, c))))
+      ∙ sym (texts-append (map quoted common_names) (map quoted (kind_names s)) (sixty ns) (omega (arith, c)))
+      ∙ sym (ap (λ xs. texts_of xs (sixty ns)) (map-append quoted common_names (kind_names s)))
+      ∙ texts-enough (map quoted (names s)) ns (replicate (60 - length ns) 0) (omega (arith, m)) ∙ texts-quoted (names s) ns
 
--- the first i characters of a text are put, with the first k numbers behind their signs
-pub record Telling (t ns from₀ : List ℕ) (from i k at : ℕ) (out : List ℕ) : Type 0 where
-  pub done : List ℕ
-  pub put : Put from₀ from done at out
-  pub rest : done ++ told (drop i t) (drop k ns) ≡ told t ns
-
-pub telling-none : (t ns out : List ℕ) (from : ℕ) → Telling t ns out from 0 0 from out
-telling-none t ns out from = record { done = []; put = (sym (add-zero from), refl); rest = refl }
-
-module _ (t ns out₀ : List ℕ) (from i k at : ℕ) (out : List ℕ) (g : Telling t ns out₀ from i k at out) where
-  pub telling-more : (b end : ℕ) (o : List ℕ) → i < length t → b ≡ get_or t i 0 → Put out at (b ∷ cond (sign b) (decimal (get_or ns k 0)) []) end o
-      → Telling t ns out₀ from (i + 1) (k + cond (sign b) 1 0) end o
-  unfolding told
-  telling-more b end o h e p =
-      let piece : List ℕ = b ∷ cond (sign b) (decimal (get_or ns k 0)) [] in
-      let d : drop i t ≡ b ∷ drop (i + 1) t = drop-cons t i 0 h ∙ ap₂ ◌∷◌ (sym e) (ap (λ j. drop j t) (sym (add-one i))) in
-      let n : get_or (drop k ns) 0 0 ≡ get_or ns k 0 = get_or-drop k ns 0 0 ∙ ap (λ j. get_or ns j 0) (add-zero k) in
-      let r : told (drop i t) (drop k ns) ≡ piece ++ told (drop (i + 1) t) (drop (k + cond (sign b) 1 0) ns) =
-      ap (λ l. told l (drop k ns)) d
-      ∙ ap₂ (λ v l. (b ∷ cond (sign b) (decimal v) []) ++ told (drop (i + 1) t) l) n (drop-drop (cond (sign b) 1 0) k ns) in
-      record {
-        done = g.done ++ piece;
-        put = put_on out₀ out o from at end g.done piece g.put p;
-        rest = append_assoc g.done piece _ ∙ ap (g.done ++◌) (sym r) ∙ g.rest;
-      }
-
-  pub telling-all : length t ≤ i → Put out₀ from (told t ns) at out
-  unfolding told
-  telling-all h =
-      let d : drop i t ≡ [] = drop_past i t h in
-      let e : g.done ≡ told t ns = sym (append-nil g.done) ∙ ap (λ l. g.done ++ told l (drop k ns)) (sym d) ∙ g.rest in
-      rw e at g.put
-    where
-      drop_past : (j : ℕ) (l : List ℕ) → length l ≤ j → drop j l ≡ []
-      drop_past zero [] h = refl
-      drop_past zero (x ∷ l) h = absurd (omega arith)
-      drop_past (suc j) [] h = refl
-      drop_past (suc j) (x ∷ l) h = drop_past j l (omega arith)
-
--- a number of two bytes has at most five digits
-pub number-room : (n : ℕ) → n < 65536 → length (decimal n) ≤ 5
-number-room n h = digits-most 4 n (omega arith)
+  pub own-room : (ns : List ℕ) → Small ns → length (texts_of (map quoted (kind_names s)) (take 3 (drop 57 ns))) ≤ 50
+  unfolding pin_names older_names quoted
+  own-room ns h =
+      let vs : List ℕ = take 3 (drop 57 ns) in
+      let g : Small vs = small-take 3 (drop 57 ns) (λ i. rw get_or-drop (h (57 + i))) in
+      kind-names (λ ss. length (texts_of (map quoted ss) vs) ≤ 50) s (omega (arith, texts-room (map quoted pin_names) vs g))
+      (omega (arith, texts-room (map quoted older_names) vs g)) (omega (arith, texts-room [] vs g))
 
 -- a text put at a place, with the place after it, which is so many bytes further at most
 abbrev pub Within : ℕ → List ℕ → ℕ → List ℕ → ℕ → List ℕ → Type 0
 Within most out at text end o = (end ≡ at + length text) × (o ≡ sets out at text) × (end ≤ at + most)
-
--- a sign with its number, and another character
-pub sign-by : (b v n at mid end : ℕ) (out o p : List ℕ) → b ≡ 0x3D → v < 65536 → v ≡ n → Put out at (b ∷ []) mid o → Put o mid (decimal v) end p
-    → Within 6 out at (b ∷ cond (sign b) (decimal n) []) end p
-sign-by b v n at mid end out o p e h f x y =
-    let q : Put out at ((b ∷ []) ++ decimal v) end p = put_on out o p at mid end (b ∷ []) (decimal v) x y in
-    let r : Put out at (b ∷ cond (sign b) (decimal n) []) end p = rw (eq-eqb b 0x3D e, ← f) q in
-    (r.0, r.1, omega (arith, x.0, y.0, number-room v h))
-
-pub other-by : (b n at end : ℕ) (out o : List ℕ) → (b ≡ 0x3D → ⊥) → Put out at (b ∷ []) end o
-    → Within 6 out at (b ∷ cond (sign b) (decimal n) []) end o
-other-by b n at end out o e x =
-    let r : Put out at (b ∷ cond (sign b) (decimal n) []) end o = rw (ne_eqb b 0x3D e) x in
-    (r.0, r.1, omega (arith, x.0))
 
 -- a slot's number is one digit
 pub slot-room : (n : ℕ) → n < 10 → length (decimal n) ≡ 1
@@ -210,24 +214,20 @@ line-by n s out o p q at first last end f g h =
     put_on out o q at first end (decimal n) (number_texts (names s) (numbers_of s) ++ 0x0A ∷ []) f
     (put_on o p q first last end (number_texts (names s) (numbers_of s)) (0x0A ∷ []) g h)
 
--- a slot that is not told, and one that is
-pub change-none : (n : ℕ) (was is : Slot) → (absent is || same (numbers_of was) (numbers_of is)) ≡ true → change_line n was is ≡ []
-unfolding change_line
-change-none n was is e = rw e
+-- eight slots, each as it was and as it is, one by one: which the next is
+pub slot-turn : (was is : List Slot) (k n : ℕ) (a b : Slot) → k < length (enumerate_from 0 (zip was is))
+    → (n, (a, b)) ≡ get_or (enumerate_from 0 (zip was is)) k (n, (a, b))
+    → (k < length was) × (k < length is) × (n ≡ k) × (get_or was k a ≡ a) × (get_or is k b ≡ b)
+slot-turn was is k n a b h e =
+    let l : length (enumerate_from 0 (zip was is)) ≡ min (length was) (length is) = length-enumerate_from 0 (zip was is) ∙ length-zip was is in
+    let i : k < length was = omega (arith, l) in
+    let j : k < length is = omega (arith, l) in
+    let p = e ∙ get_or-enumerate_from 0 (zip was is) k (n, (a, b)) (rw length-zip (omega arith)) in
+    let q = ap (λ (x : ℕ × (Slot × Slot)). x.1) p ∙ get_or-zip was is k (a, b) i j in
+    (i, j, ap (λ (x : ℕ × (Slot × Slot)). x.0) p ∙ zero-add k, sym (ap (λ (x : Slot × Slot). x.0) q), sym (ap (λ (x : Slot × Slot). x.1) q))
 
-pub change-some : (n : ℕ) (was is : Slot) → (absent is || same (numbers_of was) (numbers_of is)) ≡ false → change_line n was is ≡ slot_line n is
-unfolding change_line
-change-some n was is e = rw e
-
-pub untold : (n at : ℕ) (was is : Slot) (out : List ℕ) (alike : Bool) → alike ≡ same (numbers_of was) (numbers_of is) → (eqb is.kind 0 || alike) ≡ true
-    → Within 3110 out at (change_line n was is) at out
-unfolding absent
-untold n at was is out alike e t = rw (change-none n was is (rw e at t)) (omega arith, refl, omega arith)
-
-pub told-so : (n at end : ℕ) (was is : Slot) (out o : List ℕ) (alike : Bool) → alike ≡ same (numbers_of was) (numbers_of is) → (eqb is.kind 0 || alike) ≡ false
-    → Within 3110 out at (slot_line n is) end o → Within 3110 out at (change_line n was is) end o
-unfolding absent
-told-so n at end was is out o alike e t p = rw (change-some n was is (rw e at t)) p
+pub slots-eight : (was is : List Slot) → length was ≡ 8 → length is ≡ 8 → length (enumerate_from 0 (zip was is)) ≡ 8
+slots-eight was is h l = length-enumerate_from 0 (zip was is) ∙ length-zip was is ∙ rw (h, l)
 
 -- one slot more, whatever would stand behind the last
 pub changes-step : (n at mid end : ℕ) (was is : List Slot) (d e : Slot) (out o p : List ℕ) → n < length was → n < length is

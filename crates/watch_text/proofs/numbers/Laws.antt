@@ -1,24 +1,31 @@
 -- Where each number of a slot stands among all of them.
 -- Assumes nothing.
-use mathlib.Core.Path.{◌≡◌, refl, sym, ◌∙◌, ap, ap₂}
+use mathlib.Core.Path.{◌≡◌, refl, sym, ◌∙◌, ap, subst}
 use mathlib.Core.Bool.{Bool, true, false, cond, ◌&&◌, and-true}
-use mathlib.Core.List.{List, [], ◌∷◌, ◌++◌, map}
+use mathlib.Core.List.{List, [], ◌∷◌, ◌++◌, map, append_assoc, append-nil}
 use Prim.Native.Nat.{ℕ, zero, suc, ◌+◌, ◌-◌, ◌≤◌, ◌<◌}
-use native.Mathlib.Nat.{zero-add}
 use native.Mathlib.Omega.{arith}
 use borrow.Author.Tests.{eqb-true, eq-eqb, ne_eqb}
 use lib.Dec.{eqb}
 use lib.ListN.{length, get_or, take, drop, replicate, length-append, length-map, length-replicate, get_or-append, get_or-map}
-use lib.Seq.{get_or-append-add}
-use Rattle.proof_lists.specs.Same.{same, same_refl, same-append, stands-step, stands-start, stands-end, stands-whole}
+use lib.Pointwise.{pointwise}
+use lib.Seq.{get_or-append-add, ext_get_or, sets, sets-eq}
+use mir.Val.{bool_byte}
+use denote.Enum.Declared.{tag_of}
+use denote.Param.Members.{Mut}
+use Rattle.std.proofs.Common.{drop_of_length-le}
+use Rattle.std.specs.Array.{MapsFrom, IsMapOf}
+use Rattle.std.specs.Fn.{Called}
+use Rattle.proof_lists.specs.Same.{same, same_refl, same-append, stands-end, stands-whole}
 use Rattle.proof_lists.specs.Tests.{by-test}
 use Rattle.rules.specs.declared.Older.{Older}
-use Rattle.rules.specs.declared.Pin.{Pin}
+use Rattle.rules.specs.declared.Phase.{Phase}
+use Rattle.rules.specs.declared.Phase.TheVariants.{Idle, Control, Deaf, MemoryCounter, MemoryData, MemoryRead, HalfSelected, CommandAddress, CommandData, CommandStop, SensorPointer, SensorHigh, SensorLow, SensorReadHigh, SensorReadLow}
+use Rattle.rules.specs.contracts.Phase.{the_type}
 use Rattle.rules.specs.declared.Sensor.{Sensor}
 use Rattle.rules.specs.declared.Slot.{Slot}
 use Rattle.rules.specs.Modelled.{sensing, older}
-use Rattle.rules.specs.Pin.{pin_of}
-use Rattle.watch_text.specs.Numbers.{bit, plain_numbers, sensor_numbers, pin_numbers, older_numbers, kind_numbers, numbers_of}
+use Rattle.watch_text.specs.Numbers.{bit, phase_number, plain_numbers, sensor_numbers, pin_numbers, older_numbers, kind_numbers, numbers_of, three, sixty}
 
 -- how many a slot has by its kind, and how many in all
 abbrev pub kind_count : ℕ → ℕ
@@ -59,10 +66,52 @@ pub older-length : (x : Older) → length (older_numbers x) ≡ 3
 unfolding older_numbers
 older-length x = refl
 
-pub pin-by : (x : Sensor) (p : Pin) (a l q : ℕ) → p ≡ pin_of x → a ≡ bit p.asserted → l ≡ bit p.level → q ≡ bit x.pending
-    → a ∷ l ∷ q ∷ [] ≡ pin_numbers x
-unfolding pin_numbers pin_of
-pin-by x p a l q e f g h = λ i. (f ∙ ap (λ (z : Pin). bit z.asserted) e) i ∷ (g ∙ ap (λ (z : Pin). bit z.level) e) i ∷ h i ∷ []
+-- the numbers of some bits or bytes, as `map` gives them
+module _ {F A B : Type 0} (g : Mut F (A × Unit {0}) B) (h : A → B) (f : F) (step : (x : A) (y : B) (q : F) → Called g f (x, tt) y q → (y ≡ h x) × (q ≡ f))
+    (xs : List A) (ys : List B) where
+  each : (n i : ℕ) → MapsFrom g f xs ys i n → (k j : ℕ) (d : A) (e : B) → k < n → i + k ≡ j → get_or ys j e ≡ h (get_or xs j d)
+  each zero i m k j d e l w = absurd (omega arith)
+  each (suc n) i m zero j d e l w =
+      let here : i ≡ j = omega arith in rw (← here) (m.4.1 e ∙ (step m.1 m.2 m.0 m.5).0 ∙ ap h (sym (m.3.1 d)))
+  each (suc n) i m (suc k) j d e l w =
+      each n (i + 1) (subst (λ q. MapsFrom g q xs ys (i + 1) n) (step m.1 m.2 m.0 m.5).1 m.6) k j d e (omega arith) (omega arith)
+
+  pub mapped : (n : ℕ) (d : A) → length xs ≡ n → IsMapOf g f xs ys n → ys ≡ map h xs
+  mapped n d l m =
+      ext_get_or (h d) ys (map h xs) (m.long ∙ sym l ∙ sym (length-map xs h)) (λ k i.
+      each n 0 m.each k k d (h d) (rw (← m.long) i) (omega arith) ∙ sym (get_or-map h xs k d))
+
+-- a bit and a phase as numbers
+pub bit-byte : (b : Bool) → bool_byte b ≡ bit b
+unfolding bit
+bit-byte true = refl
+bit-byte false = refl
+
+pub phase-tag : (p : Phase) → tag_of the_type p ≡ phase_number p
+unfolding phase_number
+phase-tag Idle = refl
+phase-tag Control = refl
+phase-tag Deaf = refl
+phase-tag MemoryCounter = refl
+phase-tag MemoryData = refl
+phase-tag MemoryRead = refl
+phase-tag HalfSelected = refl
+phase-tag CommandAddress = refl
+phase-tag CommandData = refl
+phase-tag CommandStop = refl
+phase-tag SensorPointer = refl
+phase-tag SensorHigh = refl
+phase-tag SensorLow = refl
+phase-tag SensorReadHigh = refl
+phase-tag SensorReadLow = refl
+
+-- lists compared pair by pair
+pub paired : (xs ys : List ℕ) → pointwise eqb xs ys ≡ same xs ys
+unfolding same
+paired [] [] = refl
+paired [] (y ∷ ys) = refl
+paired (x ∷ xs) [] = refl
+paired (x ∷ xs) (y ∷ ys) = ap (eqb x y &&◌) (paired xs ys)
 
 -- those that a slot has by its kind: with a sensor, of an older module, and of any other kind; at most three
 module _ (s : Slot) where
@@ -78,13 +127,6 @@ module _ (s : Slot) where
   unfolding kind_numbers sensing older
   other-has e f = rw (ne_eqb s.kind 2 e, ne_eqb s.kind 3 f)
 
-  -- the number at a place of them, as the code has it
-  pub sensing-at : (k : ℕ) (all : List ℕ) → s.kind ≡ 2 → all ≡ pin_numbers s.sensor → get_or all k 0 ≡ get_or (kind_numbers s) k 0
-  sensing-at k all e f = ap (λ (l : List ℕ). get_or l k 0) (f ∙ sym (sensing-has e))
-
-  pub older-at : (k : ℕ) (all : List ℕ) → s.kind ≡ 3 → all ≡ older_numbers s.old → get_or all k 0 ≡ get_or (kind_numbers s) k 0
-  older-at k all e f = ap (λ (l : List ℕ). get_or l k 0) (f ∙ sym (older-has e))
-
   pub other_at : (k : ℕ) → (s.kind ≡ 2 → ⊥) → (s.kind ≡ 3 → ⊥) → 0 ≡ get_or (kind_numbers s) k 0
   other_at k e f = ap (λ (l : List ℕ). get_or l k 0) (sym (other-has e f))
 
@@ -93,14 +135,6 @@ module _ (s : Slot) where
   kind-length =
       by-test (eqb s.kind 2) (λ e. rw e (pin-length s.sensor)) λ e.
       by-test (eqb s.kind 3) (λ f. rw (e, f) (older-length s.old)) λ f. rw (e, f)
-
-  pub none-behind : (k : ℕ) → 3 ≤ k → 0 ≡ get_or (kind_numbers s) k 0
-  none-behind k h = past (kind_numbers s) k (omega (arith, kind-length, at_most s.kind))
-    where
-      past : (xs : List ℕ) (n : ℕ) → length xs ≤ n → 0 ≡ get_or xs n 0
-      past [] n h = refl
-      past (x ∷ xs) zero h = absurd (omega arith)
-      past (x ∷ xs) (suc n) h = past xs n (omega arith)
 
 -- the parts of a slot's numbers
 abbrev behind_marks : Slot → List ℕ
@@ -179,11 +213,7 @@ unfolding numbers_of
 numbers-length s z =
     simp (length-append, length-map) (rw (plain-length s, sensor-length s.sensor, kind-length s, z.0, z.1, z.2, z.3) (omega arith))
 
--- the numbers of a slot with noughts behind them, which are 60 whatever its kind: what the code looks at, one by one
-pub sixty : List ℕ → List ℕ
-sixty xs = xs ++ replicate (60 - length xs) 0
-
-sixty-at : (xs : List ℕ) (k : ℕ) → get_or (sixty xs) k 0 ≡ get_or xs k 0
+pub sixty-at : (xs : List ℕ) (k : ℕ) → get_or (sixty xs) k 0 ≡ get_or xs k 0
 unfolding sixty
 sixty-at xs k = padded xs (60 - length xs) k
   where
@@ -212,7 +242,7 @@ sixty-other : (s t : Slot) → eqb s.kind t.kind ≡ false → same (sixty (numb
 unfolding sixty numbers_of plain_numbers same
 sixty-other s t e = rw e
 
-sixty-same : (s t : Slot) → Sized s → Sized t → same (sixty (numbers_of s)) (sixty (numbers_of t)) ≡ same (numbers_of s) (numbers_of t)
+pub sixty-same : (s t : Slot) → Sized s → Sized t → same (sixty (numbers_of s)) (sixty (numbers_of t)) ≡ same (numbers_of s) (numbers_of t)
 unfolding sensing
 sixty-same s t y z =
     by-test (eqb s.kind t.kind)
@@ -221,33 +251,29 @@ sixty-same s t y z =
     sixty-alike (numbers_of s) (numbers_of t) (numbers-length s y ∙ ap count_of k ∙ sym (numbers-length t z)))
     (sixty-other s t)
 
--- whether the first k of two lists of 60 are the same
+-- part by part: those of its kind are three, with noughts
+pub sixty-parts : (s : Slot) → Sized s
+    → plain_numbers s ++ (map bit s.protection ++ (map bit s.coming ++ (s.latch ++ (map bit s.marks ++ (sensor_numbers s.sensor ++ three (kind_numbers s))))))
+    ≡ sixty (numbers_of s)
+unfolding numbers_of three sixty
+sixty-parts s z =
+    let n : 60 - length (numbers_of s) ≡ 3 - length (kind_numbers s) = rw (numbers-length s z, kind-length s) (let h = at_most s.kind in omega arith) in
+    rw (n) (simp append_assoc refl)
+
+-- a list of as many, stored over all of them
+pub all-stored : (n : ℕ) (xs : List ℕ) → length xs ≡ n → sets (replicate n 0) 0 xs ≡ xs
+all-stored n xs e =
+    sets-eq xs (replicate n 0) 0 (rw length-replicate (omega arith)) ∙ ap (xs ++◌) (drop_of_length-le (replicate n 0) (rw length-replicate (omega arith))) ∙ append-nil xs
+
+pub sixty-full : (s : Slot) → Sized s → length (sixty (numbers_of s)) ≡ 60
+sixty-full s z = sixty-length (numbers_of s) (rw (numbers-length s z) (let h = at_most s.kind in omega arith))
+
+-- whether the first k of two lists of 60 are the same, as a loop over them has it; docs/PORT.md names what it ends with
 pub record Alike (xs ys : List ℕ) (k : ℕ) (all : Bool) : Type 0 where
   pub within : k ≤ 60
   pub first : length xs ≡ 60
   pub second : length ys ≡ 60
   pub says : all ≡ same (take k xs) (take k (drop 0 ys))
-
-pub alike-none : (s t : Slot) → Sized s → Sized t → Alike (sixty (numbers_of s)) (sixty (numbers_of t)) 0 true
-alike-none s t y z = record {
-  within = omega arith;
-  first = sixty-length (numbers_of s) (most s y);
-  second = sixty-length (numbers_of t) (most t z);
-  says = stands-start (sixty (numbers_of s)) (sixty (numbers_of t)) 0;
-}
-  where
-    most : (s : Slot) → Sized s → length (numbers_of s) ≤ 60
-    most s y = rw (numbers-length s y) (let h = at_most s.kind in omega arith)
-
-pub alike-more : (xs ys : List ℕ) (k : ℕ) (all : Bool) (x y : ℕ) → Alike (sixty xs) (sixty ys) k all → k < 60 → x ≡ get_or xs k 0 → y ≡ get_or ys k 0
-    → Alike (sixty xs) (sixty ys) (k + 1) (all && eqb x y)
-alike-more xs ys k all x y g h e f = record {
-  within = omega arith;
-  first = g.first;
-  second = g.second;
-  says = ap₂ ◌&&◌ g.says (ap₂ eqb (e ∙ sym (sixty-at xs k)) (f ∙ sym (sixty-at ys k) ∙ ap (λ i. get_or (sixty ys) i 0) (sym (zero-add k))))
-      ∙ sym (stands-step (sixty xs) (sixty ys) 0 k (rw g.first h) (omega (arith, g.first, g.second)));
-}
 
 pub alike_all : (s t : Slot) (k : ℕ) (all : Bool) → Sized s → Sized t → Alike (sixty (numbers_of s)) (sixty (numbers_of t)) k all → 60 ≤ k
     → all ≡ same (numbers_of s) (numbers_of t)

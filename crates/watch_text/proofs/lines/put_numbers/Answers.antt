@@ -1,37 +1,31 @@
--- Character by character: what is put so far, with the numbers behind their signs.
-use mathlib.Core.Path.{refl}
+-- The names that every slot has, and those of its kind.
+use mathlib.Core.List.{map}
 use native.Mathlib.Omega.{arith}
 use borrow.Author.Rules.{rules}
+use lib.ListN.{take, drop}
+use Rattle.script_text.specs.Quoted.{quoted}
+use Rattle.script_text.proofs.letters.Laws.{put_on}
 use Rattle.watch_text.specs.Numbers.{numbers_of}
-use Rattle.watch_text.proofs.numbers.Laws.{numbers-length}
-use Rattle.watch_text.proofs.lines.Laws.{slot-told, telling-none, telling-more, telling-all}
+use Rattle.watch_text.specs.Lines.{common_names, kind_names, texts_of}
+use Rattle.watch_text.proofs.numbers.Laws.{Sized, numbers-length}
+use Rattle.watch_text.proofs.lines.Laws.{common-room, own-room, slot-texts}
 use Rattle.watch_text.proofs.lines.put_numbers.Goals as goal
 
-pub loop-i-init : goal.loop-i-init
-loop-i-init c =
-    let n = c.named-size.ensures in
-    (omega arith, n.1, n.0, omega arith, omega arith, c.requires, refl, telling-none _ _ _ _)
+pub put_texts-own-requires : goal.put_texts-own-requires
+unfolding common_names quoted
+put_texts-own-requires c = omega (arith, common-room c.numbers-all.result (λ i. search rules))
 
-pub put_next-at-requires : goal.put_next-at-requires
-put_next-at-requires c = omega arith
-
-pub counted-k-requires : goal.counted-k-requires
-counted-k-requires c = omega arith
-
-pub loop-i-preserved : goal.loop-i-preserved
-loop-i-preserved c =
-    let l = c.loop-i in
-    let p = c.put_next-at.ensures in
-    let g = telling-more _ _ _ _ _ _ _ _ l.invariant.7 _ _ _ (omega (arith, l.invariant.2)) c.letter-b.ensures (p.0, p.1) in
-    (omega arith, l.invariant.1, l.invariant.2, omega (arith, c.counted-k.ensures.1), omega (arith, p.2), l.invariant.5, omega arith, rw (← c.counted-k.ensures.0) at g)
-
-pub shape_of-out : goal.shape_of-out
-shape_of-out c = c.loop-i.invariant.6
+pub put_own-requires : goal.put_own-requires
+unfolding common_names quoted
+put_own-requires c =
+    omega (arith, c.put_texts-own.ensures, common-room c.numbers-all.result (λ i. search rules), own-room c.args.s c.numbers-all.result (λ i. search rules))
 
 pub returns : goal.returns
+unfolding common_names quoted
 returns c =
-    let l = c.loop-i in
-    let s = c.args.s in
-    let n = numbers-length s (search rules, search rules, search rules, search rules) in
-    let t = rw (slot-told s (numbers_of s) n) at (telling-all _ _ _ _ _ _ _ _ l.invariant.7 (omega (arith, l.invariant.2))) in
-    (t.0, t.1, omega arith)
+    let a = c.args in
+    let all = c.numbers-all.result in
+    let z : Sized a.s = (search rules, search rules, search rules, search rules) in
+    let p = put_on a.out.now _ _ a.from _ _ (texts_of (map quoted common_names) all) (texts_of (map quoted (kind_names a.s)) (take 3 (drop 57 all))) c.put_texts-own.ensures c.put_own.ensures in
+    let q = rw (c.numbers-all.ensures, slot-texts a.s (numbers_of a.s) (numbers-length a.s z)) at p in
+    (q.0, q.1, omega (arith, p.0, common-room all (λ i. search rules), own-room a.s all (λ i. search rules)))
