@@ -47,7 +47,7 @@ Lies room a = end_of a.0 ≤ room
 saved-lies : (b : Bus) (m out : List ℕ) → 4 ≤ length out → Lies (length out) (saved_answer (save_of b m out).0 (save_of b m out).1)
 unfolding save_of saved_answer
 saved-lies b m out h =
-    let P : Saved × List ℕ → Type 0 = λ s. Lies (length out) (saved_answer s.0 s.1) in
+    let P : Result ℕ Refusal × List ℕ → Type 0 = λ s. Lies (length out) (saved_answer s.0 s.1) in
     cond_cases P (wrong_length m) (λ _. omega (arith, line-length (answer.Refused MemoryLength)))
     (λ _. cond_cases P (not (in_range b)) (λ _. omega (arith, line-length (answer.Refused WrongState)))
     (λ _. cond_cases P (not (all_quiet b)) (λ _. omega (arith, line-length (answer.Refused Busy)))
