@@ -29,10 +29,7 @@ fn answer(bench: &Bench, left: usize, out: &mut [u8]) -> Result<usize, usize>
     }
     match save_entry::save(bench.bus, &bench.memory, out) {
         Saved::Form(n) => Ok(n),
-        Saved::Refused(why) => {
-            let line = script_text::letters::put_line(out, 0, Answer::Refused(why));
-            Err(line)
-        }
+        Saved::Refused(why) => Err(script_text::letters::put_line(out, 0, Answer::Refused(why))),
     }
 }
 
