@@ -28,10 +28,7 @@ fn answer(bench: &Bench, left: usize, out: &mut [u8]) -> Result<usize, usize>
     }
     match save_entry::save(bench.bus, &bench.memory, out) {
         Ok(n) => Ok(n),
-        Err(why) => {
-            let line = script_text::letters::put_line(out, 0, Answer::Refused(why));
-            Err(line)
-        }
+        Err(why) => Err(script_text::letters::put_line(out, 0, Answer::Refused(why))),
     }
 }
 

@@ -16,4 +16,4 @@ returns-in-Ok c =
 pub returns-in-Err : goal.returns-in-Err
 returns-in-Err c =
     let s = ap (λ (x : Bench). save_of x.bus x.memory c.args.out.now) (sym c.bench.view_is) ∙ c.save.ensures in
-    answer-refused _ _ _ _ _ _ _ _ c.if-left-ne0.false s c.in-Err.is c.put_line-line.ensures
+    answer-refused _ _ _ _ _ _ _ _ c.if-left-ne0.false s c.in-Err.is c.put_line.ensures
