@@ -1,5 +1,5 @@
 // A slot's blocks and what guards them, and the address that the counter points to, which lies in one of them.
-#![tactic(auto, unfolding(rules::specs::Control::protects, rules::specs::Fields::to_come, rules::specs::Fields::to_last, rules::specs::Memory::guarded, rules::specs::Memory::pin_on, rules::specs::Modelled::address_of, rules::specs::Modelled::block_of, rules::specs::Modelled::older))]
+#![tactic(auto, unfolding(crate::proofs::Open::blocks))]
 
 ghost use Rattle.std.specs.Prelude.{◌≡◌, true, false, get_or, set};
 ghost use Rattle.rules.specs.Fields.{to_come};
