@@ -23,6 +23,7 @@ pub struct Address(pub u16);
 pub struct Cut(pub u8);
 
 // An event as the script's record has it: rubbish is welcome in every field.
+// Kept: kind is a number, since one that is none of the ten is an event too, and refused by row 2 (Refusals.unknown_kind, Document/Tables.row-2).
 #[derive(Clone, Copy)]
 pub struct Event {
     pub kind: u8,
@@ -56,6 +57,7 @@ pub enum Act {
 }
 
 // What an act carries over the wires and gets an answer to: a byte from the master, a read, or nothing.
+// Kept: no Option round the two others; the law goes by these three cases (Events.carried), and an Option of two would be matched in two steps.
 #[derive(Clone, Copy)]
 pub enum Carried {
     Byte(u8),
@@ -93,6 +95,7 @@ impl From<Refusal> for u8 {
 }
 
 // What the bus shows. The paper's letter and value of each: specs/Events.
+// Kept: no Result of what is shown; document 01 has a refusal as one of the five answers, with a letter as the others have (Events.letter_of).
 #[derive(Clone, Copy, PartialEq, Eq)]
 pub enum Answer {
     Nothing,
@@ -103,6 +106,7 @@ pub enum Answer {
 }
 
 // What a control byte asks for.
+// Kept: Nothing is a case and no Option; "any other byte" stands in document 01's list beside the others, and slots answer to it (Control.heard_of).
 #[derive(Clone, Copy)]
 pub enum Heard {
     Memory { select: SlotNo, read: bool },
@@ -147,6 +151,7 @@ pub enum Phase {
 }
 
 // What a phase is; specs/Slot has the table.
+// Kept: four words beside each other; a reader of a phase asks for one of them at a time, and the law's table has them so (Slot.traits).
 #[derive(Clone, Copy)]
 pub struct Traits {
     pub sensor: bool,
@@ -205,10 +210,11 @@ pub struct Older {
 #[derive(Clone, Copy)]
 pub struct Slot {
     // 0 absent, 1 memory, 2 memory with sensor, 3 older 2-Kbit memory; any other number is refused by row 6.
-    // Kept: a number and no enum, here, in Pair and in Event, since what is handed in may be rubbish and is then refused by number (Refusals.kind_in_range,
-    // .good_pair, .unknown_kind).
+    // Kept: a number and no enum, here and in Pair, since what is handed in may be rubbish, and rows 5 and 6 refuse it (Refusals.good_pair,
+    // .kind_in_range; Document/Tables.row-6-kind); so are the sensor and what is an older module's alone fields of every slot.
     pub kind: u8,
     // The write cycle's length in ticks, and how many are left of the running one; 0 for none.
+    // Kept: a number and no Option; document 01's state has "ticks left 0 to length" as one number, and row 6 its range (Refusals.slot_in_range).
     pub length: u8,
     pub left: u8,
     pub half: u8,
@@ -220,6 +226,8 @@ pub struct Slot {
     pub voltage: bool,
     pub phase: Phase,
     // The page latch: its bytes, which of them were written, and the place for the next.
+    // Kept: bytes and marks beside each other, document 01's form; a byte with no mark may be handed in and is told as it is (edges hands one in),
+    // and theorems on "every state" speak of it: optional bytes would leave out states.
     pub latch: [u8; 16],
     pub marks: [bool; 16],
     pub place: u8,
@@ -309,6 +317,8 @@ pub struct Pin {
 }
 
 // What a public entry gives back beside the lent memory.
+// Kept: a bus beside the answer, and no Result of a bus, for setup, restore and lists too: a refusal has a bus, the one that was there, or that of
+// a refused setup (Refusals.setup_of, save_rules/Reading.restore_of).
 #[derive(Clone, Copy)]
 pub struct Outcome {
     pub bus: Bus,
