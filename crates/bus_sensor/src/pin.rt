@@ -1,5 +1,5 @@
 // The sensor's EVENT pin: when it is asserted and at what level, and the sensor's reads, writes and temperatures with it.
-#![tactic(auto, unfolding(crate::specs::Open::open_pin))]
+#![tactic(auto, unfolding(crate::proofs::Open::pin))]
 
 ghost use Rattle.std.specs.Prelude.{◌≡◌};
 ghost use Rattle.rules.specs.Pin.{flag_counts, asserted, pin_of, can_pend, changes, pending_after, converted_with_pin, written_with_pin, read_of};

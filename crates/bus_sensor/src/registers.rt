@@ -1,5 +1,5 @@
 // The sensor's registers: what they read, what a write leaves in them.
-#![tactic(auto, unfolding(crate::specs::Open::open_registers))]
+#![tactic(auto, unfolding(crate::proofs::Open::registers))]
 
 ghost use Rattle.std.specs.Prelude.{◌≡◌, ◌/◌, ◌%◌, ◌^◌, ◌<◌, eqb, cond};
 ghost use Rattle.std.specs.Int.Bits.{bit_and};
@@ -16,6 +16,7 @@ pub(crate) fn bit(word: u16, n: u32) -> bool
 }
 
 // What register p reads.
+// Kept: a register's number is a number and no enum, here and below: it is the master's byte, and what is above 09h reads and does nothing.
 pub fn register(x: Sensor, p: u8) -> u16
     ensures { result ≡ register_of x p }
 {

@@ -1,5 +1,5 @@
 // The sensor's temperature: its conversion to a step of the resolution, and the flags.
-#![tactic(auto, unfolding(crate::specs::Open::open_temperature))]
+#![tactic(auto, unfolding(crate::proofs::Open::temperature))]
 
 ghost use Rattle.std.specs.Prelude.{◌≡◌, cond, pos, ◌-ℤ◌};
 ghost use Rattle.rules.specs.Sensor.{bits_of, signed_of, step_of, nearest_of, hysteresis_of, flag_of, critical_flag, high_flag, low_flag, reading, converted};

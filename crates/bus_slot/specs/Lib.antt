@@ -1,4 +1,3 @@
 pub mod Heeded
 pub mod ReadOut
 pub mod Signals
-pub mod Open

@@ -1,5 +1,5 @@
 // The write cycle of a slot: a stop begins it, ticks run it down, and the last of them stores.
-#![tactic(auto, unfolding(crate::specs::Open::open_cycle))]
+#![tactic(auto, unfolding(crate::proofs::Open::cycle))]
 
 ghost use Rattle.std.specs.Prelude.{◌≡◌};
 ghost use Rattle.rules.specs.Memory.{any_mark, begun, command_stop, data_stop, brought, ended, put_up_to, stored, ticked_part};

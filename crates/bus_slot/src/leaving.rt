@@ -1,5 +1,5 @@
 // What is let go when an exchange is left: what it held of the slot, by the phase that it is left in.
-#![tactic(auto, unfolding(crate::specs::Open::open_leaving))]
+#![tactic(auto, unfolding(crate::proofs::Open::leaving))]
 
 ghost use Rattle.std.specs.Prelude.{◌≡◌};
 ghost use Rattle.rules.specs.Memory.{abandoned, cancelled};

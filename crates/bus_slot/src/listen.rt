@@ -1,5 +1,5 @@
 // A byte from the master at one slot: what the slot makes of it, and whether it acknowledges.
-#![tactic(auto, unfolding(crate::specs::Open::open_listen))]
+#![tactic(auto, unfolding(crate::proofs::Open::listen), using(rules::proofs::Run::Cases::byte_next))]
 
 ghost use Rattle.std.specs.Prelude.{◌≡◌, not, leb};
 ghost use Rattle.rules.specs.Control.{heard_by};

@@ -1,5 +1,5 @@
 // The memory of a slot in an exchange: its counter, its latch, the bytes that are read.
-#![tactic(auto, unfolding(crate::specs::Open::open_memory))]
+#![tactic(auto, unfolding(crate::proofs::Open::memory))]
 
 ghost use Rattle.std.specs.Prelude.{◌≡◌, get_or};
 ghost use Rattle.rules.specs.Modelled.{address_of};

@@ -1,5 +1,5 @@
 // A control byte at one slot: whether the slot acknowledges it, and what it does then.
-#![tactic(auto, unfolding(crate::specs::Open::open_obey))]
+#![tactic(auto, unfolding(crate::proofs::Open::obey))]
 
 ghost use Rattle.std.specs.Prelude.{◌≡◌, true, false, cond, ◌&&◌, eqb, set};
 ghost use Rattle.rules.specs.Fields.{in_phase, to_come, holding};

@@ -1,5 +1,5 @@
 // Where a slot stands in an exchange.
-#![tactic(auto, unfolding(crate::specs::Open::open_phase))]
+#![tactic(auto, unfolding(crate::proofs::Open::phase))]
 
 ghost use Rattle.std.specs.Prelude.{◌≡◌};
 ghost use Rattle.rules.specs.Fields.{in_phase, holding};

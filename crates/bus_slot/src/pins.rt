@@ -1,5 +1,5 @@
 // What reaches one slot alone: high voltage, temperature, the write-protect pin.
-#![tactic(auto, unfolding(crate::specs::Open::open_pins))]
+#![tactic(auto, unfolding(crate::proofs::Open::pins))]
 
 ghost use Rattle.std.specs.Prelude.{◌≡◌, cond};
 ghost use Rattle.rules.specs.Modelled.{absent};

@@ -1,5 +1,5 @@
 // A power cycle at one slot, and what it still does of a write cycle that is running.
-#![tactic(auto, unfolding(crate::specs::Open::open_power))]
+#![tactic(auto, unfolding(crate::proofs::Open::power))]
 
 ghost use Rattle.std.specs.Prelude.{◌≡◌};
 ghost use Rattle.rules.specs.Fresh.{powered};

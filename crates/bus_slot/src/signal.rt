@@ -1,5 +1,5 @@
 // What reaches every slot and carries nothing, at one slot: start, stop, timeout.
-#![tactic(auto, unfolding(crate::specs::Open::open_signal))]
+#![tactic(auto, unfolding(crate::proofs::Open::signal))]
 
 ghost use Rattle.std.specs.Prelude.{◌≡◌};
 ghost use Rattle.rules.specs.Slot.{stop_in};

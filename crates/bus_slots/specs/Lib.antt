@@ -2,4 +2,3 @@ pub mod Foreseen
 pub mod Shown
 pub mod Stepped
 pub mod Taken
-pub mod Open
