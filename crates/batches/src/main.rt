@@ -5,30 +5,40 @@
 
 ghost use Rattle.std.specs.Prelude.{◌≤◌, length, IfSome};
 
+use bus_bench::Bench;
 use rules::Bus;
-use script_streams::opening::{STDERR_FILENO, STDIN_FILENO, STDOUT_FILENO};
+use script_streams::opening;
+use std::io::{Print, Stderr, Stdin, Stdout};
 
 // Bytes of the longest list's records.
 const MOST: usize = 16384;
 
-// What is said of a list that is cut, and of one that is too long; no list is then given.
-fn cut() {
-    io::write_all(STDOUT_FILENO, b"short\n");
+// Where lists are read from, and where their lines, or a sentence, are written.
+#[derive(Drop)]
+struct Streams {
+    input: Stdin,
+    output: Stdout,
+    errors: Stderr,
 }
 
-fn too_long() {
+// What is said of a list that is cut, and of one that is too long; no list is then given.
+fn cut(to: &Stdout) {
+    let _ = to.write_all(b"short\n");
+}
+
+fn too_long(to: &Stderr) {
     let mut out = [0u8; 41];
     list_lend::text::put_too_many(&mut out);
-    io::write_all(STDERR_FILENO, &out);
+    let _ = to.write_all(&out);
 }
 
 // How many records the next list has. At the input's end there is no list.
-fn count() -> Option<usize> {
+fn count(streams: &mut Streams) -> Option<usize> {
     let mut number = [0u8; 2];
-    match io::read_full(STDIN_FILENO, &mut number) {
+    match opening::fill(&mut streams.input, &mut number) {
         0 => None,
         1 => {
-            cut();
+            cut(&streams.output);
             None
         }
         _ => Some(list_lend::text::number_in(&number)),
@@ -36,50 +46,53 @@ fn count() -> Option<usize> {
 }
 
 // The next list's records, read into the room for them, if there is one and they are whole.
-fn records(room: &mut [u8; MOST]) -> Option<&[u8]>
+fn records<'a>(streams: &mut Streams, room: &'a mut [u8; MOST]) -> Option<&'a [u8]>
     ensures { IfSome result (λ bytes. length bytes.now ≤ 16384) }
 {
-    let count = count()?;
+    let count = count(streams)?;
     if MOST / 4 < count {
-        too_long();
+        too_long(&streams.errors);
         return None;
     }
     let size = 4 * count;
-    let came = io::read_full(STDIN_FILENO, &mut room[..size]);
+    let came = opening::fill(&mut streams.input, &mut room[..size]);
     if came < size {
-        cut();
+        cut(&streams.output);
         return None;
     }
     Some(&room[..size])
 }
 
 // Records given as one list, with as many places, and its lines written.
-fn give(bus: Bus, mem: &mut [u8], records: &[u8]) -> Bus
+fn give(to: &Stdout, bus: Bus, mem: &mut [u8], records: &[u8]) -> Bus
     requires { length records.now ≤ 16384 }
 {
     let mut out = [0u8; 262140];
     let told = list_lend::lend::give_records(bus, mem, records, records.len() / 4, &mut out);
-    io::write_all(STDOUT_FILENO, &out[..told.end.min(262140)]);
+    let _ = to.write_all(&out[..told.end.min(262140)]);
     told.bus
 }
 
 // List after list, until the input ends or one is not given.
-fn give_all(bus: Bus, mem: &mut [u8], room: &mut [u8; MOST]) {
-    let mut at = bus;
+fn give_all(streams: &mut Streams, mut bench: Bench) {
+    let mut bus = bench.bus;
+    let mut room = [0u8; MOST];
     for _ in 0..u64::MAX {
-        let Some(bytes) = records(room) else {
+        let Some(bytes) = records(streams, &mut room) else {
             return;
         };
-        at = give(at, mem, bytes);
+        bus = give(&streams.output, bus, &mut bench.memory, bytes);
     }
 }
 
-fn main() {
-    let mut mem = [0u8; 4096];
-    let mut room = [0u8; MOST];
+fn main(rt: HostRuntime) {
+    let mut streams = Streams {
+        input: rt.stdin(),
+        output: rt.stdout(),
+        errors: rt.stderr(),
+    };
     let mut out = [0u8; 6];
-    let begun = script_streams::opening::begin(STDOUT_FILENO, &mut mem, &mut out);
-    if begun.on {
-        give_all(begun.bus, &mut mem, &mut room);
+    if let Ok(bench) = opening::begin(&mut streams.input, &streams.output, &mut out) {
+        give_all(&mut streams, bench);
     }
 }

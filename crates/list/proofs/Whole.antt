@@ -3,7 +3,7 @@
 use mathlib.Core.Path.{◌≡◌, sym, ◌∙◌, ap, ap₂, subst}
 use mathlib.Core.Bool.{true, false, false≢true, cond}
 use mathlib.Core.List.{List, ◌++◌, append_assoc}
-use Rattle.std.proofs.Common.{Result, Ok}
+use Rattle.std.proofs.Common.{Result, Ok, Err}
 use Prim.Native.Nat.{ℕ, ◌+◌, ◌-◌, ◌≤◌, min}
 use native.Mathlib.Omega.{arith}
 use borrow.Author.Tests.{lt-ltb, le-ltb, ltb-true, ltb-false}
@@ -12,14 +12,14 @@ use lib.ListN.{length, take, drop, take-append-drop, length-append, length-drop,
 use lib.Seq.{sets, length-sets, length-take-le, take_all}
 use Rattle.std.specs.List.{list_all}
 use Rattle.proof_lists.specs.Tests.{by-test}
-use Rattle.rules.specs.Refusals.{good_pair, setup_of}
+use Rattle.rules.specs.Refusals.{good_pair}
 use Rattle.rules.specs.Runs.{Bench}
 use Rattle.script_text.specs.Records.{pairs_of}
 use Rattle.script_text.proofs.records.Laws.{pairs-of}
-use Rattle.script_turns.specs.declared.frame.Begun.{Begun}
-use Rattle.script_turns.specs.Frame.{starting_memory, cut_setup, first_line, goes_on, first_bus, begin_of}
+use Rattle.script_turns.specs.Frame.{cut_setup, first_line, goes_on, begin_of}
 use Rattle.script_turns.specs.Script.{begun_at}
 use Rattle.script_turns.proofs.frame.Laws.{first-length, written}
+use Rattle.script_turns.proofs.frame.Onward.{begin-goes, begin-stops}
 use Rattle.list_lend.specs.Listed.{number_in, too_many_text}
 use Rattle.script_streams.specs.Written.{on_output, on_errors}
 use Rattle.list.specs.Asked.{too_many, list_for, end_for, written_for, answered_by, answer_of, end_of, fronted}
@@ -60,13 +60,13 @@ module _ (bs h : List ℕ) (cut : ltb (length bs) 16 ≡ true → h ≡ bs) (who
       let a : list_all good_pair (pairs_of h) ≡ false = rw d at g in
       rw ((whole c).1, c, d, a))
 
-  goes_at : goes_on h ≡ true → (ltb (length bs) 16 ≡ false) × (list_all good_pair (pairs_of bs) ≡ true) × (first_bus h ≡ (setup_of (pairs_of bs)).bus)
-  unfolding goes_on cut_setup first_bus
+  goes_at : goes_on h ≡ true → (ltb (length bs) 16 ≡ false) × (list_all good_pair (pairs_of bs) ≡ true)
+  unfolding goes_on cut_setup
   goes_at g = by-test (ltb (length bs) 16)
       (λ c. absurd (false≢true (sym (subst (λ (z : List ℕ). goes_on z ≡ false) (sym (cut c)) (rw c)) ∙ g)))
       (λ c.
       let d : ltb (length h) 16 ≡ false = le-ltb (length h) 16 (omega (arith, (whole c).0)) in
-      (c, ap (list_all good_pair) (whole c).1 ∙ rw d at g, rw ((whole c).1, d)))
+      (c, ap (list_all good_pair) (whole c).1 ∙ rw d at g))
 
 module _ (bs : List ℕ) where
   whole-head : ltb (length bs) 16 ≡ false → (length (head bs) ≡ 16) × (pairs_of bs ≡ pairs_of (head bs))
@@ -75,7 +75,7 @@ module _ (bs : List ℕ) where
   stops : goes_on (head bs) ≡ false → written_for bs ≡ on_output (first_line (head bs))
   stops = stops_at bs (head bs) (head-cut bs) whole-head
 
-  goes : goes_on (head bs) ≡ true → (ltb (length bs) 16 ≡ false) × (list_all good_pair (pairs_of bs) ≡ true) × (first_bus (head bs) ≡ (setup_of (pairs_of bs)).bus)
+  goes : goes_on (head bs) ≡ true → (ltb (length bs) 16 ≡ false) × (list_all good_pair (pairs_of bs) ≡ true)
   goes = goes_at bs (head bs) (head-cut bs) whole-head
 
 -- the two cuts are in order, and the records behind them are as many as the program looks at
@@ -88,18 +88,16 @@ pub records-most : (bs : List ℕ) (j : ℕ) → j ≡ up_to 18 bs → length bs
 records-most bs j b l = rw (take_all (length bs - j) (drop j bs) (omega (arith, length-drop j bs)), b, length-drop (up_to 18 bs) bs) (by-test (ltb (length bs) 18) (λ c. rw c (omega arith)) (λ c. rw c (omega (arith, l))))
 
 -- where nothing follows: the setup's line, on standard output
-pub stopped : (bs out m o : List ℕ) (n : ℕ) (r : Begun) → n ≡ up_to 16 bs → begin_of (take n bs) out ≡ (r, m, o) → r.on ≡ false → 6 ≤ length out
-    → (r.end ≤ length o) × (fronted (Ok r.end) o ≡ written_for bs)
-unfolding begin_of fronted
-stopped bs out m o n r at b off room =
-    let e : begin_of (head bs) out ≡ (r, m, o) = subst (λ (i : ℕ). begin_of (take i bs) out ≡ (r, m, o)) at b in
+pub stopped : (bs out o : List ℕ) (n end : ℕ) → n ≡ up_to 16 bs → begin_of (take n bs) out ≡ (Err end, o) → 6 ≤ length out
+    → (end ≤ length o) × (fronted (Ok end) o ≡ written_for bs)
+unfolding fronted
+stopped bs out o n end at b room =
+    let e : begin_of (head bs) out ≡ (Err end, o) = subst (λ (i : ℕ). begin_of (take i bs) out ≡ (Err end, o)) at b in
+    let s = begin-stops (head bs) out o end e in
     let line : List ℕ = first_line (head bs) in
-    let g : goes_on (head bs) ≡ false = ap (λ (z : Begun × List ℕ × List ℕ). z.0.on) e ∙ off in
-    let end : length line ≡ r.end = ap (λ (z : Begun × List ℕ × List ℕ). z.0.end) e in
-    let put : sets out 0 line ≡ o = ap (λ (z : Begun × List ℕ × List ℕ). z.2) e in
-    let long : length o ≡ length out = sym (ap length put) ∙ length-sets out 0 line in (
-      omega (arith, first-length (head bs)),
-      ap₂ (λ (n : ℕ) (z : List ℕ). on_output (take n z)) (sym end) (sym put) ∙ ap on_output (written out line (omega (arith, first-length (head bs)))) ∙ sym (stops bs g),
+    let long : length o ≡ length out = ap length s.2 ∙ length-sets out 0 line in (
+      omega (arith, first-length (head bs), s.1),
+      ap₂ (λ (n : ℕ) (z : List ℕ). on_output (take n z)) s.1 s.2 ∙ ap on_output (written out line (omega (arith, first-length (head bs)))) ∙ sym (stops bs s.0),
     )
 
 -- the number of places and the records, as they are cut out of what came
@@ -126,19 +124,18 @@ put-ends x number rs o p a n room q =
     (λ t. rw t (omega (arith, length-sets o 0 (list_for x number rs)), ap on_output (written o (list_for x number rs) (omega arith)))))
 
 -- where the setup is good: the answer to what follows it
-pub answered : (bs out m o p : List ℕ) (i j : ℕ) (r : Begun) (a : Result ℕ ℕ) → i ≡ up_to 16 bs → j ≡ up_to 18 bs
-    → begin_of (take i bs) out ≡ (r, m, o) → r.on ≡ true → 262140 ≤ length out
-    → (number_in (take (j - i) (drop i bs)) ≤ 65535) × (answer_of (record { bus = r.bus; memory = m }) (take (j - i) (drop i bs)) (take (length bs - j) (drop j bs)) o ≡ (a, p))
+pub answered : (bs out o p : List ℕ) (i j : ℕ) (x : Bench) (a : Result ℕ ℕ) → i ≡ up_to 16 bs → j ≡ up_to 18 bs
+    → begin_of (take i bs) out ≡ (Ok x, o) → 262140 ≤ length out
+    → (number_in (take (j - i) (drop i bs)) ≤ 65535) × (answer_of x (take (j - i) (drop i bs)) (take (length bs - j) (drop j bs)) o ≡ (a, p))
     → (end_of a ≤ length p) × (fronted a p ≡ written_for bs)
-unfolding begin_of begun_at written_for
-answered bs out m o p i j r a at₁ at₂ b on room t =
-    let e : begin_of (head bs) out ≡ (r, m, o) = subst (λ (i : ℕ). begin_of (take i bs) out ≡ (r, m, o)) at₁ b in
+unfolding written_for
+answered bs out o p i j x a at₁ at₂ b room t =
+    let e : begin_of (head bs) out ≡ (Ok x, o) = subst (λ (i : ℕ). begin_of (take i bs) out ≡ (Ok x, o)) at₁ b in
     let cut : take (j - i) (drop i bs) ≡ take (up_to 18 bs - up_to 16 bs) (drop (up_to 16 bs) bs) = ap₂ (λ (i j : ℕ). take (j - i) (drop i bs)) at₁ at₂ in
-    let w = goes bs (ap (λ (z : Begun × List ℕ × List ℕ). z.0.on) e ∙ on) in
-    let bus : r.bus ≡ (setup_of (pairs_of bs)).bus = sym (ap (λ (z : Begun × List ℕ × List ℕ). z.0.bus) e) ∙ w.2 in
-    let mem : m ≡ starting_memory = sym (ap (λ (z : Begun × List ℕ × List ℕ). z.1) e) in
-    let bench : ◌≡◌ {A = Bench} (record { bus = r.bus; memory = m }) (begun_at (pairs_of bs)) = λ i. record { bus = bus i; memory = mem i } in
-    let long : length o ≡ length out = sym (ap (λ (z : Begun × List ℕ × List ℕ). length z.2) e) ∙ length-sets out 0 (first_line (head bs)) in
+    let s = begin-goes (head bs) out o x e in
+    let w = goes bs s.0 in
+    let bench : x ≡ begun_at (pairs_of bs) = s.1 ∙ ap begun_at (sym (pairs_first bs w.0)) in
+    let long : length o ≡ length out = ap length s.2 in
     let number : take (j - i) (drop i bs) ≡ take 2 (drop 16 bs) = cut ∙ number-there bs w.0 in
     let records : take (length bs - j) (drop j bs) ≡ drop 18 bs = take_all (length bs - j) (drop j bs) (omega (arith, length-drop j bs)) ∙ ap (λ (j : ℕ). drop j bs) at₂ ∙ records-there bs w.0 in
     let there : answer_of (begun_at (pairs_of bs)) (take 2 (drop 16 bs)) (drop 18 bs) o ≡ (a, p) =

@@ -7,8 +7,8 @@ ghost use Rattle.std.specs.Prelude.{◌≡◌, ◌≤◌, length};
 ghost use Rattle.list_lend.specs.Listed.{number_in};
 ghost use Rattle.list.specs.Asked.{answer_of, end_of, fronted, put_for, written_for};
 
-use rules::Bus;
-use script_streams::opening::STDIN_FILENO;
+use bus_bench::Bench;
+use script_streams::opening;
 
 // Bytes of one record more than a list may have; and of setup, number of places and so many records, which is all that is ever looked at.
 const TOO_MANY: usize = 16388;
@@ -22,23 +22,21 @@ const OUTPUT: usize = 262140;
 type Answered = Result<usize, usize>;
 
 // Records that are whole, given as one list; where its lines, or its refusal's, end, which are then at the front of the output.
-fn given(bus: Bus, mem: &mut [u8], number: &[u8], records: &[u8], out: &mut [u8]) -> usize
+fn given(mut bench: Bench, number: &[u8], records: &[u8], out: &mut [u8]) -> usize
     requires { (2 ≤ length number.now) × (length records.now ≤ 16384) × (262140 ≤ length out.old) }
-    ensures { put_for (record { bus = bus; memory = mem.old }) number.now records.now out.old
-        ≡ (result, out.new) }
+    ensures { put_for bench number.now records.now out.old ≡ (result, out.new) }
 {
     let places = list_lend::text::number_in(number);
-    let told = list_lend::lend::give_records(bus, mem, records, places, out);
+    let told = list_lend::lend::give_records(bench.bus, &mut bench.memory, records, places, out);
     told.end
 }
 
 // The answer, put at the front of the output: the sentence for too many records; `short` where the number of places or a record is cut; otherwise
 // the list's lines, or what it is refused for. That two bytes say at most 65,535 is what bounds the lines.
-fn answer(bus: Bus, mem: &mut [u8], number: &[u8], records: &[u8], out: &mut [u8]) -> Answered
+fn answer(bench: Bench, number: &[u8], records: &[u8], out: &mut [u8]) -> Answered
     requires { (length records.now ≤ 16388) × (262140 ≤ length out.old) }
     ensures { (number_in number.now ≤ 65535)
-        × (answer_of (record { bus = bus; memory = mem.old }) number.now records.now out.old
-        ≡ (result, out.new)) }
+        × (answer_of bench number.now records.now out.old ≡ (result, out.new)) }
 {
     if records.len() == TOO_MANY {
         return Err(list_lend::text::put_too_many(out));
@@ -46,7 +44,7 @@ fn answer(bus: Bus, mem: &mut [u8], number: &[u8], records: &[u8], out: &mut [u8
     if (number.len() < 2) | (records.len() % 4 != 0) {
         return Ok(script_text::letters::put_short(out));
     }
-    Ok(given(bus, mem, number, records, out))
+    Ok(given(bench, number, records, out))
 }
 
 // All that is to be written for all that came, put at the front of the output: what a cut or a bad setup gets, or the answer to what follows it.
@@ -54,29 +52,21 @@ fn written(input: &[u8], out: &mut [u8]) -> Answered
     requires { (length input.now ≤ 16406) × (262140 ≤ length out.old) }
     ensures { (end_of result ≤ length out.new) × (fronted result out.new ≡ written_for input.now) }
 {
-    let mut mem = [0u8; Bus::MEMORY];
     let head = input.len().min(16);
-    let begun = script_turns::frame::begin(&input[..head], &mut mem, out);
-    if !begun.on {
-        return Ok(begun.end);
-    }
     let places = input.len().min(18);
-    answer(
-        begun.bus,
-        &mut mem,
-        &input[head..places],
-        &input[places..],
-        out,
-    )
+    match script_turns::frame::begin(&input[..head], out) {
+        Ok(bench) => answer(bench, &input[head..places], &input[places..], out),
+        Err(end) => Ok(end),
+    }
 }
 
 // One read, one answer, one write. Of an input that goes on behind one record too many the rest is not read: the answer is the same.
-fn main() {
+fn main(rt: HostRuntime) {
     let mut input = [0u8; INPUT];
     let mut out = [0u8; OUTPUT];
-    let came = io::read_full(STDIN_FILENO, &mut input);
-    let answered = written(&input[..came], &mut out);
-    let to = script_streams::opening::descriptor(answered.is_ok());
-    let (Ok(end) | Err(end)) = answered;
-    script_streams::opening::write(to, &out, end);
+    let came = opening::fill(&mut rt.stdin(), &mut input);
+    match written(&input[..came], &mut out) {
+        Ok(end) => opening::write(&rt.stdout(), &out, end),
+        Err(end) => opening::write(&rt.stderr(), &out, end),
+    }
 }
