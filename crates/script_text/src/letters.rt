@@ -28,34 +28,6 @@ pub fn put<T: Copy>(out: &mut [T], at: usize, text: &[T]) -> usize
     end
 }
 
-// One, two or three characters, put at a place; the place after them.
-pub fn put_one(out: &mut [u8], at: usize, a: u8) -> usize
-    requires { at + 1 ≤ length out.old }
-    ensures { (result ≡ at + 1) × (out.new ≡ sets out.old at (a ∷ [])) }
-{
-    out[at] = a;
-    at + 1
-}
-
-pub fn put_two(out: &mut [u8], at: usize, a: u8, b: u8) -> usize
-    requires { at + 2 ≤ length out.old }
-    ensures { (result ≡ at + 2) × (out.new ≡ sets out.old at (a ∷ b ∷ [])) }
-{
-    out[at] = a;
-    out[at + 1] = b;
-    at + 2
-}
-
-pub fn put_three(out: &mut [u8], at: usize, a: u8, b: u8, c: u8) -> usize
-    requires { at + 3 ≤ length out.old }
-    ensures { (result ≡ at + 3) × (out.new ≡ sets out.old at (a ∷ b ∷ c ∷ [])) }
-{
-    out[at] = a;
-    out[at + 1] = b;
-    out[at + 2] = c;
-    at + 3
-}
-
 // A number in decimal, put at a place; the place after it.
 pub fn put_decimal(out: &mut [u8], at: usize, n: usize) -> usize
     requires { at + length (decimal n) ≤ length out.old }
