@@ -24,7 +24,7 @@ fn block_at(k: usize, blocks: [bool; 4]) -> bool
 }
 
 // The blocks with one more.
-// Kept: written by index, here and in cycle::put, and not through get_mut, after which a proof knows no element (tried: what is stored stays unproved).
+// Kept: written by index, here and in cycle::put, and not through get_mut, after which a proof knows no element (tried: what is stored stays open).
 pub fn with_block(k: BlockNo, blocks: [bool; 4]) -> [bool; 4]
     ensures { result ≡ set blocks k.0 true }
 {

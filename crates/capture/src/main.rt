@@ -13,8 +13,8 @@ use rules::Bus;
 use script_streams::opening;
 use std::io::Stdin;
 
-// Piece after piece, as many bytes as the buffer holds, or fewer at the input's end, until the input ends or a record differs: it goes on behind a full
-// piece that agrees. A proved loop has to end, so it counts to a number that no input uses up.
+// Piece after piece, as many bytes as the buffer holds, or fewer at the input's end, until the input ends or a record differs: it goes on behind a
+// full piece that agrees. A proved loop has to end, so it counts to a number that no input uses up.
 fn check_records(input: &mut Stdin, bench: &mut Bench) -> Verdict
     ensures { Ended bench.old.bus bench.old.memory result }
 {

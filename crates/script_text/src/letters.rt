@@ -1,7 +1,7 @@
 // The answers as lines, put into a lent output: the paper's letters, digits and numbers; and numbers in decimal.
-// Kept: a slice with a place beside it, here and in the crates above. A struct of the two proves as well (tried), but each of its methods then needs a
+// Kept: a slice with a place beside it, here and in the crates above. A struct of the two proves as well (tried), but each of its methods needs a
 // clause more, that it still holds the same slice, and each step of a program, which is lent the slice alone, would wrap it and take the place out.
-// Kept: printing by `put` and not by Display: std's `write!` promises its bytes only on Ok, and no clause says when it is Ok; here every byte is promised.
+// Kept: printing by `put` and not by Display: `write!` promises its bytes on Ok alone, and no clause says when that is; here each byte is promised.
 ghost use Rattle.std.specs.Prelude.{◌≡◌, ◌∷◌, [], ◌+◌, ◌≤◌, ◌<◌, length};
 ghost use Rattle.std.proofs.lemmas.List.Edits.{sets};
 ghost use Rattle.script_text.specs.Decimal.{decimal};
