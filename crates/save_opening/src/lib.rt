@@ -15,6 +15,7 @@ use std::io::{Print, Stdin};
 const MOST: usize = 65535;
 
 // The length that the first four bytes say, the highest first.
+// Kept: `as`: no `usize::from` takes a u32.
 fn form_bytes(head: &[u8]) -> usize
     requires { 4 ≤ length head.now }
     ensures { result ≡ form_bytes head.now }
