@@ -23,7 +23,13 @@ fn unplanned(s: Slot) -> bool
 
 // A plan for a slot: script records at the front of the buffer, and their number; what stands behind them stays. Whatever is handed in is planned
 // or refused, by the rows 1, 6, 3, 7 in this order.
-pub fn plan(bus: Bus, memory: &[u8], slot: SlotNo, image: &[u8], buffer: &mut [u8]) -> Result<usize, Refusal>
+pub fn plan(
+    bus: Bus,
+    memory: &[u8],
+    slot: SlotNo,
+    image: &[u8],
+    buffer: &mut [u8],
+) -> Result<usize, Refusal>
     ensures buffer_value { plan_of bus memory.now slot image.now buffer.old ≡ (result, buffer.new) }
     ensures typed { plan_number result ≡ 0 → Typed bus slot image.now }
 {

@@ -12,8 +12,7 @@ pub use capture_rules::{Seen, Verdict};
 pub use list_entry::events;
 pub use plan_entry::plan;
 pub use rules::{
-    Answer, BlockNo, Bus, Event, Older, Outcome, Pair, Phase, Pin, Refusal, Sensor, Slot,
-    SlotNo,
+    Answer, BlockNo, Bus, Event, Older, Outcome, Pair, Phase, Pin, Refusal, Sensor, Slot, SlotNo,
 };
 pub use save_entry::save;
 pub use save_restore::restore;
