@@ -1,6 +1,6 @@
 -- Whether a slot that is there, or is not, has a pin.
 -- Assumes nothing.
-use Rattle.std.proofs.Common.{◌≡◌, refl, sym, ◌∙◌, ap, ℕ, ◌<◌, ◌≤◌, Bool, true, not, length, get_or, arith}
+use Rattle.std.proofs.Common.{◌≡◌, sym, ◌∙◌, ap, ◌<◌, ◌≤◌, true, not, length, get_or, arith}
 use Rattle.std.proofs.lemmas.List.{get_or-map}
 use borrow.Author.Tests.{lt-ltb, le-ltb}
 use Rattle.rules.specs.declared.Bus.{Bus}

@@ -1,5 +1,5 @@
 // The sensor's EVENT pin: when it is asserted and at what level, and the sensor's reads, writes and temperatures with it.
-#![tactic(auto, unfolding(rules::specs::Pin::active_high, rules::specs::Pin::asserted, rules::specs::Pin::can_pend, rules::specs::Pin::changes, rules::specs::Pin::clearing, rules::specs::Pin::converted_with_pin, rules::specs::Pin::critical_alone, rules::specs::Pin::critical_set, rules::specs::Pin::flag_counts, rules::specs::Pin::high_set, rules::specs::Pin::interrupting, rules::specs::Pin::level_of, rules::specs::Pin::low_set, rules::specs::Pin::pending_after, rules::specs::Pin::pin_enabled, rules::specs::Pin::pin_of, rules::specs::Pin::read_of, rules::specs::Pin::written_with_pin, rules::specs::Fields::with_pending))]
+#![tactic(auto, unfolding(crate::proofs::Open::pin))]
 
 ghost use Rattle.std.specs.Prelude.{◌≡◌};
 ghost use Rattle.rules.specs.Pin.{flag_counts, asserted, pin_of, can_pend, changes, pending_after, converted_with_pin, written_with_pin, read_of};

@@ -1,5 +1,5 @@
 // The sensor's registers: what they read, what a write leaves in them.
-#![tactic(auto, unfolding(rules::specs::Sensor::register_of, rules::specs::Sensor::critical_locked, rules::specs::Sensor::limits_locked, rules::specs::Sensor::locked_write, rules::specs::Sensor::configured, rules::specs::Sensor::written, rules::specs::Fields::with_configuration, rules::specs::Fields::with_high, rules::specs::Fields::with_low, rules::specs::Fields::with_critical, rules::specs::Fields::with_resolution, rules::specs::Fields::with_timeout))]
+#![tactic(auto, unfolding(crate::proofs::Open::registers))]
 
 ghost use Rattle.std.specs.Prelude.{◌≡◌, ◌/◌, ◌%◌, ◌^◌, ◌<◌, eqb, cond};
 ghost use Rattle.std.specs.Int.Bits.{bit_and};
@@ -16,6 +16,7 @@ pub(crate) fn bit(word: u16, n: u32) -> bool
 }
 
 // What register p reads.
+// Kept: a register's number is a number and no enum, here and below: it is the master's byte, and what is above 09h reads and does nothing.
 pub fn register(x: Sensor, p: u8) -> u16
     ensures { result ≡ register_of x p }
 {

@@ -1,5 +1,5 @@
 // The sensor's temperature: its conversion to a step of the resolution, and the flags.
-#![tactic(auto, unfolding(rules::specs::Sensor::bits_of, rules::specs::Sensor::signed_of, rules::specs::Sensor::step_of, rules::specs::Sensor::hysteresis_of, rules::specs::Sensor::flag_of, rules::specs::Sensor::lowered_of, rules::specs::Sensor::critical_flag, rules::specs::Sensor::high_flag, rules::specs::Sensor::low_flag, rules::specs::Sensor::reading, rules::specs::Sensor::shut_down, rules::specs::Sensor::stepped_of, rules::specs::Sensor::converted, rules::specs::Fields::with_temperature))]
+#![tactic(auto, unfolding(crate::proofs::Open::temperature))]
 
 ghost use Rattle.std.specs.Prelude.{◌≡◌, cond, pos, ◌-ℤ◌};
 ghost use Rattle.rules.specs.Sensor.{bits_of, signed_of, step_of, nearest_of, hysteresis_of, flag_of, critical_flag, high_flag, low_flag, reading, converted};

@@ -1,6 +1,6 @@
 -- An array's `map` gives the list's, where each call gives what a function of the element gives.
 -- Assumes nothing.
-use Rattle.std.proofs.Common.{◌≡◌, sym, ◌∙◌, ℕ, ◌<◌, List, length, map, slice_index_or}
+use Rattle.std.proofs.Common.{◌≡◌, sym, ◌∙◌, ℕ, ◌<◌, List, length, map}
 use Rattle.std.proofs.lemmas.List.{ext_get_or, get_or-map, length-map}
 use Rattle.std.specs.Array.{IsMapOf}
 use Rattle.std.specs.Fn.{Called}

@@ -1,5 +1,5 @@
 // A slot's blocks and what guards them, and the address that the counter points to, which lies in one of them.
-#![tactic(auto, unfolding(rules::specs::Control::protects, rules::specs::Fields::to_come, rules::specs::Fields::to_last, rules::specs::Memory::guarded, rules::specs::Memory::pin_on, rules::specs::Modelled::address_of, rules::specs::Modelled::block_of, rules::specs::Modelled::older))]
+#![tactic(auto, unfolding(crate::proofs::Open::blocks))]
 
 ghost use Rattle.std.specs.Prelude.{◌≡◌, true, false, get_or, set};
 ghost use Rattle.rules.specs.Fields.{to_come};
@@ -24,6 +24,7 @@ fn block_at(k: usize, blocks: [bool; 4]) -> bool
 }
 
 // The blocks with one more.
+// Kept: written by index, here and in cycle::put, and not through get_mut, after which a proof knows no element (tried: what is stored stays open).
 pub fn with_block(k: BlockNo, blocks: [bool; 4]) -> [bool; 4]
     ensures { result ≡ set blocks k.0 true }
 {

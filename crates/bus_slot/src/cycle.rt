@@ -1,5 +1,5 @@
 // The write cycle of a slot: a stop begins it, ticks run it down, and the last of them stores.
-#![tactic(auto, unfolding(rules::specs::Fields::placed, rules::specs::Fields::with_left, rules::specs::Memory::begun, rules::specs::Memory::brought, rules::specs::Memory::command_stop, rules::specs::Memory::data_stop, rules::specs::Memory::permanent_then, rules::specs::Modelled::older))]
+#![tactic(auto, unfolding(crate::proofs::Open::cycle))]
 
 ghost use Rattle.std.specs.Prelude.{◌≡◌};
 ghost use Rattle.rules.specs.Memory.{any_mark, begun, command_stop, data_stop, brought, ended, put_up_to, stored, ticked_part};

@@ -1,5 +1,5 @@
 // A read at one slot: whether the slot drives a byte, which, and what it does then.
-#![tactic(auto, unfolding(rules::specs::Slot::read_in))]
+#![tactic(auto, unfolding(crate::proofs::Open::drive), using(rules::proofs::Run::Cases::read_next))]
 
 ghost use Rattle.std.specs.Prelude.{◌≡◌, ◌/◌, ◌%◌, get_or};
 ghost use Rattle.rules.specs.Modelled.{address_of};

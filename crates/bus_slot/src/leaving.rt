@@ -1,5 +1,5 @@
 // What is let go when an exchange is left: what it held of the slot, by the phase that it is left in.
-#![tactic(auto, unfolding(rules::specs::Fields::expecting, rules::specs::Fields::latched, rules::specs::Fields::placed, rules::specs::Fields::to_come, rules::specs::Fields::to_last, rules::specs::Memory::abandoned, rules::specs::Memory::cancelled, rules::specs::Memory::emptied, rules::specs::Slot::let_go, rules::specs::Slot::lost))]
+#![tactic(auto, unfolding(crate::proofs::Open::leaving))]
 
 ghost use Rattle.std.specs.Prelude.{◌≡◌};
 ghost use Rattle.rules.specs.Memory.{abandoned, cancelled};

@@ -1,5 +1,5 @@
 // A byte from the master at one slot: what the slot makes of it, and whether it acknowledges.
-#![tactic(auto, unfolding(rules::specs::Fields::holding, rules::specs::Fields::in_phase, rules::specs::Fields::pointing, rules::specs::Fields::with_sensor, rules::specs::Fields::with_word, rules::specs::Memory::data_byte, rules::specs::Slot::first_byte, rules::specs::Slot::pointer, rules::specs::Slot::second_byte))]
+#![tactic(auto, unfolding(crate::proofs::Open::listen), using(rules::proofs::Run::Cases::byte_next))]
 
 ghost use Rattle.std.specs.Prelude.{◌≡◌, not, leb};
 ghost use Rattle.rules.specs.Control.{heard_by};

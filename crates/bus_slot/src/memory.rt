@@ -1,5 +1,5 @@
 // The memory of a slot in an exchange: its counter, its latch, the bytes that are read.
-#![tactic(auto, unfolding(rules::specs::Fields::at_counter, rules::specs::Fields::in_phase, rules::specs::Fields::latched, rules::specs::Fields::placed, rules::specs::Memory::fetched, rules::specs::Memory::latching, rules::specs::Memory::loaded, rules::specs::Memory::up_in_page, rules::specs::Modelled::address_of))]
+#![tactic(auto, unfolding(crate::proofs::Open::memory))]
 
 ghost use Rattle.std.specs.Prelude.{◌≡◌, get_or};
 ghost use Rattle.rules.specs.Modelled.{address_of};

@@ -1,5 +1,5 @@
 // A control byte at one slot: whether the slot acknowledges it, and what it does then.
-#![tactic(auto, unfolding(rules::specs::Control::acks_heard, rules::specs::Control::obeyed, rules::specs::Fields::in_half, rules::specs::Fields::in_phase, rules::specs::Fields::expecting, rules::specs::Fields::to_come, rules::specs::Fields::to_last, rules::specs::Modelled::sensing))]
+#![tactic(auto, unfolding(crate::proofs::Open::obey))]
 
 ghost use Rattle.std.specs.Prelude.{◌≡◌, true, false, cond, ◌&&◌, eqb, set};
 ghost use Rattle.rules.specs.Fields.{in_phase, to_come, holding};

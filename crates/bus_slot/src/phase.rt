@@ -1,5 +1,5 @@
 // Where a slot stands in an exchange.
-#![tactic(auto, unfolding(rules::specs::Fields::holding, rules::specs::Fields::in_phase, rules::specs::Fields::with_sensor, rules::specs::Fields::with_word, rules::specs::Modelled::absent, rules::specs::Modelled::sensing, rules::specs::Slot::standing))]
+#![tactic(auto, unfolding(crate::proofs::Open::phase))]
 
 ghost use Rattle.std.specs.Prelude.{◌≡◌};
 ghost use Rattle.rules.specs.Fields.{in_phase, holding};

@@ -1,5 +1,5 @@
 // What reaches one slot alone: high voltage, temperature, the write-protect pin.
-#![tactic(auto, unfolding(rules::specs::Fields::with_old, rules::specs::Fields::with_pin, rules::specs::Fields::with_sensor, rules::specs::Fields::with_voltage, rules::specs::Modelled::absent, rules::specs::Modelled::older, rules::specs::Modelled::sensing, rules::specs::Slot::applied, rules::specs::Slot::endures, rules::specs::Slot::heated, rules::specs::Slot::shielded, rules::specs::Slot::switched))]
+#![tactic(auto, unfolding(crate::proofs::Open::pins))]
 
 ghost use Rattle.std.specs.Prelude.{◌≡◌, cond};
 ghost use Rattle.rules.specs.Modelled.{absent};

@@ -1,5 +1,5 @@
 // A power cycle at one slot, and what it still does of a write cycle that is running.
-#![tactic(auto, unfolding(rules::specs::Fields::latched, rules::specs::Fresh::fresh_older, rules::specs::Fresh::fresh_slot, rules::specs::Fresh::powered, rules::specs::Power::cut))]
+#![tactic(auto, unfolding(crate::proofs::Open::power))]
 
 ghost use Rattle.std.specs.Prelude.{◌≡◌};
 ghost use Rattle.rules.specs.Fresh.{powered};

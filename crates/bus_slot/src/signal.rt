@@ -1,5 +1,5 @@
 // What reaches every slot and carries nothing, at one slot: start, stop, timeout.
-#![tactic(auto, unfolding(rules::specs::Modelled::absent, rules::specs::Slot::present_next, rules::specs::Slot::slot_next, rules::specs::Slot::stop_in, crate::specs::Signals::act_for, crate::specs::Signals::signalled))]
+#![tactic(auto, unfolding(crate::proofs::Open::signal))]
 
 ghost use Rattle.std.specs.Prelude.{◌≡◌};
 ghost use Rattle.rules.specs.Slot.{stop_in};

@@ -26,7 +26,7 @@ pub fn taken(mut slots: [Slot; 8], mem: &mut [u8], a: Act) -> Outcome
         match foreseen::glance(line, n, *slot) {
             Change::Nothing => {}
             Change::To(phase) => *slot = bus_slot::phase::in_phase(phase, *slot),
-            // Kept: a range of mem, and no chunks_exact_mut or as_chunks_mut zipped with the slots: tried, and a proof learns nothing of what they leave.
+            // Kept: a range of mem, and no chunks_exact_mut or as_chunks_mut zipped with the slots: tried, and no proof learns what they leave.
             Change::More => {
                 let from = Slot::BYTES * i;
                 let to = from + Slot::BYTES;

@@ -12,6 +12,7 @@ use super::line::Line;
 use rules::{Act, Heard, Phase, Slot, SlotNo};
 
 // The slot stays, or moves to another phase and no more, and shows nothing; or there is more to it.
+// Kept: three cases and no Option round the phase: that nothing is told is one more answer, and the loop asks for all three in one match.
 #[derive(Clone, Copy)]
 pub enum Change {
     Nothing,

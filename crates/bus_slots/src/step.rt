@@ -1,7 +1,7 @@
 // One slot at an event of any kind: what it does, and what it shows. It looks at no other slot.
 // Kept: a slot's number n beside the slot, here and below, and no struct of both: the law's definitions take them apart, and half the functions of a
 // slot need no number.
-#![tactic(auto, unfolding(rules::specs::Slot::slot_next, rules::specs::Slot::present_next, rules::specs::Slot::part_next, crate::specs::Stepped::stepped, bus_slot::specs::ReadOut::read_out, bus_slot::specs::Heeded::heeded, bus_slot::specs::Signals::act_for, bus_slot::specs::Signals::signalled))]
+#![tactic(auto, unfolding(crate::proofs::Open::step))]
 
 ghost use Rattle.std.specs.Prelude.{◌≡◌, false, cond};
 ghost use Rattle.rules.specs.Control.{heard_of};

@@ -2,25 +2,24 @@
 -- Assumes nothing.
 use Prim.Native.Nat.{ℕ, ◌+◌, ◌/◌, ◌%◌, ◌<◌, ◌≤◌}
 use native.Mathlib.Omega.{arith}
-use mathlib.Core.Path.{◌≡◌, refl, sym, ◌∙◌, ap, ap₂}
+use mathlib.Core.Path.{◌≡◌, refl, sym, ◌∙◌, ap, ap₂, subst}
 use mathlib.Core.Bool.{Bool, true, false, false≢true, ◌&&◌}
 use mathlib.Core.List.{List, [], ◌∷◌, ◌++◌}
 use borrow.Author.Tests.{lt-ltb, le-ltb, eqb-true}
 use lib.Dec.{eqb}
 use lib.ListN.{length}
 use lib.Seq.{sets}
-use Rattle.proof_lists.specs.Tests.{by-test, cond-true, cond-false, and_right}
+use Rattle.proof_lists.specs.Tests.{by-test, cond-true, cond-false, and_left, and_right}
 use Rattle.rules.specs.declared.Bus.{Bus}
 use Rattle.script_text.specs.Letters.{short_line}
 use Rattle.capture_rules.specs.declared.Verdict.{Verdict}
-use Rattle.capture_rules.specs.declared.Verdict.TheVariants.{Short}
+use Rattle.capture_rules.specs.declared.Verdict.TheVariants.{Accepted, Differs, Short, Refused}
 use Rattle.capture_rules.specs.Capture.{left_over, closed}
 use Rattle.capture_rules.specs.Agreement.{is_accepted}
 use Rattle.capture_pieces.specs.Line.{verdict_line}
 use Rattle.capture_pieces.specs.declared.pieces.Checked.{Checked}
 use Rattle.capture_pieces.specs.Piece.{piece_of}
-use Rattle.capture.specs.declared.Going.{Going}
-use Rattle.capture.specs.Program.{piece_bytes, step_of, steps_of, Came, Reached, Ended, served_with, Served}
+use Rattle.capture.specs.Program.{Going, piece_bytes, most_records, step_of, steps_of, begun, Came, Reached, Ended, served_with, Served}
 
 -- a piece is looked at where it goes on, and not otherwise
 pub steps_on : (g : Going) (m r : List ℕ) (rs : List (List ℕ)) → g.on ≡ true → steps_of g m (r ∷ rs) ≡ steps_of (step_of g m r).0 (step_of g m r).1 rs
@@ -68,15 +67,39 @@ came-by g m bs left c v n size on k l z p q a =
       step = λ i. (record { bus = (p i).0.bus; number = g.number + sym k i / 6; verdict = w i; on = o i }, (p i).1);
     }
 
--- it goes on behind a full piece alone, and so has that many records more
-pub came-full : (g : Going) (m : List ℕ) (r : Going) (left : List ℕ) → Came g m r left → r.on ≡ true → r.number ≡ g.number + 4096
-unfolding step_of left_over
-came-full g m r left c h =
-    let bs : List ℕ = c.piece in
-    let a : Bool = is_accepted (closed (length bs % 6) (piece_of g.bus m g.number bs).0.verdict) in
-    let o : (a && eqb (length bs) piece_bytes) ≡ true = ap (λ (z : Going × List ℕ). z.0.on) c.step ∙ h in
-    let f : length bs ≡ piece_bytes = eqb-true (length bs) piece_bytes (and_right a (eqb (length bs) piece_bytes) o) in
-    sym (ap (λ (z : Going × List ℕ). z.0.number) c.step) ∙ ap (λ n. g.number + n / 6) f
+-- a bus on which so many records agreed
+abbrev pub agreed : Bus → ℕ → Going
+agreed b k = record { bus = b; number = k; verdict = Accepted; on = true }
+
+accepted_is : (v : Verdict) → is_accepted v ≡ true → v ≡ Accepted
+unfolding is_accepted
+accepted_is Accepted e = refl
+accepted_is (Differs k a s) e = absurd (false≢true e)
+accepted_is Short e = absurd (false≢true e)
+accepted_is (Refused r) e = absurd (false≢true e)
+
+-- so: one piece more from there
+module _ (b : Bus) (m : List ℕ) (d : Bus) (stored : List ℕ) (k : ℕ) (p : Reached (begun b) m (agreed d k) stored)
+    (bs left : List ℕ) (c : Checked) (v : Verdict) (n size : ℕ) (on : Bool)
+    (i : n ≡ length bs) (l : n ≤ size) (z : size ≡ piece_bytes) (f : piece_of d stored k bs ≡ (c, left)) (w : v ≡ closed (n % 6) c.verdict) (a : on ≡ is_accepted v) where
+  there : Reached (begun b) m (record { bus = c.bus; number = k + n / 6; verdict = v; on = on && eqb n size }) left
+  there = reached-more _ _ _ _ _ _ p refl (came-by (agreed d k) stored bs left c v n size on i l z f w a)
+
+  pub ended-here : (on && eqb n size) ≡ false → Ended b m v
+  ended-here o = record { going = _; left = left; reached = there; over = λ h. absurd (false≢true (sym o ∙ h)); verdict = refl }
+
+  pub agreed-more : (on && eqb n size) ≡ true → Reached (begun b) m (agreed c.bus (k + n / 6)) left
+  agreed-more o =
+      let h : v ≡ Accepted = accepted_is v (sym a ∙ and_left on (eqb n size) o) in
+      subst (λ (u : Verdict). Reached (begun b) m (record { bus = c.bus; number = k + n / 6; verdict = u; on = true }) left) h
+      (subst (λ (q : Bool). Reached (begun b) m (record { bus = c.bus; number = k + n / 6; verdict = v; on = q }) left) o there)
+
+  pub agreed-full : (on && eqb n size) ≡ true → n / 6 ≡ 4096
+  agreed-full o = let g : n ≡ size = eqb-true n size (and_right on (eqb n size) o) in ap (λ j. j / 6) (g ∙ z)
+
+-- and where there were as many as no input has
+pub ended-over : (b : Bus) (m : List ℕ) (d : Bus) (stored : List ℕ) (k : ℕ) → Reached (begun b) m (agreed d k) stored → k ≡ most_records → Ended b m Accepted
+ended-over b m d stored k p e = record { going = agreed d k; left = stored; reached = p; over = λ _. e; verdict = refl }
 
 -- a memory that is cut, and the verdict where it is whole
 module _ (b : Bus) (m : List ℕ) (came : ℕ) (out : List ℕ) (end : ℕ) (o : List ℕ) (z : length m ≡ 4096) where

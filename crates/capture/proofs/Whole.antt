@@ -17,7 +17,10 @@ use Rattle.rules.specs.Refusals.{wrong_length, good_pair, setup_of}
 use Rattle.rules.specs.Runs.{Bench}
 use Rattle.script_text.specs.Records.{pairs_of}
 use Rattle.script_text.proofs.records.Laws.{pairs-of}
-use Rattle.script_turns.specs.Frame.{cut_setup, first_line, goes_on, first_bus, begin_of}
+use Rattle.bus_bench.specs.Beginning.{begun as opened}
+use Rattle.script_turns.specs.Frame.{cut_setup, first_line, goes_on, begin_of}
+use Rattle.script_turns.specs.Program.{followed}
+use Rattle.script_turns.proofs.frame.Onward.{first-none}
 use Rattle.script_turns.proofs.frame.Laws.{first-length, written}
 use Rattle.capture_rules.specs.declared.Verdict.{Verdict}
 use Rattle.capture_rules.specs.declared.Verdict.TheVariants.{Accepted, Differs, Short, Refused}
@@ -27,9 +30,8 @@ use Rattle.capture_rules.proofs.First.{decided}
 use Rattle.capture_rules.proofs.Pieces.{left-pieces, verdict-pieces}
 use Rattle.capture_pieces.specs.Line.{verdict_line}
 use Rattle.capture_pieces.specs.Piece.{piece_of}
-use Rattle.capture.specs.declared.Going.{Going}
 use Rattle.capture.specs.Asked.{written_for}
-use Rattle.capture.specs.Program.{piece_bytes, step_of, steps_of, begun, served_with, Ended, Served, serve_writes, Wrote, capture_writes, InPieces, joined}
+use Rattle.capture.specs.Program.{Going, piece_bytes, step_of, steps_of, begun, served_with, Ended, Served, serve_writes, Wrote, capture_writes, InPieces, joined}
 use Rattle.capture.proofs.Onward.{steps_on, steps-off}
 
 -- bytes without a cut record
@@ -75,9 +77,12 @@ steps-verdict g m (r ∷ s ∷ rs) o p =
 
 -- what is written is the first line, and where it goes on what follows
 writes-by : (head m out : List ℕ) (rs : List (List ℕ)) → 6 ≤ length out
-    → capture_writes head m rs out ≡ first_line head ++ cond (goes_on head) (serve_writes (first_bus head) m rs) []
-unfolding capture_writes begin_of
-writes-by head m out rs room = rw (written out (first_line head) (omega (arith, first-length head)))
+    → capture_writes head m rs out ≡ first_line head ++ cond (goes_on head) (serve_writes (setup_of (pairs_of head)).bus m rs) []
+unfolding capture_writes begin_of followed opened
+writes-by head m out rs room =
+    by-test (goes_on head)
+    (λ g. rw (g, first-none head g))
+    (λ g. rw g (written out (first_line head) (omega (arith, first-length head)) ∙ sym (append-nil (first_line head))))
 
 -- AN INPUT THAT ENDS IN THE SETUP
 pub writes-cut-setup : (head m out : List ℕ) (rs : List (List ℕ)) → length head < 16 → 6 ≤ length out → capture_writes head m rs out ≡ written_for head
@@ -100,7 +105,7 @@ writes-cut head m out rs l c room =
 -- ANY OTHER: setup and memory are whole, and what is written is `written_for` of it all
 pub writes-whole : (head m out : List ℕ) (rs : List (List ℕ)) → length head ≡ 16 → length m ≡ 4096 → InPieces rs → 6 ≤ length out
     → capture_writes head m rs out ≡ written_for (head ++ (m ++ joined rs))
-unfolding first_line goes_on cut_setup first_bus written_for serve_writes served_with verdict_of wrong_length start_of
+unfolding first_line goes_on cut_setup written_for serve_writes served_with verdict_of wrong_length start_of
 writes-whole head m out rs lh lm p room =
     let more : List ℕ = joined rs in
     let bs : List ℕ = head ++ (m ++ more) in

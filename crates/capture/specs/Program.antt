@@ -1,11 +1,12 @@
 -- The program as a whole, over the pieces in which its input comes: what it writes, of its steps put together as the program does it. The bytes that
 -- come no contract can say; what is done with them these do.
 -- Assumes nothing.
-use Rattle.std.specs.Prelude.{ℕ, ◌+◌, ◌/◌, ◌<◌, ◌≤◌, ◌≡◌, true, cond, ◌&&◌, List, [], ◌∷◌, ◌++◌, eqb, ltb, length, take}
+use Rattle.std.specs.Prelude.{ℕ, ◌+◌, ◌/◌, ◌<◌, ◌≤◌, ◌≡◌, Bool, true, cond, ◌&&◌, List, [], ◌∷◌, ◌++◌, eqb, ltb, length, Result}
 use Rattle.std.proofs.lemmas.List.Edits.{sets}
 use Rattle.rules.specs.declared.Bus.{Bus}
-use Rattle.script_turns.specs.declared.frame.Begun.{Begun}
+use Rattle.rules.specs.Runs.{Bench}
 use Rattle.script_turns.specs.Frame.{begin_of}
+use Rattle.script_turns.specs.Program.{followed}
 use Rattle.capture_rules.specs.declared.Verdict.{Verdict}
 use Rattle.capture_rules.specs.declared.Verdict.TheVariants.{Accepted, Short}
 use Rattle.capture_rules.specs.Capture.{left_over, closed}
@@ -13,7 +14,13 @@ use Rattle.capture_rules.specs.Agreement.{is_accepted}
 use Rattle.capture_pieces.specs.Line.{verdict_line}
 use Rattle.capture_pieces.specs.declared.pieces.Checked.{Checked}
 use Rattle.capture_pieces.specs.Piece.{piece_of}
-use Rattle.capture.specs.declared.Going.{Going}
+
+-- what goes from one piece to the next: the bus, the number of records so far, the verdict on them, and whether to go on
+pub record Going : Type 0 where
+  pub bus : Bus
+  pub number : ℕ
+  pub verdict : Verdict
+  pub on : Bool
 
 -- bytes of a full piece: 4,096 records
 abbrev pub piece_bytes : ℕ
@@ -79,8 +86,8 @@ pub record Wrote (b : Bus) (m text : List ℕ) : Type 0 where
 
 unfoldable pub capture_writes : List ℕ → List ℕ → List (List ℕ) → List ℕ → List ℕ
 capture_writes head m rs out =
-    let b : Begun × List ℕ × List ℕ = begin_of head out in
-    take b.0.end b.2 ++ cond b.0.on (serve_writes b.0.bus m rs) []
+    let b : Result Bench ℕ × List ℕ = begin_of head out in
+    followed b.0 b.1 (λ x. serve_writes x.bus m rs)
 
 -- an input behind the memory, in pieces: all full but the last
 unfoldable pub InPieces : List (List ℕ) → Type 0

@@ -21,7 +21,8 @@ pub enum Verb {
     Pin,
     // An event by its kind, its slot and its value.
     Event,
-    // An event of this kind by its name: with no number, with a value, and with a slot and a value.
+    // An event by its name: with no number, with a value, and with a slot and a value.
+    // Kept: its kind is a number, as `rules::Event` has it, whose fields may hold rubbish.
     Alone(u8),
     Valued(u8),
     Applied(u8),
@@ -56,7 +57,7 @@ pub const VERBS: [(&str, Verb); 26] = [
     ("write-protect", Verb::Applied(10)),
 ];
 
-// The numbers of a slot in their order, each with its name: where several have one name, they stand in a row, and a name that is read is the first's.
+// The numbers of a slot in their order, each by its name: where several have one name, they stand in a row, and a name that is read is the first's.
 pub const NUMBERS: [&str; 61] = [
     "kind",
     "length",

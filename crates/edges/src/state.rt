@@ -8,6 +8,7 @@ use rules::{Older, Phase, Sensor, Slot};
 use std::array;
 
 // A slot, number by number, in the order of `names::NUMBERS`. The last four a try hands in, and tells, of slots of every kind.
+// Kept: a list beside that of the names, and no field for each, since a try hands numbers in by their places: by a name, and those that follow.
 #[derive(Clone, Copy, PartialEq, Eq)]
 pub struct Numbers(pub [u16; 61]);
 

@@ -86,7 +86,7 @@ impl From<&[u8]> for Word {
 
 // A comma is a blank, and so is what is not above a space.
 fn is_blank(b: &u8) -> bool {
-    (*b <= b' ') | (*b == b',')
+    *b <= b' ' || *b == b','
 }
 
 // The first word of a command, if it has one.

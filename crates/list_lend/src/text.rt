@@ -11,7 +11,7 @@ pub const MOST_EVENTS: usize = 4096;
 pub const MOST_PLACES: usize = 65535;
 
 // What stands in a room for events until they are put there.
-pub const NONE: Event = Event {
+pub const NO_EVENT: Event = Event {
     kind: 0,
     slot: SlotNo(0),
     value: 0,

@@ -2,7 +2,7 @@
 -- Assumes nothing.
 use mathlib.Core.Path.{◌≡◌, refl, sym, ◌∙◌, ap, ap₂}
 use mathlib.Core.Bool.{true, false, cond}
-use mathlib.Core.List.{List, [], ◌++◌}
+use mathlib.Core.List.{List, [], ◌++◌, append-nil}
 use Prim.Native.Nat.{ℕ, ◌+◌, ◌%◌, ◌<◌, ◌≤◌}
 use native.Mathlib.Omega.{arith}
 use borrow.Author.Tests.{lt-ltb, le-ltb, ltb-true, ltb-false}
@@ -18,10 +18,12 @@ use Rattle.rules.specs.Runs.{Bench}
 use Rattle.script_text.specs.Records.{pairs_of}
 use Rattle.script_text.proofs.records.Laws.{pairs-of}
 use Rattle.script_text.specs.Letters.{short_line}
-use Rattle.script_turns.specs.Frame.{cut_setup, first_line, goes_on, first_bus, begin_of}
+use Rattle.bus_bench.specs.Beginning.{begun as opened}
+use Rattle.script_turns.specs.Frame.{cut_setup, first_line, goes_on, begin_of}
+use Rattle.script_turns.proofs.frame.Onward.{first-none}
 use Rattle.script_turns.proofs.frame.Laws.{first-length, written}
 use Rattle.script_turns.specs.Script.{records_in, bench_to}
-use Rattle.script_turns.specs.Program.{Read, input_of}
+use Rattle.script_turns.specs.Program.{Read, input_of, followed}
 use Rattle.script_streams.specs.Reading.{Ran, turns_leave, begun}
 use Rattle.script_streams.proofs.reading.Whole.{turns-left}
 use Rattle.plan.specs.Asked.{end_text, answer_of, asked_bench, answer_to, written_for}
@@ -32,9 +34,12 @@ use Rattle.plan.proofs.Laws.{text-fits}
 -- what is written is the first line, and where it goes on what follows
 writes-by : (head m slot image buf out : List ℕ) (rs : List Read) → 6 ≤ length out
     → plan_writes head m slot image rs buf out
-    ≡ first_line head ++ cond (goes_on head) (serve_writes (first_bus head) m slot image rs buf (sets out 0 (first_line head))) []
-unfolding plan_writes begin_of
-writes-by head m slot image buf out rs room = rw (written out (first_line head) (omega (arith, first-length head)))
+    ≡ first_line head ++ cond (goes_on head) (serve_writes (setup_of (pairs_of head)).bus m slot image rs buf (sets out 0 (first_line head))) []
+unfolding plan_writes begin_of followed opened
+writes-by head m slot image buf out rs room =
+    by-test (goes_on head)
+    (λ g. rw (g, first-none head g))
+    (λ g. rw g (written out (first_line head) (omega (arith, first-length head)) ∙ sym (append-nil (first_line head))))
 
 -- AN INPUT THAT ENDS IN THE SETUP
 pub writes-cut-setup : (head m slot image buf out : List ℕ) (rs : List Read) → length head < 16 → 6 ≤ length out
@@ -59,7 +64,7 @@ serve-ends b m slot image buf out rs room =
 -- AN INPUT THAT ENDS IN MEMORY, SLOT OR IMAGE
 pub writes-cut : (head m slot image buf out : List ℕ) (rs : List Read) → length head ≡ 16 → length m + length slot + length image < 4609 → 9000 ≤ length out
     → plan_writes head m slot image rs buf out ≡ written_for (head ++ (m ++ (slot ++ image)))
-unfolding first_line goes_on cut_setup first_bus written_for end_text
+unfolding first_line goes_on cut_setup written_for end_text
 writes-cut head m slot image buf out rs l c room =
     let more : List ℕ = m ++ (slot ++ image) in
     let n : length (head ++ more) ≡ 16 + (length m + (length slot + length image)) =
@@ -76,7 +81,7 @@ writes-cut head m slot image buf out rs l c room =
 -- ANY OTHER: setup, memory, slot and image are whole, the records come in reads of any sizes, and what is written is `written_for` of it all
 pub writes-whole : (head m slot image buf out : List ℕ) (rs : List Read) → length head ≡ 16 → length m ≡ 4096 → length slot ≡ 1 → length image ≡ 512
     → 9000 ≤ length out → plan_writes head m slot image rs buf out ≡ written_for (head ++ (m ++ (slot ++ (image ++ input_of rs))))
-unfolding first_line goes_on cut_setup first_bus written_for answer_to asked_bench end_text
+unfolding first_line goes_on cut_setup written_for answer_to asked_bench end_text
 writes-whole head m slot image buf out rs lh lm ls li room =
     let more : List ℕ = input_of rs in
     let bs : List ℕ = head ++ (m ++ (slot ++ (image ++ more))) in
@@ -113,21 +118,22 @@ unfolding end_text
 cut-serve b m slot image buf out rs room c = serve-ends b m slot image buf out rs room ∙ rw (lt-ltb (length m + length slot + length image) 4609 c)
 
 -- WHAT THE CODE DOES BEHIND THE SETUP (`serve` and its contract): of the bytes that came as memory, slot and image, and of some reads, this is written
-pub served : (b : Bus) (out o : List ℕ) (end : ℕ) (s : Served b out end o) → 9000 ≤ length out
+pub served : (x : Bench) (out o : List ℕ) (end : ℕ) (s : Served x out end o) → 9000 ≤ length out
     → take end o
-    ≡ serve_writes b (take s.bytes s.memory) (take s.number s.slot) (take s.wanted s.image) s.ended.reached.reads s.ended.buf out
+    ≡ serve_writes x.bus (take s.bytes s.memory) (take s.number s.slot) (take s.wanted s.image) s.ended.reached.reads s.ended.buf out
 unfolding serve_writes
-served b out o end s room =
+served x out o end s room =
     let rs : List Read = s.ended.reached.reads in
     let buf : List ℕ = s.ended.buf in
-    let r : Ran = turns_leave (begun (record { bus = b; memory = s.memory }) buf out) rs in
+    let r : Ran = turns_leave (begun (record { bus = x.bus; memory = s.memory }) buf out) rs in
     let k : SlotNo = record { 0 = get_or s.slot 0 0 } in
     let came : ℕ = s.bytes + s.number + s.wanted in
     let a : answer_of r.bench k s.image came r.held r.out ≡ (end, o) =
-    ap (λ (z : Ran). answer_of z.bench k s.image came z.held z.out) s.ended.reached.turned ∙ s.answered in
+    ap (λ (z : Ran). answer_of z.bench k s.image came z.held z.out) s.ended.reached.turned
+    ∙ ap (λ (i : ℕ). answer_of s.bench k s.image came i s.left) (sym s.ended.told) ∙ s.answered in
     by-test (ltb came 4609)
-    (λ c. cut_short r.bench k s.image r.out o came r.held end c a (omega (arith, (turns-left (begun (record { bus = b; memory = s.memory }) buf out) [] rs refl (omega arith) refl).2))
-    ∙ sym (cut-serve b (take s.bytes s.memory) (take s.number s.slot) (take s.wanted s.image) buf out rs room
+    (λ c. cut_short r.bench k s.image r.out o came r.held end c a (omega (arith, (turns-left (begun (record { bus = x.bus; memory = s.memory }) buf out) [] rs refl (omega arith) refl).2))
+    ∙ sym (cut-serve x.bus (take s.bytes s.memory) (take s.number s.slot) (take s.wanted s.image) buf out rs room
     (rw (length-take-le s.bytes s.memory (omega arith), length-take-le s.number s.slot (omega arith), length-take-le s.wanted s.image (omega arith)) (ltb-true came 4609 c))))
     (λ c.
     let l : 4609 ≤ came = ltb-false came 4609 c in

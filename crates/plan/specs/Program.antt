@@ -1,11 +1,11 @@
 -- The program as a whole, over any reads in which its input comes: what it writes, of its steps put together as the program does it. The bytes that
 -- came as setup, memory, slot and image are given, and then the reads of the records, with the last one, which brings nothing.
 -- Assumes nothing.
-use Rattle.std.specs.Prelude.{ℕ, ◌+◌, cond, List, [], ◌++◌, length, take, get_or}
+use Rattle.std.specs.Prelude.{ℕ, ◌+◌, List, length, take, get_or, Result}
 use Rattle.rules.specs.declared.Bus.{Bus}
-use Rattle.script_turns.specs.declared.frame.Begun.{Begun}
+use Rattle.rules.specs.Runs.{Bench}
 use Rattle.script_turns.specs.Frame.{begin_of}
-use Rattle.script_turns.specs.Program.{Read}
+use Rattle.script_turns.specs.Program.{Read, followed}
 use Rattle.script_streams.specs.Reading.{Ran, turns_leave, begun}
 use Rattle.plan.specs.Asked.{answer_of}
 
@@ -19,5 +19,5 @@ serve_writes b m slot image rs buf out =
 -- what is written altogether, with buffers that hold anything
 unfoldable pub plan_writes : List ℕ → List ℕ → List ℕ → List ℕ → List Read → List ℕ → List ℕ → List ℕ
 plan_writes head m slot image rs buf out =
-    let b : Begun × List ℕ × List ℕ = begin_of head out in
-    take b.0.end b.2 ++ cond b.0.on (serve_writes b.0.bus m slot image rs buf b.2) []
+    let b : Result Bench ℕ × List ℕ = begin_of head out in
+    followed b.0 b.1 (λ x. serve_writes x.bus m slot image rs buf b.1)

@@ -1,13 +1,12 @@
 -- What the program's reads leave in the end. The bytes that come no contract can say; what is done with them this does.
 -- Assumes nothing.
-use Rattle.std.specs.Prelude.{ℕ, ◌+◌, ◌≤◌, ◌≡◌, false, List, length, get_or}
-use Rattle.rules.specs.declared.Bus.{Bus}
-use Rattle.script_streams.specs.declared.reading.Going.{Going}
+use Rattle.std.specs.Prelude.{ℕ, ◌+◌, ◌≤◌, ◌≡◌, List, length, get_or, Some}
+use Rattle.rules.specs.Runs.{Bench}
 use Rattle.script_streams.specs.Reading.{Ended}
 use Rattle.plan.specs.Asked.{answer_of}
 
 -- memory, slot and image as they were read, so many bytes of each; then the records, and the answer
-pub record Served (b : Bus) (out : List ℕ) (end : ℕ) (written : List ℕ) : Type 0 where
+pub record Served (x : Bench) (out : List ℕ) (end : ℕ) (written : List ℕ) : Type 0 where
   pub memory : List ℕ
   pub slot : List ℕ
   pub image : List ℕ
@@ -16,9 +15,8 @@ pub record Served (b : Bus) (out : List ℕ) (end : ℕ) (written : List ℕ) : 
   pub wanted : ℕ
   pub sizes : (length memory ≡ 4096) × (length slot ≡ 1) × (length image ≡ 512)
   pub counts : (bytes ≤ 4096) × (number ≤ 1) × (wanted ≤ 512)
-  pub going : Going
-  pub stored : List ℕ
+  pub held : ℕ
+  pub bench : Bench
   pub left : List ℕ
-  pub ended : Ended false b memory out going stored left
-  pub answered : answer_of (record { bus = going.bus; memory = stored }) (record { 0 = get_or slot 0 0 }) image (bytes + number + wanted)
-      going.held left ≡ (end, written)
+  pub ended : Ended (record { bus = x.bus; memory = memory }) out (Some held) bench left
+  pub answered : answer_of bench (record { 0 = get_or slot 0 0 }) image (bytes + number + wanted) held left ≡ (end, written)

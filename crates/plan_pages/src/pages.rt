@@ -11,7 +11,6 @@ pub const COUNT: u8 = 32;
 
 // Five ticks at one slot; part is its own 512 bytes. Whatever cycle ran is over then.
 pub fn settle(s: Slot, part: &mut [u8; Slot::BYTES]) -> Slot
-    requires { slot_in_range s ≡ true }
     ensures { (result ≡ slot_after 0 (replicate five Act.Tick) s)
         × (part.new ≡ part_after 0 (replicate five Act.Tick) s part.old) }
 {

@@ -15,6 +15,7 @@ pub enum Step {
 
 impl Step {
     // As a record: kind, slot and value. The slot is 0, and the value one byte.
+    #[tactic(auto, unfolding(crate::specs::Laid::event_of, plan_rules::specs::Records::record_of, plan_rules::specs::Records::word_of))]
     fn record(self) -> [u8; 4]
         ensures { result ≡ record_of (event_of self) }
     {

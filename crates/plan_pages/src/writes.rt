@@ -42,6 +42,7 @@ pub fn all_pages(
     ensures { plan.new ≡ with_laid (pages_before old.now image.now s k.0 page_count) plan.old }
 {
     let mut half = s.half;
+    // Kept: over numbers: p is the page's number, from which its half and its counter come, and no list of pages stands anywhere.
     for p in 0..pages::COUNT {
         if pages::differs(old, image, p) {
             page(plan, half, k, image, p, s.length);

@@ -53,6 +53,13 @@ impl Field {
         Field::Older,
     ];
 
+    // The field in a row of the table; from row 6 on, where there is none, the first, as the table has it.
+    pub fn of_row(t: usize) -> Self
+        ensures { field_at (row_of result) ≡ field_at t }
+    {
+        Self::ALL.get(t).copied().unwrap_or(Field::Setup)
+    }
+
     #[tactic(auto, unfolding(crate::proofs::Open::table))]
     pub fn tag(self) -> u8
         ensures { result ≡ (field_at (row_of self)).tag }

@@ -15,6 +15,7 @@ use std::io::{Print, Stdin};
 const MOST: usize = 65535;
 
 // The length that the first four bytes say, the highest first.
+// Kept: `as`: no `usize::from` takes a u32.
 fn form_bytes(head: &[u8]) -> usize
     requires { 4 ≤ length head.now }
     ensures { result ≡ form_bytes head.now }
@@ -36,8 +37,8 @@ fn wanted(head: &[u8]) -> usize
     size
 }
 
-// The beginning, from the bytes that were read as the form's length and as the form: the bench that the form restores to, over memory as it starts, with
-// nothing put; or, where none follows, `short` or `R10` put at the front of the output, and where that ends.
+// The beginning, from the bytes that were read as the form's length and as the form: the bench that the form restores to, over memory as it starts,
+// with nothing put; or, where none follows, `short` or `R10` put at the front of the output, and where that ends.
 fn begin(head: &[u8], form: &[u8], out: &mut [u8]) -> Result<Bench, usize>
     requires { 6 ≤ length out.old }
     ensures { begin_of head.now form.now out.old ≡ (result, out.new) }

@@ -7,7 +7,7 @@ use Prim.Native.Nat.{ℕ, zero, suc, ◌+◌, ◌-◌, ◌*◌, ◌≤◌, ◌<�
 use native.Mathlib.Nat.{add-zero}
 use native.Mathlib.Numerals.{add-one}
 use native.Mathlib.Omega.{arith}
-use borrow.Author.Tests.{eqb-true, eq-eqb, ne_eqb, not-true, not-false}
+use borrow.Author.Tests.{eq-eqb, ne_eqb, not-true, not-false}
 use denote.Enum.Bare.{sameb}
 use lib.Dec.{eqb}
 use lib.ListN.{length, get_or, set, take, drop, replicate, length-take, length-drop, length-replicate}
@@ -20,7 +20,7 @@ use Rattle.std.specs.List.{list_all, starts_with}
 use Rattle.proof_lists.specs.Same.{same, stands}
 use Rattle.proof_lists.specs.Stores.{pasted}
 use Rattle.proof_lists.specs.Tests.{by-test}
-use Rattle.script_text.proofs.letters.Laws.{Put, put_on}
+use Rattle.script_text.proofs.letters.Laws.{Put}
 use Rattle.rules.specs.declared.Answer.TheVariants as answer
 use Rattle.rules.specs.declared.Bus.{Bus}
 use Rattle.rules.specs.declared.Outcome.{Outcome}
@@ -29,7 +29,7 @@ use Rattle.rules.specs.declared.Slot.{Slot}
 use Rattle.rules.specs.Modelled.{slot_count, slot_bytes, memory_bytes, absent}
 use Rattle.rules.specs.Fresh.{absent_slot}
 use Rattle.rules.specs.Refusals.{wrong_length, slot_in_range, in_range}
-use Rattle.save_rules.specs.Form.{word_of, memory_field, fields, field_count, field_at, share_of, is_there, form_of}
+use Rattle.save_rules.specs.Form.{memory_field, fields, field_count, field_at, share_of, is_there, form_of}
 use Rattle.save_rules.specs.Reading.{size_in, offset, span, begins, place, tagged, read_shares, read_field, memory_row, bus_in, stored_to, memory_in, accepted, restore_of}
 use Rattle.save_rules.proofs.Places.{length-share, fixed-there, span-there, share-within, begins-up, size-most, most_other}
 use Rattle.save_fields.specs.contracts.shares.Field as field

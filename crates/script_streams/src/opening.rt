@@ -20,6 +20,7 @@ pub fn came(input: &mut Stdin, room: &mut [u8]) -> usize
     input.read(room).unwrap_or(0)
 }
 
+// Kept: a loop by hand: std's `read_exact` doesn't say how many bytes came before the end, and `read_to_end` needs a heap.
 // Read after read, until the room is full or a read brings nothing: how many bytes came, which are then at the front of the room.
 pub fn fill(input: &mut Stdin, room: &mut [u8]) -> usize
     ensures { result ≤ length room.new }

@@ -1,4 +1,7 @@
 // The answers as lines, put into a lent output: the paper's letters, digits and numbers; and numbers in decimal.
+// Kept: a slice with a place beside it, here and in the crates above. A struct of the two proves as well (tried), but each of its methods needs a
+// clause more, that it still holds the same slice, and each step of a program, which is lent the slice alone, would wrap it and take the place out.
+// Kept: printing by `put` and not by Display: `write!` promises its bytes on Ok alone, and no clause says when that is; here each byte is promised.
 ghost use Rattle.std.specs.Prelude.{◌≡◌, ◌∷◌, [], ◌+◌, ◌≤◌, ◌<◌, length};
 ghost use Rattle.std.proofs.lemmas.List.Edits.{sets};
 ghost use Rattle.script_text.specs.Decimal.{decimal};
@@ -23,34 +26,6 @@ pub fn put<T: Copy>(out: &mut [T], at: usize, text: &[T]) -> usize
     let end = at + text.len();
     out[at..end].copy_from_slice(text);
     end
-}
-
-// One, two or three characters, put at a place; the place after them.
-pub fn put_one(out: &mut [u8], at: usize, a: u8) -> usize
-    requires { at + 1 ≤ length out.old }
-    ensures { (result ≡ at + 1) × (out.new ≡ sets out.old at (a ∷ [])) }
-{
-    out[at] = a;
-    at + 1
-}
-
-pub fn put_two(out: &mut [u8], at: usize, a: u8, b: u8) -> usize
-    requires { at + 2 ≤ length out.old }
-    ensures { (result ≡ at + 2) × (out.new ≡ sets out.old at (a ∷ b ∷ [])) }
-{
-    out[at] = a;
-    out[at + 1] = b;
-    at + 2
-}
-
-pub fn put_three(out: &mut [u8], at: usize, a: u8, b: u8, c: u8) -> usize
-    requires { at + 3 ≤ length out.old }
-    ensures { (result ≡ at + 3) × (out.new ≡ sets out.old at (a ∷ b ∷ c ∷ [])) }
-{
-    out[at] = a;
-    out[at + 1] = b;
-    out[at + 2] = c;
-    at + 3
 }
 
 // A number in decimal, put at a place; the place after it.

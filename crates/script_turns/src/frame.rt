@@ -1,5 +1,7 @@
 // What stands around the script program's turns: the beginning and the end. Each takes what was read and puts what is to be written at the front of a
 // lent output. Their `requires` are about the sizes of the buffers; the program meets them, and is proved to.
+// Kept: a lent output with its end beside it, here and in the crates above: `Frame.begin_of`, `Steps.turn_of` and their `-decides` theorems say every
+// byte of the output, those behind the end too, and a program has no heap for a text of its own.
 ghost use Rattle.std.specs.Prelude.{◌≡◌, ◌≤◌, length};
 ghost use Rattle.script_turns.specs.Frame.{begin_of, finish_of};
 

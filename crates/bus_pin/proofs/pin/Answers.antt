@@ -1,5 +1,5 @@
 -- Row 6, then row 3, then the pin of a slot that is there.
-use Rattle.std.proofs.Common.{rules, arith, sym, ◌∙◌, ap, Ok}
+use Rattle.std.proofs.Common.{rules, sym, ap, Ok}
 use borrow.Author.Tests.{ltb-false}
 use Rattle.rules.specs.declared.Slot.{Slot}
 use Rattle.rules.specs.Fresh.{absent_slot}

@@ -69,11 +69,6 @@ abbrev pub AfterCut : Cut → Slot → List ℕ → Slot → List ℕ → Type 0
 AfterCut k s m r q = (r ≡ slot_next 0 (Power k) s) × (q ≡ cut_part k s m)
 
 module _ (k : Cut) (s r : Slot) (m q : List ℕ) where
-  -- no slot, so nothing is touched
-  pub power-absent : absent s ≡ true → r ≡ s → q ≡ m → AfterCut k s m r q
-  unfolding slot_next cut_part
-  power-absent a e f = (rw a e, rw a f)
-
   abbrev unstored : Bool
   unstored = eqb s.left 0 || eqb k.0 0
 

@@ -1,22 +1,31 @@
--- From piece to piece the bus is in range, the buffers keep their lengths, the records and the pieces to come make up one number, and the pieces so far led here.
-use mathlib.Core.Path.{refl, sym, ◌∙◌}
-use mathlib.Core.Bool.{false≢true}
+-- From piece to piece the bus is in range, all records agreed, and the pieces so far led here.
+use mathlib.Core.Path.{refl, subst}
 use native.Mathlib.Omega.{arith}
-use borrow.Author.Tests.{not-true, not-false}
-use Rattle.capture.proofs.Onward.{reached-none, reached-more, came-full}
+use lib.ListN.{length-take}
+use Rattle.rules.specs.Runs.{Bench}
+use Rattle.capture_pieces.proofs.pieces.Onward.{piece-onward}
+use Rattle.capture.specs.Program.{begun, Reached}
+use Rattle.capture.proofs.Onward.{agreed, reached-none, ended-here, agreed-more, agreed-full}
 use Rattle.capture.proofs.check_records.Goals as goal
 
-pub loop-turns-init : goal.loop-turns-init
-loop-turns-init c = (c.requires.0, omega arith, omega arith, omega arith, refl, reached-none _ _)
+pub loop-init : goal.loop-init
+loop-init c = (c.bench.invariant, omega arith, subst (λ (x : Bench). Reached (begun x.bus) x.memory (agreed c.bench.inside.bus 0) c.bench.inside.memory) c.bench.view_is (reached-none _ _))
 
-pub read_on-g-requires : goal.read_on-g-requires
-read_on-g-requires c = let l = c.loop-turns in (l.invariant.0, omega arith, omega arith, omega arith)
+pub invariant_of-bench-then-not-on : goal.invariant_of-bench-then-not-on
+invariant_of-bench-then-not-on c = piece-onward _ _ _ _ _ _ c.piece-checked.ensures c.loop.invariant.0
 
-pub returns-then-not-g : goal.returns-then-not-g
-returns-then-not-g c = let l = c.loop-turns in record { going = _; left = _; reached = reached-more _ _ _ _ _ _ l.invariant.5 l.invariant.4 c.read_on-g.ensures.1; over = λ e. absurd (false≢true (sym (not-true _ c.if-not-g.true) ∙ e)); verdict = refl }
+pub returns-then-not-on : goal.returns-then-not-on
+returns-then-not-on c =
+    let l = c.loop in
+    let n = c.fill-n in
+    ended-here _ _ _ _ _ l.invariant.2 _ _ _ _ n.result 24576 _ (simp length-take (omega arith)) (omega arith) refl c.piece-checked.ensures c.closed-verdict.ensures c.accepted.ensures c.if-not-on.true
 
-pub loop-turns-preserved : goal.loop-turns-preserved
-loop-turns-preserved c = let l = c.loop-turns in let r = c.read_on-g.ensures in (r.0, omega arith, omega arith, omega (arith, l.invariant.3, came-full _ _ _ _ r.1 (not-false _ c.if-not-g.false)), not-false _ c.if-not-g.false, reached-more _ _ _ _ _ _ l.invariant.5 l.invariant.4 r.1)
-
-pub returns : goal.returns
-returns c = let l = c.loop-turns in record { going = _; left = _; reached = l.invariant.5; over = λ e. omega (arith, l.invariant.3); verdict = refl }
+pub loop-preserved : goal.loop-preserved
+loop-preserved c =
+    let l = c.loop in
+    let n = c.fill-n in
+    let o = c.if-not-on.false in (
+      piece-onward _ _ _ _ _ _ c.piece-checked.ensures l.invariant.0,
+      omega (arith, l.invariant.1, agreed-full _ _ _ _ _ l.invariant.2 _ _ _ _ n.result 24576 _ (simp length-take (omega arith)) (omega arith) refl c.piece-checked.ensures c.closed-verdict.ensures c.accepted.ensures o),
+      agreed-more _ _ _ _ _ l.invariant.2 _ _ _ _ n.result 24576 _ (simp length-take (omega arith)) (omega arith) refl c.piece-checked.ensures c.closed-verdict.ensures c.accepted.ensures o,
+    )

@@ -5,15 +5,7 @@ use Rattle.save.proofs.serve.Goals as goal
 
 pub returns : goal.returns
 returns c =
-    let a = c.answer in
-    let ran = c.run_records-ran in (
-      omega (arith, answer-onward _ _ _ _ _ a.ensures (omega arith)),
-      record {
-        lines = _;
-        going = ran.result;
-        stored = ran.new.mem;
-        left = ran.new.out;
-        ended = ran.ensures;
-        answered = a.ensures;
-      },
+    let a = c.answer.ensures in (
+      omega (arith, answer-onward _ _ _ _ _ a (omega arith)),
+      record { lines = _; held = c.in-Ok.held; bench = c.run_records.new.bench; left = c.run_records.new.out; ended = c.in-Ok.ensures; answered = a },
     )

@@ -1,8 +1,8 @@
 -- One slot more at each turn.
-use Rattle.std.proofs.Common.{rules, ◌≡◌, ◌∙◌, ◌+◌, ◌<◌, ◌≤◌, ℕ, length, get_or, ap, length-set, arith}
+use Rattle.std.proofs.Common.{rules, ◌≡◌, ◌∙◌, ◌+◌, ◌<◌, ℕ, length, get_or, ap, length-set, arith}
 use Rattle.proof_lists.specs.Each.{map_to-none, map_to-full}
 use Rattle.rules.proofs.Past.{no_slot}
-use Rattle.save_rules.specs.Form.{field_count, field_at}
+use Rattle.save_rules.specs.Form.{field_at}
 use Rattle.save_rules.specs.Reading.{read_shares}
 use Rattle.save_fields.specs.Rows.{row_of}
 use Rattle.save_fields.proofs.offsets.Laws.{begins-small, size_fits, row_below}

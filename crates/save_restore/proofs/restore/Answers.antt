@@ -1,5 +1,4 @@
 -- The rows 1 and 10 in their order; then what the form restores to.
-use Rattle.std.proofs.Common.{sym, ◌∙◌}
 use Rattle.save_restore.proofs.Laws.{restore-memory, restore-long, restore-departs, restore-accepts}
 use Rattle.save_restore.proofs.restore.Goals as goal
 

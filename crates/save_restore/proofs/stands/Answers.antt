@@ -1,5 +1,5 @@
 -- They are what the form has from there on.
-use Rattle.std.proofs.Common.{rules, ◌≡◌, ◌∙◌, length, take, drop}
+use Rattle.std.proofs.Common.{◌∙◌}
 use Rattle.save_restore.proofs.Laws.{starts-there}
 use Rattle.save_restore.proofs.stands.Goals as goal
 

@@ -1,10 +1,7 @@
--- The slot is absent, no cycle runs or it is dropped, or one is cut short.
+-- No cycle runs or it is dropped, or one is cut short.
 use mathlib.Core.Path.{refl, sym, ◌∙◌}
-use Rattle.bus_slot.proofs.power.Laws.{power-absent, power-rests, power-cuts}
+use Rattle.bus_slot.proofs.power.Laws.{power-rests, power-cuts}
 use Rattle.bus_slot.proofs.power.cut.Goals as goal
-
-pub returns-then-is_absent : goal.returns-then-is_absent
-returns-then-is_absent c = power-absent _ _ _ _ _ (sym c.is_absent.ensures ∙ c.if-is_absent.true) refl refl
 
 pub returns-then-s-k : goal.returns-then-s-k
 returns-then-s-k c = power-rests _ _ _ _ _ (sym c.is_absent.ensures ∙ c.if-is_absent.false) c.if-s-k.true c.powered.ensures refl

@@ -10,6 +10,6 @@ use Rattle.rules.specs.Runs.{slot_after, part_after}
 use Rattle.plan_pages.proofs.pages.settle.Given as goal
 
 abbrev pub invariant-loop : goal.invariant-loop
-invariant-loop l = (l.counter ≤ 5) × (slot_in_range l.next ≡ true) × (length l.part ≡ slot_bytes)
+invariant-loop l = (l.counter ≤ 5)
     × (slot_after 0 (replicate (5 - l.counter) Tick) l.next ≡ slot_after 0 (replicate 5 Tick) l.initial.next)
     × (part_after 0 (replicate (5 - l.counter) Tick) l.next l.part ≡ part_after 0 (replicate 5 Tick) l.initial.next l.initial.part)

@@ -1,5 +1,5 @@
 -- The records passed have their lines.
-use Rattle.std.proofs.Common.{◌≡◌, ℕ, ◌*◌, ◌/◌, ◌<◌, ◌∙◌, ap, arith, List, [], length, get_or, length-take}
+use Rattle.std.proofs.Common.{ℕ, ◌*◌, ◌/◌, ◌<◌, ◌∙◌, ap, arith, List, [], length, get_or, length-take}
 use Rattle.std.proofs.lemmas.List.{get_or-take}
 use Rattle.plan_pages.proofs.Chunks.{chunk-at}
 use Rattle.plan_pages.proofs.text.Laws.{line-at, lines_none, lines-more, line-nine, lines-nine}
@@ -22,9 +22,3 @@ loop-r-preserved c =
     let r = get_or-take c.args.count whole i [] h ∙ ap (λ (l : List (List ℕ)). get_or l i []) c.as_chunks.ensures.front ∙ chunk-at 4 (length bs / 4) i bs k in
     let e = rw (line-at bs _ (4 * i) r) at c.put_record-end.ensures in
     (omega arith, lines-more bs _ _ _ _ _ _ i l.invariant.1 (rw (← line-nine bs (4 * i)) at e))
-
-pub returns : goal.returns
-returns c =
-    let l = c.loop-r in
-    let e : l.r-index ≡ c.args.count = omega (arith, length-take c.args.count c.as_chunks.result.0.now) in
-    rw e at l.invariant.1

@@ -1,5 +1,5 @@
 -- After each turn one page more is laid, if it differs.
-use Rattle.std.proofs.Common.{◌≡◌, ◌<◌, ◌∙◌, ap, arith}
+use Rattle.std.proofs.Common.{◌<◌, ◌∙◌, ap, arith}
 use Rattle.plan_rules.specs.Plan.{page_half}
 use Rattle.plan_rules.proofs.Settled.{short-cycle}
 use Rattle.plan_pages.specs.declared.records.Plan.{Plan}
@@ -51,9 +51,3 @@ loop-p-preserved c =
         laid = w.plan-is ∙ pages-same a.old.now a.image.now a.s a.k.0 a.plan.now l.p _ d l.plan i.laid w.if-differs.false;
       }
     ]
-
-pub returns : goal.returns
-returns c =
-    let l = c.loop-p in
-    let e : l.p ≡ 32 = omega arith in
-    rw e at l.invariant.laid

@@ -1,5 +1,5 @@
 -- One field more at each turn.
-use Rattle.std.proofs.Common.{rules, ◌≡◌, ◌+◌, length, arith}
+use Rattle.std.proofs.Common.{◌≡◌, ◌+◌, arith}
 use Rattle.script_text.proofs.letters.Laws.{at_front}
 use Rattle.save_rules.specs.Form.{field_count, form_to}
 use Rattle.save_fields.proofs.offsets.Laws.{row_at}

@@ -1,5 +1,5 @@
 -- After each turn one register more is put.
-use Rattle.std.proofs.Common.{◌≡◌, ◌+◌, arith}
+use Rattle.std.proofs.Common.{◌≡◌, arith}
 use Rattle.save_rules.specs.Form.{word_of}
 use Rattle.save_fields.proofs.shares.Laws.{none-put, registers-step, length-registers, registers-none}
 use Rattle.save_fields.proofs.shares.put_registers.Goals as goal

@@ -1,5 +1,5 @@
 -- The pointer, and then the registers.
-use Rattle.std.proofs.Common.{[], ◌∷◌, arith}
+use Rattle.std.proofs.Common.{[], ◌∷◌}
 use Rattle.script_text.proofs.letters.Laws.{put_on}
 use Rattle.save_rules.specs.Form.{sensor_bytes, registers_to}
 use Rattle.save_fields.proofs.shares.put_sensor.Goals as goal

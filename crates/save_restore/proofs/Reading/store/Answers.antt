@@ -1,5 +1,5 @@
 -- One slot more at each turn.
-use Rattle.std.proofs.Common.{rules, ◌≡◌, ◌∙◌, ◌+◌, ◌*◌, ◌-◌, ◌≤◌, ℕ, length, take, drop, ap, lit<, arith}
+use Rattle.std.proofs.Common.{rules, ◌≡◌, ◌∙◌, ◌+◌, ◌*◌, ◌-◌, ℕ, length, take, drop, ap, lit<, arith}
 use Rattle.proof_lists.specs.Stores.{copied-over}
 use Rattle.rules.specs.Modelled.{slot_bytes}
 use Rattle.rules.proofs.Past.{no_slot}

@@ -1,5 +1,5 @@
 -- After each turn one byte more is laid.
-use Rattle.std.proofs.Common.{◌≡◌, ◌<◌, ◌∙◌, ap, arith, [], ◌∷◌, map, length, take, get_or, length-take, take_all}
+use Rattle.std.proofs.Common.{◌<◌, ◌∙◌, ap, arith, [], ◌∷◌, map, length, take, get_or, length-take}
 use Rattle.std.proofs.lemmas.List.{length-map}
 use Rattle.plan_rules.specs.Plan.{byte}
 use Rattle.plan_pages.specs.Laid.{event_of, with_laid}
@@ -23,9 +23,3 @@ loop-b-preserved c =
     let sent = c.args.sent.now in
     let h : l.b-index < length sent = omega arith in
     (omega arith, c.put.ensures ∙ ap (with_laid (byte (get_or sent l.b-index 0) ∷ [])) l.invariant.1 ∙ bytes-more l.b-index sent c.args.self.now h)
-
-pub returns : goal.returns
-returns c =
-    let l = c.loop-b in
-    let e : take l.b-index c.args.sent.now ≡ c.args.sent.now = take_all l.b-index c.args.sent.now (omega arith) in
-    rw e at l.invariant.1

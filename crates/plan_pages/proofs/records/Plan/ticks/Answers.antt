@@ -1,5 +1,5 @@
 -- After each turn one tick more is laid.
-use Rattle.std.proofs.Common.{◌≡◌, ◌∙◌, ap, arith, [], ◌∷◌}
+use Rattle.std.proofs.Common.{◌∙◌, ap, arith, [], ◌∷◌}
 use Rattle.plan_rules.specs.Plan.{tick, ticks}
 use Rattle.plan_rules.proofs.Count.{length-ticks}
 use Rattle.plan_pages.specs.Laid.{event_of, with_laid}
@@ -21,6 +21,3 @@ unfolding event_of
 loop-preserved c =
     let l = c.loop in
     (omega arith, c.put.ensures ∙ ap (with_laid (tick ∷ [])) l.invariant.1 ∙ ticks-more l.counter c.args.self.now)
-
-pub returns : goal.returns
-returns c = let l = c.loop in let e : l.counter ≡ c.args.count = omega arith in rw e at l.invariant.1

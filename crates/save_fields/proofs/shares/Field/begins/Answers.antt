@@ -1,5 +1,5 @@
 -- The fields before it.
-use Rattle.std.proofs.Common.{◌≡◌, ◌∙◌, ◌-◌, take, length, ap, length-take, arith}
+use Rattle.std.proofs.Common.{◌∙◌, take, ap, arith}
 use Rattle.save_fields.specs.Rows.{row_of, taken}
 use Rattle.save_fields.proofs.offsets.Laws.{row_below, begins-front, all_fields}
 use Rattle.save_fields.proofs.shares.Field.begins.Goals as goal

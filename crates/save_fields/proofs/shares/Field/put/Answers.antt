@@ -1,6 +1,5 @@
 -- A present slot's state, and an absent one's; a sensor's room.
 use Rattle.std.proofs.Common.{sym, ◌∙◌, arith, refl}
-use Rattle.save_rules.specs.Form.{sensor_bytes}
 use Rattle.save_fields.proofs.Open.{table}
 use Rattle.save_fields.proofs.shares.Laws.{length-sensor, bit-byte, none-put}
 use Rattle.save_fields.proofs.shares.Field.put.Goals as goal
