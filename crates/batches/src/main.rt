@@ -73,7 +73,8 @@ fn give(to: &Stdout, bus: Bus, mem: &mut [u8], records: &[u8]) -> Bus
     told.bus
 }
 
-// List after list, until the input ends or one is not given.
+// List after list, until the input ends or one is not given. Of the bus that `give_records` tells it is not proved here that it is in range, so that
+// bus and memory are no `Bench` from there on.
 fn give_all(streams: &mut Streams, mut bench: Bench) {
     let mut bus = bench.bus;
     let mut room = [0u8; MOST];

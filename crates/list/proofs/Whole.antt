@@ -6,10 +6,10 @@ use mathlib.Core.List.{List, ◌++◌, append_assoc}
 use Rattle.std.proofs.Common.{Result, Ok, Err}
 use Prim.Native.Nat.{ℕ, ◌+◌, ◌-◌, ◌≤◌, min}
 use native.Mathlib.Omega.{arith}
-use borrow.Author.Tests.{lt-ltb, le-ltb, ltb-true, ltb-false}
+use borrow.Author.Tests.{le-ltb, ltb-true, ltb-false}
 use lib.Dec.{ltb}
 use lib.ListN.{length, take, drop, take-append-drop, length-append, length-drop, drop_of_length-le}
-use lib.Seq.{sets, length-sets, length-take-le, take_all}
+use lib.Seq.{length-sets, length-take-le, take_all}
 use Rattle.std.specs.List.{list_all}
 use Rattle.proof_lists.specs.Tests.{by-test}
 use Rattle.rules.specs.Refusals.{good_pair}
@@ -77,15 +77,6 @@ module _ (bs : List ℕ) where
 
   goes : goes_on (head bs) ≡ true → (ltb (length bs) 16 ≡ false) × (list_all good_pair (pairs_of bs) ≡ true)
   goes = goes_at bs (head bs) (head-cut bs) whole-head
-
--- the two cuts are in order, and the records behind them are as many as the program looks at
-pub in_order : (bs : List ℕ) (i j : ℕ) → i ≡ up_to 16 bs → j ≡ up_to 18 bs → i ≤ j
-in_order bs i j a b = rw (a, b) (by-test (ltb (length bs) 16)
-    (λ c. rw (c, lt-ltb (length bs) 18 (omega (arith, ltb-true (length bs) 16 c))) (omega arith))
-    (λ c. by-test (ltb (length bs) 18) (λ d. rw (c, d) (ltb-false (length bs) 16 c)) (λ d. rw (c, d) (omega arith))))
-
-pub records-most : (bs : List ℕ) (j : ℕ) → j ≡ up_to 18 bs → length bs ≤ 16406 → length (take (length bs - j) (drop j bs)) ≤ 16388
-records-most bs j b l = rw (take_all (length bs - j) (drop j bs) (omega (arith, length-drop j bs)), b, length-drop (up_to 18 bs) bs) (by-test (ltb (length bs) 18) (λ c. rw c (omega arith)) (λ c. rw c (omega (arith, l))))
 
 -- where nothing follows: the setup's line, on standard output
 pub stopped : (bs out o : List ℕ) (n end : ℕ) → n ≡ up_to 16 bs → begin_of (take n bs) out ≡ (Err end, o) → 6 ≤ length out

@@ -35,8 +35,7 @@ fn given(mut bench: Bench, number: &[u8], records: &[u8], out: &mut [u8]) -> usi
 // the list's lines, or what it is refused for. That two bytes say at most 65,535 is what bounds the lines.
 fn answer(bench: Bench, number: &[u8], records: &[u8], out: &mut [u8]) -> Answered
     requires { (length records.now ≤ 16388) × (262140 ≤ length out.old) }
-    ensures { (number_in number.now ≤ 65535)
-        × (answer_of bench number.now records.now out.old ≡ (result, out.new)) }
+    ensures { (number_in number.now ≤ 65535) × (answer_of bench number.now records.now out.old ≡ (result, out.new)) }
 {
     if records.len() == TOO_MANY {
         return Err(list_lend::text::put_too_many(out));
