@@ -28,9 +28,9 @@ pub record Going (x : Bench) (bs o : List ℕ) (k : ℕ) (y : Bench) (out : List
   pub left : rest ≡ drop (4 * k) bs
   pub room : 4 * k ≤ length bs
 
-pub going-none : (x : Bench) (bs out : List ℕ) → Going x bs out 0 x out 0 bs
+pub going-none : (x y : Bench) (bs out : List ℕ) → y ≡ x → Going x bs out 0 y out 0 bs
 unfolding bench_to lines_to
-going-none x bs out = record { bench = refl; ends = refl; most = omega arith; wrote = refl; left = refl; room = omega arith }
+going-none x y bs out e = record { bench = e; ends = refl; most = omega arith; wrote = refl; left = refl; room = omega arith }
 
 module _ (x : Bench) (bs o : List ℕ) (k : ℕ) (y : Bench) (out : List ℕ) (end : ℕ) (rest : List ℕ) (g : Going x bs o k y out end rest) where
   -- what has been run and what is left are all of the bytes
