@@ -64,6 +64,7 @@ fn records<'a>(streams: &mut Streams, room: &'a mut [u8; MOST]) -> Option<&'a [u
 }
 
 // Records given as one list, with as many places, and its lines written.
+// Kept: bus and memory apart, and no Bench: `give_records` tells a bus of which it isn't said here that it is in range.
 fn give(to: &Stdout, bus: Bus, mem: &mut [u8], records: &[u8]) -> Bus
     requires { length records.now ≤ 16384 }
 {

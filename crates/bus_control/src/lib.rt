@@ -131,6 +131,7 @@ fn older_command(n: SlotNo, b: u8, s: Slot) -> Heard
 }
 
 // What a control byte asks of slot n; h is what it asks for by document 01, which holds for all but the 0110 bytes of an older module.
+// Kept: h with its fact, and n, b and s, as Control.heard_by takes them: a Line has h of an act of any kind, and only some acts have a byte.
 #[tactic(auto, unfolding(rules::specs::Control::heard_by, rules::specs::Modelled::older))]
 pub fn heard_by(h: Heard, n: SlotNo, b: u8, s: Slot) -> Heard
     requires { h ≡ heard_of b }

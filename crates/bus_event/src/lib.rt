@@ -10,6 +10,8 @@ use rules::{Bus, Event, Outcome, Refusal};
 
 // An event on a bus that is in range, with its memory: what `event` does then, without testing it. A run from setup may go on with
 // this one, since every event keeps the range.
+// Kept: bus and memory apart, and what is asked of both in clauses, here and in bus_slots, capture_pieces, list_entry and save_restore: callers of
+// the library (docs/manual/library.md) have them apart, and what they are asked stays. Where a program owns both, bus_bench has them in one.
 pub fn event_in_range(bus: Bus, mem: &mut [u8], e: Event) -> Outcome
     requires { (in_range bus ≡ true) × (length mem.old ≡ memory_bytes) }
     ensures { event_of bus mem.old e ≡ (result, mem.new) }

@@ -35,6 +35,7 @@ pub fn register(x: Sensor, p: u8) -> u16
     }
 }
 
+// Kept: two names, each one call of `bit`: there is a lock for register 04h and one for 02h and 03h (Sensor.critical_locked, .limits_locked).
 // Whether a configuration locks register 04h.
 fn critical_locked(configuration: u16) -> bool
     ensures { result ≡ critical_locked configuration }
@@ -67,6 +68,7 @@ fn limit_after(locked: bool, old: u16, v: u16) -> u16
     if locked { old } else { v & 0x1FFC }
 }
 
+// Kept: sensor, number and value are parameters, here and in `pin`, as Sensor.written and Pin.read_of take them: a read has no value.
 // The sensor after a write of v to register p. 00h, 05h, 06h, 07h and locked registers stay.
 pub fn written(x: Sensor, p: u8, v: u16) -> Sensor
     ensures { result ≡ written x p v }
@@ -90,6 +92,7 @@ pub fn written(x: Sensor, p: u8, v: u16) -> Sensor
             ..x
         },
         0x08 => Sensor {
+            // Kept: `as`, here, below and in temperature::bits: a mask bounds the number, and `From` has no narrowing.
             resolution: (v & 0x0003) as u8,
             ..x
         },

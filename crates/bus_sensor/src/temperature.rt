@@ -23,11 +23,13 @@ fn sixteenths(v: u16) -> i32
 fn bits(t: i32) -> u16
     ensures { result ≡ bits_of t }
 {
+    // Kept: `as`: a mask bounds the number, and `From` has no narrowing.
     (t & 0x1FFF) as u16
 }
 
 // The multiple of the resolution's step that is nearest to the given number, halves upward, also below zero: half a step more, rounded down. It
 // may stand above the greatest i16.
+// Kept: resolution, and below the hysteresis, by their bits and no enum: both are bits of registers, which are saved and handed in as numbers.
 fn stepped(given: i16, resolution: u8) -> i32
     ensures { result ≡ nearest_of (step_of resolution) given }
 {
@@ -66,6 +68,7 @@ fn flag(set: bool, cleared: bool, was: bool) -> bool
     set | (!cleared & was)
 }
 
+// Kept: three functions: which of a flag's two comparisons has the equal sign differs, as document 01 has it (Sensor.critical_flag, .low_flag).
 // Bit 15 of register 05h after the number t: set when t >= critical and cleared when t < critical - h.
 fn critical_flag(x: Sensor, t: i32) -> bool
     ensures { result ≡ critical_flag x t }

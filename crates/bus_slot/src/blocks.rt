@@ -10,6 +10,7 @@ ghost use Rattle.rules.specs.Memory.{pin_on, guarded};
 use rules::{Address, BlockNo, Older, Slot};
 
 // The address that the counter points to in the selected half.
+// Kept: 256 times the half, and no from_be_bytes: the half is a number of its own and no number's high byte (Modelled.address_of).
 pub fn address_of(s: Slot) -> Address
     ensures { result ≡ address_of s }
 {

@@ -23,6 +23,7 @@ fn silent(slot: Slot) -> Drive
     Drive { slot, byte: None }
 }
 
+// Kept: three functions for a driven byte: which byte it is, and where the slot then stands, is another in each; what they share is the struct.
 // A memory read's byte.
 fn memory_byte(s: Slot, part: &[u8], more: bool) -> Drive
     ensures { result ≡ record { slot = fetched more s; byte = Some (get_or part.now (address_of s).0 0) } }
@@ -65,6 +66,7 @@ pub fn read(s: Slot, part: &[u8], more: bool) -> Drive
     ensures { result ≡ read_out more part.now s }
 {
     let phase = phase::standing(s);
+    // Kept: an arm for each phase, as phase::traits says.
     match phase {
         Phase::Idle | Phase::Deaf => silent(s),
         Phase::Control => silent(phase::in_phase(Phase::Deaf, s)),

@@ -27,6 +27,7 @@ pub fn cancelled(s: Slot) -> Slot
     blocks::to_come(s.protection, false, s)
 }
 
+// Kept: by the phase's words, as Slot.let_go has it: by the phases themselves it would say again which of them have which word.
 // The slot without what an exchange that is left in this phase held of it.
 pub fn let_go(p: Phase, s: Slot) -> Slot
     ensures { result ≡ let_go p s }

@@ -1,5 +1,7 @@
 // One slot's machine, a module for each thing that it does. A slot looks at no other slot, and each contract is an equation with the law's
 // definition of the same thing.
+// Kept: a slot, its number, a byte, what that asks for, a phase and the slot's part of the memory are parameters, as the law's definitions take them:
+// no function needs them all, and the part is lent while the slot is copied.
 #![tactic(auto)]
 
 pub mod blocks; // a slot's blocks and their protection; the address that the counter points to

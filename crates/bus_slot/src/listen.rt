@@ -66,6 +66,7 @@ pub fn byte(s: Slot, n: SlotNo, b: u8, h: Heard) -> Heed
     ensures { result ≡ heeded n.0 b s }
 {
     let phase = phase::standing(s);
+    // Kept: an arm for each phase, as phase::traits says.
     match phase {
         Phase::Idle | Phase::Deaf => Heed::nack(s),
         Phase::Control => obey::controlled(h, n, s),

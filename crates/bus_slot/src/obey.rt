@@ -9,6 +9,7 @@ ghost use Rattle.rules.specs.Control.{acks_heard, obeyed};
 use super::{blocks, phase};
 use rules::{BlockNo, Heard, Phase, Slot, SlotNo};
 
+// Kept: a flag beside a slot that is there either way, here and in bus_slots' Step and Shown: an ACK is a wire's level, and takes no value with it.
 // A slot after a byte from the master, and whether it acknowledges.
 #[derive(Clone, Copy)]
 pub struct Heed {
@@ -17,6 +18,7 @@ pub struct Heed {
 }
 
 impl Heed {
+    // Kept: a name for each of two constants: a call of `Heed::ack` says what a `true` among parameters would not.
     // The slot, and an ACK.
     pub fn ack(slot: Slot) -> Self
         ensures { result ≡ record { slot = slot; ack = true } }

@@ -32,6 +32,7 @@ const PLAIN: Traits = Traits {
     drives: false,
 };
 
+// Kept: an arm for each phase, here and in drive, listen and signal: document 01's tables, and the check sees that no phase is left out.
 // What a phase is: of an exchange with the sensor, of a protect or clear before its stop, one that takes data bytes, one that serves
 // reads.
 pub fn traits(p: Phase) -> Traits

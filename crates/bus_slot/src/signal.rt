@@ -30,6 +30,7 @@ fn stop_in(p: Phase, s: Slot) -> Slot
     }
 }
 
+// Kept: an enum of three of the acts: `signalled` (docs/TRACE, Signals.signalled) is for these, and given an Act it would have to speak of all eight.
 // The events that reach every slot and carry nothing.
 #[derive(Clone, Copy)]
 pub enum Signal {

@@ -22,6 +22,7 @@ pub fn taken(mut slots: [Slot; 8], mem: &mut [u8], a: Act) -> Outcome
         byte: None,
     };
     for (i, slot) in slots.iter_mut().enumerate() {
+        // Kept: `as`: there are eight slots, and no `u8::from` takes a usize.
         let n = SlotNo(i as u8);
         match foreseen::glance(line, n, *slot) {
             Change::Nothing => {}

@@ -14,6 +14,7 @@ use bus_slot::obey::Heed;
 use bus_slot::signal::Signal;
 use rules::{Act, Applied, Heard, Slot, SlotNo};
 
+// Kept: beside bus_slot's Drive and Heed: a read has no ACK, a byte from the master drives none, and a Step is what any act comes to.
 // A slot after an act, whether it acknowledges, and the byte that it drives, if it drives one.
 #[derive(Clone, Copy)]
 pub struct Step {
@@ -73,6 +74,7 @@ fn applied(k: SlotNo, x: Applied, n: SlotNo, s: Slot) -> Step
 pub fn next(line: Line, n: SlotNo, s: Slot, part: &mut [u8]) -> Step
     ensures { (result ≡ stepped n.0 line.act part.old s) × (part.new ≡ part_next line.act s part.old) }
 {
+    // Kept: an arm for each act, here, in foreseen and in line: the law's table, and the check sees that no act is left out.
     match line.act {
         Act::Start => quiet(bus_slot::signal::signalled(Signal::Start, s)),
         Act::Byte(b) => heeding(b, line.heard, n, s),

@@ -36,6 +36,7 @@ pub struct Checked {
 
 // Checks the whole records of some bytes, where `number` records went before them: to the end, or to the first that differs, which has then been run
 // as well. The `requires` hold of a setup's bus and of whatever this leaves; the numbers of all records are to be below 2^64.
+// Kept: a loop beside those of turns::run and list_entry::events: this one may stop at a record, `run` puts lines, and `events` fills places.
 pub fn piece(bus: Bus, mem: &mut [u8], number: usize, records: &[u8]) -> Checked
     requires { (in_range bus ≡ true) × (length mem.old ≡ memory_bytes) × (number + length records.now ≤ 18446744073709551615) }
     ensures { piece_of bus mem.old number records.now ≡ (result, mem.new) }

@@ -12,6 +12,7 @@ pub struct Seen {
     pub byte: u8,
 }
 
+// Kept: four cases and no Result: nothing is handed on but the verdict, so Ok would hold nothing, and Short comes of Accepted (Capture.closed).
 // What checking a capture comes to.
 #[derive(Clone, Copy)]
 pub enum Verdict {

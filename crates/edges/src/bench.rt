@@ -6,6 +6,7 @@ use super::{report, state};
 use arrayvec::ArrayVec;
 use rules::{Answer, BlockNo, Bus, Event, Pair, SlotNo};
 
+// Kept: not bus_bench's: tries hand in states out of range and memories of any length, which the invariant of that one excludes.
 #[derive(Clone, Copy)]
 pub struct Bench {
     // Those of the last setup.

@@ -13,6 +13,7 @@ use arrayvec::ArrayVec;
 use bench::Bench;
 use commands::NotUnderstood;
 
+// Kept: the kit's io by descriptors, here and in `report`: with std's streams edges would rest on an axiom more (os::c::rattle_errno).
 // The descriptor of standard input.
 const STDIN_FILENO: i32 = 0;
 

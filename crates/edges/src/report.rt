@@ -6,6 +6,7 @@ use rules::{Answer, Pin, Slot};
 use std::fmt;
 use std::fmt::{Display, Formatter, Write};
 
+// Kept: as in main: with std's streams edges would rest on an axiom more (os::c::rattle_errno).
 // The descriptor of standard output.
 const STDOUT_FILENO: i32 = 1;
 

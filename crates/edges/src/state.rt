@@ -23,6 +23,7 @@ impl From<Slot> for Numbers {
     }
 }
 
+// Kept: `as`, here and in `pattern`: a remainder bounds the number, and `From` has no narrowing.
 fn low(v: u16) -> u8 {
     (v % 256) as u8
 }

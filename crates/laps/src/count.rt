@@ -1,5 +1,6 @@
 // What the program is told: a line with a letter and a count.
 
+// Kept: no `parse`, here and in edges::words: it takes a plus sign and no `h`, and has other bounds; the two programs' numbers are of other types.
 // A count with one more digit, up to 999,999,999.
 fn longer(count: u64, b: &u8) -> Option<u64> {
     match *b {

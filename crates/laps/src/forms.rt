@@ -26,6 +26,7 @@ fn counted(mut bus: Bus, counter: u8) -> Bus {
     bus
 }
 
+// Kept: a byte that each lap hands on, and no Result of a lap: that it has counted them all is what shows that the compiler has left none out.
 // So many laps, and whether the byte that each has counted up has counted them, from FFh on.
 fn laps<F: FnMut() -> u8>(count: u64, mut lap: F) -> bool
     requires { F.IsAlwaysCallable lap }

@@ -15,6 +15,7 @@ pub struct Summed {
 }
 
 // What an answer weighs in a sum.
+// Kept: numbers of this program alone, by which sums differ where answers do: a From would give them to every program that has Answers.
 fn weight(answer: Answer) -> u8 {
     match answer {
         Answer::Nothing => 1,
@@ -134,6 +135,7 @@ fn events() -> [Event; 64] {
 }
 
 // The end of some laps, where each has come to its sum.
+// Kept: beside forms' finish, which writes `done` out of the room that its laps have filled, so that the compiler leaves none of them out.
 fn finish(right: bool) {
     if right {
         io::write_all(STDOUT, b"done\n");

@@ -6,6 +6,7 @@ mod count;
 mod forms;
 mod lists;
 
+// Kept: the kit's io by descriptors: with std's streams laps would rest on an axiom more (os::c::rattle_errno).
 // The standard streams, by their numbers.
 const STDIN: i32 = 0;
 

@@ -10,6 +10,7 @@ use rules::Bus;
 
 // The whole records of some bytes, given as one list, with so many answer places, which nothing has answered before; and what is told of it at the
 // front of the output.
+// Kept: bounds in clauses, and bus, memory, places and output apart: docs/manual/library.md names this function, so it asks no more than before.
 pub fn give_records(bus: Bus, mem: &mut [u8], records: &[u8], places: usize, out: &mut [u8]) -> Told
     requires { (length records.now ≤ 16384) × (places ≤ 65535) × (262140 ≤ length out.old) }
     ensures { given_of bus mem.old (events_in records.now (length records.now / 4))

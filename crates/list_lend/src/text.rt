@@ -63,6 +63,7 @@ fn put_places(answers: &[Answer], out: &mut [u8]) -> usize
     end
 }
 
+// Kept: a lent output and where its text ends, as script_turns::frame has them: Listed.told_of and Given.given_of say every byte of the output.
 // What is told of a list: the bus after it, and where its text ends.
 #[derive(Clone, Copy)]
 pub struct Told {

@@ -22,6 +22,7 @@ pub fn settle(s: Slot, part: &mut [u8; Slot::BYTES]) -> Slot
 }
 
 // Page p is not as the image has it.
+// Kept: p with its bound, and the old bytes beside the image, here and in `writes`: plan_rules/Plan.differs, .page_at and .pages_before take them so.
 pub fn differs(old: &[u8; Slot::BYTES], image: &[u8; Slot::BYTES], p: u8) -> bool
     requires { p < page_count }
     ensures { result ≡ differs old.now image.now p }

@@ -29,6 +29,7 @@ impl Step {
 }
 
 // A plan as far as it is laid: the buffer, and how many records stand at its front.
+// Kept: each method asks for the room that it needs, and no fact of the type does: how many records it lays is another number for each.
 #[derive(Drop)]
 pub struct Plan<'a> {
     pub buffer: &'a mut [u8],

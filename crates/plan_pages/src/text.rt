@@ -21,6 +21,7 @@ fn put_record(out: &mut [u8], at: usize, bytes: &[u8; 4]) -> usize
 }
 
 // The lines of the first records of a buffer, put at a place; the place after them.
+// Kept: a buffer with a count: the planner, whose Result docs/manual/library.md names, gives how many records stand at the buffer's front.
 fn put_records(out: &mut [u8], at: usize, records: &[u8], count: usize) -> usize
     requires { (at + 9 * count ≤ length out.old) × (4 * count ≤ length records.now) }
     ensures { (result ≡ at + length (record_lines records.now count))

@@ -21,6 +21,7 @@ fn sent(counter: u8, image: &[u8; Slot::BYTES], p: u8) -> [u8; 17]
 }
 
 // One page: its half, where another one stands, then the write of the whole page and so many ticks.
+// Kept: k.0 < 8 in a clause, here and in `slot`: a SlotNo may hold any byte, as an event does, and plan_entry has looked at it (`slots.get`).
 fn page(plan: &mut Plan, stands: u8, k: SlotNo, image: &[u8; Slot::BYTES], p: u8, count: u8)
     requires { (k.0 < 8) × (p < page_count) × (count ≤ 5) × (4 * (plan.old.count + 28) ≤ length plan.old.buffer.now) }
     ensures { plan.new ≡ with_laid (selecting stands (page_half p) ++ writing k.0 (page_counter p) (page_at p image.now) count) plan.old }

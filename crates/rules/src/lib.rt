@@ -14,6 +14,7 @@ pub struct SlotNo(pub u8);
 #[derive(Clone, Copy, PartialEq, Eq)]
 pub struct BlockNo(pub u8);
 
+// Kept: no methods for its block and its page: each is asked for in one function, by / as in the law (Modelled.block_of, Memory.stored).
 // A byte's place in its slot, 0 to 511.
 #[derive(Clone, Copy)]
 pub struct Address(pub u16);
@@ -217,9 +218,11 @@ pub struct Slot {
     // Kept: a number and no Option; document 01's state has "ticks left 0 to length" as one number, and row 6 its range (Refusals.slot_in_range).
     pub length: u8,
     pub left: u8,
+    // Kept: a half, here, in Heard and in plan_pages, is 0 or 1 as a number: another may be handed in, and row 6 refuses it (Refusals.slot_in_range).
     pub half: u8,
     pub counter: u8,
     // Which blocks are protected, and which will be once the running command has its way; the same without one.
+    // Kept: two lists of blocks and no list of pairs: commands and the cycle's end take one of them as a whole (Fields.to_come, Memory.brought).
     pub protection: [bool; 4],
     pub coming: [bool; 4],
     // High voltage on SA0.
@@ -243,6 +246,7 @@ impl Slot {
 
     pub const PAGE: usize = 16;
 
+    // Kept: a function for each of three kinds and none of a number: the number is what their names are there to hide.
     // A slot that is not there.
     pub fn is_absent(&self) -> bool
         ensures { result ≡ absent self.now }

@@ -29,6 +29,25 @@ use Rattle.save_rules.specs.Reading.{offset, span, begins}
 use Rattle.save_rules.specs.Saving.{is_idle, quiet, all_quiet, save_of}
 use Rattle.save_rules.proofs.Places.{length-shares, length_whole, field-there, field-none, length-field, length-form, length-form_of, offset_up, begins-up}
 
+-- any other phase, by its place among the variants, is not idle
+pub not-idle : (p : Phase) → (p ≡ Idle → ⊥) → false ≡ is_idle p
+unfolding is_idle
+not-idle Idle h = absurd (h refl)
+not-idle Control h = refl
+not-idle Deaf h = refl
+not-idle MemoryCounter h = refl
+not-idle MemoryData h = refl
+not-idle MemoryRead h = refl
+not-idle HalfSelected h = refl
+not-idle CommandAddress h = refl
+not-idle CommandData h = refl
+not-idle CommandStop h = refl
+not-idle SensorPointer h = refl
+not-idle SensorHigh h = refl
+not-idle SensorLow h = refl
+not-idle SensorReadHigh h = refl
+not-idle SensorReadLow h = refl
+
 -- idle, as `==` tells it
 pub idle_same : (p : Phase) → sameb phase.the_type p Idle ≡ is_idle p
 unfolding is_idle

@@ -28,6 +28,7 @@ fn all_quiet(slots: &[Slot; 8]) -> bool
     slots.iter().all(quiet)
 }
 
+// Kept: not bus_bench's, which owns its memory: what is saved is only lent, by callers of the library (docs/manual/library.md).
 // Slots, and a memory that has all their bytes.
 #[derive(Clone, Copy)]
 struct Bench<'a> {
@@ -45,6 +46,7 @@ impl Bench<'_> {
     {
         let mut end = at;
         for (i, s) in self.slots.iter().enumerate() {
+            // Kept: a range of the memory, as in bus_slots::every and save_restore: Form.shares goes by a slot's number.
             let from = Slot::BYTES * i;
             end = field.put(s, &self.memory[from..from + Slot::BYTES], out, end);
         }
@@ -59,6 +61,7 @@ impl Bench<'_> {
     {
         let count = field.offset(&self.slots);
         let length = put(out, at, &[field.tag()]);
+        // Kept: `as`: no `u16::from` takes a usize.
         let contents = put(out, length, &word(count as u16));
         self.put_shares(field, out, contents)
     }

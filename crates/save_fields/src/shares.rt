@@ -53,6 +53,7 @@ impl Field {
         Field::Older,
     ];
 
+    // Kept: a row by its number: save_rules/Form.field_at goes by it, from 6 on too, and what was promised of every number holds of this.
     // The field in a row of the table; from row 6 on, where there is none, the first, as the table has it.
     pub fn of_row(t: usize) -> Self
         ensures { field_at (row_of result) ≡ field_at t }
@@ -185,6 +186,7 @@ fn bits_in<const N: usize>(v: u8) -> [bool; N]
     std::array::from_fn(|k| (v >> k) % 2 == 1)
 }
 
+// Kept: by numbers here and by names in `sensor_at`: registers::written would mask what is read and keep what is locked (Form.sensor_from).
 // The registers that are saved.
 const SAVED: [u8; 7] = [0x01, 0x02, 0x03, 0x04, 0x05, 0x08, 0x09];
 
@@ -218,6 +220,8 @@ fn older_byte(old: Older) -> u8
     bits(&[old.permanent, old.pin])
 }
 
+// Kept: a form with a place in it, here and in save_restore, and that place's bound: it may lie behind a cut form's end, where a byte counts as 0
+// (Form.word_at, .state_from), so that a slice from there on would have to be cut short first.
 // The byte at a place of a form, and 0 behind its end.
 pub fn byte_at(form: &[u8], at: usize) -> u8
     ensures { result ≡ get_or form.now at 0 }

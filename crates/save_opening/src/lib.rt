@@ -24,6 +24,7 @@ fn form_bytes(head: &[u8]) -> usize
 }
 
 // How many bytes are to be read as the form: none where its length is cut or too large.
+// Kept: 0 and no Option: no byte is read then, and what it is refused for `begin` says, of what was read alone (Opening.wanted_bytes, .begin_of).
 fn wanted(head: &[u8]) -> usize
     ensures { (result ≡ wanted_bytes head.now) × (result ≤ 65535) }
 {
@@ -64,6 +65,7 @@ fn begin(head: &[u8], form: &[u8], out: &mut [u8]) -> Result<Bench, usize>
 
 // Reads four bytes, then as many as they say, or as many as come, begins with them, and writes `short`, `R10` or nothing. Records may follow where
 // there is a bench.
+// Kept: beside script_streams' begin: that one reads sixteen bytes, this one a length and a form; only the last lines are the same.
 pub fn open<P: Print>(input: &mut Stdin, to: &P, out: &mut [u8]) -> Result<Bench, usize>
     requires { 6 ≤ length out.old }
     ensures { Opened out.old result out.new }

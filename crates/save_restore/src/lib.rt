@@ -31,6 +31,7 @@ fn read_shares(field: Field, form: &[u8], slots: &[Slot; 8]) -> [Slot; 8]
     let mut at = field.begins(slots) + 3;
     let mut all = *slots;
     for (i, s) in slots.iter().enumerate() {
+        // Kept: by index, here and in `store`: after iter_mut or chunks_exact_mut a proof knows the length alone (as bus_slots::every found).
         all[i] = field.read(form, at, *s);
         at += field.size(s);
     }
@@ -110,6 +111,7 @@ impl Reading<'_> {
         requires { is_there (row_of field) self.now.slots ≡ true }
         ensures { result ≡ head_tallies (row_of field) self.now.slots self.now.form.now }
     {
+        // Kept: `as`: no `u16::from` takes a usize.
         let [high, low] = word(field.offset(&self.slots) as u16);
         stands(
             &[field.tag(), high, low],

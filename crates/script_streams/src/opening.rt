@@ -14,6 +14,7 @@ pub fn room<const N: usize>() -> [u8; N]
 }
 
 // One read: how many bytes came, which are then at the front of the room; none where the input has ended or the read failed.
+// Kept: 0 for a failed read too: programs take it for the input's end, and must-fail/opening_failed_read_counted says that it counts nothing.
 pub fn came(input: &mut Stdin, room: &mut [u8]) -> usize
     ensures { result ≤ length room.new }
 {
@@ -44,6 +45,7 @@ pub fn write<P: Print>(to: &P, out: &[u8], end: usize)
 }
 
 // Reads sixteen bytes, or as many as come, begins with them, and writes `short`, `R5` or nothing. Records may follow where there is a bench.
+// Kept: input, output, room and bench are parameters, here and above: a program makes them one by one, and few functions need all of them.
 pub fn begin<P: Print>(input: &mut Stdin, to: &P, out: &mut [u8]) -> Result<Bench, usize>
     requires { 6 ≤ length out.old }
     ensures { Opened out.old result out.new }

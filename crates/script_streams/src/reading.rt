@@ -11,6 +11,7 @@ use std::io::{Print, Stdin, Stdout};
 // Read after read, each behind the bytes that are held, until the input ends: all records that come are run, and the lines of those that have come
 // are told before more is waited for. How many bytes of a cut record are then held; or why the telling failed, after which no more is read. A proved
 // loop has to end, so it counts to a number that no input uses up.
+// Kept: the room's length in a clause, here and in watch_streams and plan: those that the room is lent on to take it as a slice of some length.
 pub fn run_records<E, F: FnMut(&[u8]) -> Result<(), E>>(
     input: &mut Stdin,
     bench: &mut Bench,

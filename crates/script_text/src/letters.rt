@@ -1,7 +1,8 @@
 // The answers as lines, put into a lent output: the paper's letters, digits and numbers; and numbers in decimal.
 // Kept: a slice with a place beside it, here and in the crates above. A struct of the two proves as well (tried), but each of its methods needs a
 // clause more, that it still holds the same slice, and each step of a program, which is lent the slice alone, would wrap it and take the place out.
-// Kept: printing by `put` and not by Display: `write!` promises its bytes on Ok alone, and no clause says when that is; here each byte is promised.
+// Kept: printing by `put`, here and in the crates above, and not by Display: `write!` promises its bytes on Ok alone, and no clause says when
+// that is; here each byte is promised.
 ghost use Rattle.std.specs.Prelude.{◌≡◌, ◌∷◌, [], ◌+◌, ◌≤◌, ◌<◌, length};
 ghost use Rattle.std.proofs.lemmas.List.Edits.{sets};
 ghost use Rattle.script_text.specs.Decimal.{decimal};
@@ -10,6 +11,7 @@ ghost use Rattle.script_text.specs.Letters.{hex_digit, answer_text, line_of, sho
 use rules::{Answer, Refusal};
 
 // A digit below sixteen as a hexadecimal one, in capitals.
+// Kept: by hand: `char::from_digit` gives an Option, and in it a small letter.
 #[tactic(auto, unfolding(crate::specs::Letters::hex_digit))]
 pub fn hex_digit(n: u8) -> u8
     requires { n < 16 }
@@ -79,6 +81,7 @@ pub fn put_short(out: &mut [u8]) -> usize
     put(out, 0, b"short\n")
 }
 
+// Kept: 0 for nothing put, here and in frame::finish: it is where what is put ends, and an empty text's length (Letters.refusal_line).
 // A refusal's line, put at the beginning; the place after it. Any other answer puts nothing.
 #[tactic(auto, unfolding(crate::specs::Letters::refusal_line))]
 pub fn put_refusal(out: &mut [u8], a: Answer) -> usize

@@ -4,6 +4,7 @@ ghost use Rattle.script_text.specs.Records.{pair_at, pairs_of, record_at};
 
 use rules::{Event, Pair, SlotNo};
 
+// Kept: a place beside the bytes, here and below: Records.record_at and .pair_at take it, and with them what save_rules and plan_rules say.
 // The record that begins at a place: its kind, its slot, and its value in two's complement, the high byte first.
 pub fn record_at(bytes: &[u8], at: usize) -> Event
     requires { at + 4 ≤ length bytes.now }

@@ -8,8 +8,8 @@ use rules::Outcome;
 
 // Runs the whole records of some bytes, and puts their lines at the beginning of out, which has room for a line of four bytes a record;
 // what stands behind the lines stays. Where the lines end.
-// Kept: the bus in a local, put back at the end: tried, `bench.event(..)` for each record takes `script` 1.35 times the time, since the bus is then copied
-// out of the bench and back.
+// Kept: the bus in a local, put back at the end: tried, `bench.event(..)` for each record takes `script` 1.35 times the time, since the bus is then
+// copied out of the bench and back.
 fn run(bench: &mut Bench, records: &[u8], out: &mut [u8]) -> usize
     requires { length records.now ≤ length out.old }
     ensures { run_of bench.old records.now out.old ≡ (result, bench.new, out.new) }
@@ -34,6 +34,7 @@ pub struct Turned {
 
 // One turn: `held` bytes stood at the front of the buffer, and n more have come behind them. Runs the whole records among them, with their
 // lines at the front of the output, and moves what is left to the front of the buffer, where the rest of it will follow.
+// Kept: a buffer and how many bytes it holds: Steps.turn_of and turns/Determined.turn-decides say every byte of it, those behind the held ones too.
 pub fn turn(bench: &mut Bench, buf: &mut [u8], held: usize, n: usize, out: &mut [u8]) -> Turned
     requires { (held + n ≤ length buf.old) × (length buf.old ≤ length out.old) }
     ensures { turn_of bench.old buf.old held n out.old ≡ (result, bench.new, buf.new, out.new) }

@@ -6,6 +6,7 @@
 
 use script_streams::opening;
 
+// Kept: lines like those of script: they differ in the two functions that they call, and a main for all would be handed both.
 fn main(rt: HostRuntime) {
     let mut input = rt.stdin();
     let output = rt.stdout();

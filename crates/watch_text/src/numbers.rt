@@ -86,6 +86,7 @@ pub(crate) fn numbers(s: Slot) -> [u16; COUNT]
 }
 
 // The number at a place; behind the last there is none, and it is 0.
+// Kept: by its place, which is no kind: edges asks for all of them so, beside names of its own (Numbers.numbers_of has them by place).
 pub fn number(s: Slot, k: usize) -> u16
     ensures { result ≡ get_or (numbers_of s) k 0 }
 {

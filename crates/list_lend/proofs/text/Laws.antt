@@ -20,6 +20,29 @@ use Rattle.script_text.specs.Letters.{line_of}
 use Rattle.script_text.proofs.letters.Laws.{Put, put_on, at_front, line-length}
 use Rattle.list_lend.specs.Listed.{blank, is_setups, is_blank, place_line, place_lines, list_text, told_of}
 
+-- any refusal but a setup's
+pub other-refusal : (r : Refusal) → r ≢ WrongSetup → false ≡ is_setups r
+unfolding is_setups
+other-refusal MemoryLength h = refl
+other-refusal UnknownKind h = refl
+other-refusal WrongSlot h = refl
+other-refusal WrongValue h = refl
+other-refusal WrongSetup h = absurd (h refl)
+other-refusal WrongState h = refl
+other-refusal ProtectedPage h = refl
+other-refusal Busy h = refl
+other-refusal TooShort h = refl
+other-refusal WrongForm h = refl
+
+-- any answer but a refusal
+pub other-blank : (a : Answer) → ((r : Refusal) → a ≢ Refused r) → false ≡ is_blank a
+unfolding is_blank
+other-blank Nothing h = refl
+other-blank Ack h = refl
+other-blank Nack h = refl
+other-blank (Data b) h = refl
+other-blank (Refused r) h = absurd (h r refl)
+
 -- an answer that `==` says is blank, is
 pub same_blank : (a : Answer) → (answers.ghosts).eq a blank ≡ is_blank a
 unfolding is_blank is_setups
