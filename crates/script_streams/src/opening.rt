@@ -1,14 +1,15 @@
 // How the programs that read a setup begin: it is read, and what `frame` puts at the front of the output is written; how a room is filled from the
 // input, and how such a front is written. Which output it goes to, a program says.
-ghost use Rattle.std.specs.Prelude.{◌≡◌, ◌≤◌, length};
+ghost use Rattle.std.specs.Prelude.{◌≡◌, ◌≤◌, length, replicate};
 ghost use Rattle.script_streams.specs.Opened.{Opened};
 
 use bus_bench::Bench;
 use std::io::{Print, Read, Stdin};
 
-// A room of so many zeros. What is lent of it as a slice has its length.
+// A room of so many zeros.
 pub fn room<const N: usize>() -> [u8; N]
-    ensures { N ≡ length result }
+    ensures zeros { result ≡ replicate N 0 }
+    ensures long { N ≡ length result }
 {
     [0; N]
 }
