@@ -60,7 +60,7 @@ pub fn applied(x: Applied, s: Slot) -> Slot
     if s.is_absent() {
         return s;
     }
-    // Kept: an arm for each thing that is applied, each with a value of another type: no table or closure has them all.
+    // Kept: an arm for each thing that is applied: their values are of two types, so that no table of functions has them all.
     match x {
         Applied::Voltage(on) => switched(on, s),
         Applied::Temperature(t) => heated(t, s),

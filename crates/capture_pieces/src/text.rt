@@ -9,6 +9,7 @@ use capture_rules::{Seen, Verdict};
 use rules::Answer;
 use script_text::letters::{put, put_answer, put_decimal, put_line, put_short};
 
+// Kept: beside letters::put_number, whose number is a Refusal's: a captured one has up to three digits and asks for more room (Line.seen_text).
 // A captured refusal, put at a place; the place after it. Its number is any byte.
 fn put_refused(out: &mut [u8], at: usize, n: u8) -> usize
     requires { at + 4 ≤ length out.old }

@@ -18,7 +18,7 @@ fn stands(bus: Bus, bytes: usize) -> bool
 }
 
 // One event of a list: where memory and state stand, they are not judged again.
-// Kept: a test at each event, and no closure chosen before: it would hold the lent memory, which each event needs anew.
+// Kept: a test at each event, and no closure chosen before: only where `stand` says so may event_in_range be called, and this clause shows it.
 fn one(stand: bool, bus: Bus, mem: &mut [u8], e: Event) -> Outcome
     requires { stand ≡ true → (in_range bus ≡ true) × (length mem.old ≡ memory_bytes) }
     ensures { event_of bus mem.old e ≡ (result, mem.new) }

@@ -1,5 +1,6 @@
 -- Any two results that the entry's contract allows are equal: of the contract's own clause, as the borrow checker reads it.
 -- Assumes nothing.
+use Rattle.proof_lists.specs.Tests.{halves}
 use Rattle.std.proofs.Common.{Result}
 use mathlib.Core.Path.{◌≡◌, sym, ◌∙◌, ap}
 use mathlib.Core.List.{List}
@@ -16,7 +17,4 @@ use Rattle.plan_entry.proofs.plan.Reads as plan_reads
 -- plan: the number of records or the refusal, and every byte of the lent buffer
 pub plan-decides : (κs : Lfts 3) (a : ArgsD plan.signature κs) (r q : ResD plan.signature κs) (s o : AtExit (ended_of 3 plan_kinds.ps plan_kinds.r) κs)
     → plan_reads.Post κs a r s → plan_reads.Post κs a q o → (r ≡ q) × (s.1.1.1.1.0.now ≡ o.1.1.1.1.0.now)
-plan-decides κs a r q s o p t = both _ _ (sym p.0 ∙ t.0)
-  where
-    both : (x y : Result ℕ Refusal × List ℕ) → x ≡ y → (x.0 ≡ y.0) × (x.1 ≡ y.1)
-    both x y e = (ap (λ (z : Result ℕ Refusal × List ℕ). z.0) e, ap (λ (z : Result ℕ Refusal × List ℕ). z.1) e)
+plan-decides κs a r q s o p t = halves _ _ (sym p.0 ∙ t.0)

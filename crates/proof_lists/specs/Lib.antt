@@ -5,3 +5,4 @@ pub mod Stores
 pub mod Same
 pub mod Laid
 pub mod Alike
+pub mod Chunks

@@ -1,7 +1,7 @@
 -- Case analysis on a test, and what tests joined by `&&`, `||` and `not` say.
 -- Assumes nothing.
-use Rattle.std.specs.Prelude.{◌≡◌, refl, Bool, true, false, cond, ◌&&◌, ◌||◌}
-use Rattle.std.proofs.Common.{sym}
+use Rattle.std.specs.Prelude.{◌≡◌, refl, Bool, true, false, cond, ◌&&◌, ◌||◌, eqb}
+use Rattle.std.proofs.Common.{sym, ap}
 use Rattle.std.proofs.lemmas.Bool.{false≢true}
 
 -- what holds of both branches holds of the choice; each branch may use the test
@@ -60,3 +60,12 @@ or_left_false false b e = refl
 pub or_right_false : (a b : Bool) → a || b ≡ false → b ≡ false
 or_right_false true b e = absurd (false≢true (sym e))
 or_right_false false b e = e
+
+-- a bit as a number, and back
+pub bit-back : (b : Bool) → eqb (cond b 1 0) 1 ≡ b
+bit-back true = refl
+bit-back false = refl
+
+-- equal pairs have equal halves
+pub halves : {A B : Type 0} (x y : A × B) → x ≡ y → (x.0 ≡ y.0) × (x.1 ≡ y.1)
+halves x y e = (ap (λ z. z.0) e, ap (λ z. z.1) e)

@@ -6,6 +6,7 @@ ghost use Rattle.rules.specs.Events.{refusal_number};
 ghost use Rattle.rules.specs.Fresh.{fresh_sensor, fresh_slot};
 ghost use Rattle.rules.specs.Modelled.{absent, sensing, older};
 
+// Kept: no order: a slot's number, and a block's, is looked up or compared with the greatest, and no two are put in order.
 // A slot's number, 0 to 7: the select number that it answers to.
 #[derive(Clone, Copy, PartialEq, Eq)]
 pub struct SlotNo(pub u8);
@@ -97,6 +98,7 @@ impl From<Refusal> for u8 {
 
 // What the bus shows. The paper's letter and value of each: specs/Events.
 // Kept: no Result of what is shown; document 01 has a refusal as one of the five answers, with a letter as the others have (Events.letter_of).
+// Kept: no From of a refusal: where one is answered, `Answer::Refused(why)` says so in few letters.
 #[derive(Clone, Copy, PartialEq, Eq)]
 pub enum Answer {
     Nothing,
@@ -179,6 +181,7 @@ pub struct Sensor {
 }
 
 impl Sensor {
+    // Kept: `fresh` and no Default: so a slot's is named, which takes a kind and a length (Fresh.fresh_sensor, .fresh_slot).
     // A sensor at its defaults.
     pub fn fresh() -> Self
         ensures { result ≡ fresh_sensor }

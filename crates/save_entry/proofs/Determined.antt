@@ -1,5 +1,6 @@
 -- Any two results that the entry's contract allows are equal: of the contract's own clause, as the borrow checker reads it.
 -- Assumes nothing.
+use Rattle.proof_lists.specs.Tests.{halves}
 use mathlib.Core.Path.{◌≡◌, sym, ◌∙◌, ap}
 use mathlib.Core.List.{List}
 use Prim.Native.Nat.{ℕ}
@@ -16,7 +17,4 @@ use Rattle.save_entry.proofs.save.Reads as save_reads
 -- save: the length or the refusal, and every byte of the lent buffer
 pub save-decides : (κs : Lfts 2) (a : ArgsD save.signature κs) (r q : ResD save.signature κs) (s o : AtExit (ended_of 2 save_kinds.ps save_kinds.r) κs)
     → save_reads.Post κs a r s → save_reads.Post κs a q o → (r ≡ q) × (s.1.1.0.now ≡ o.1.1.0.now)
-save-decides κs a r q s o p t = both _ _ (sym p ∙ t)
-  where
-    both : (x y : Result ℕ Refusal × List ℕ) → x ≡ y → (x.0 ≡ y.0) × (x.1 ≡ y.1)
-    both x y e = (ap (λ (z : Result ℕ Refusal × List ℕ). z.0) e, ap (λ (z : Result ℕ Refusal × List ℕ). z.1) e)
+save-decides κs a r q s o p t = halves _ _ (sym p ∙ t)

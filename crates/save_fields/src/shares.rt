@@ -271,6 +271,7 @@ fn read_state(form: &[u8], at: usize, s: Slot) -> Slot
 }
 
 // The pointer and the registers there.
+// Kept: each at its place, as Form.sensor_from has it: two of the registers are one byte of their two, so that a list would be taken apart again.
 fn sensor_at(form: &[u8], at: usize) -> Sensor
     requires { at ≤ 65520 }
     ensures { result ≡ sensor_from form.now at }

@@ -1,5 +1,6 @@
 -- Any two results that the entry's contract allows are equal: of the contract's own clause, as the borrow checker reads it.
 -- Assumes nothing.
+use Rattle.proof_lists.specs.Tests.{halves}
 use mathlib.Core.Path.{◌≡◌, sym, ◌∙◌, ap}
 use mathlib.Core.List.{List}
 use Prim.Native.Nat.{ℕ}
@@ -15,7 +16,4 @@ use Rattle.save_restore.proofs.restore.Reads as restore_reads
 -- restore: the bus and the answer, and every byte of the lent memory
 pub restore-decides : (κs : Lfts 2) (a : ArgsD restore.signature κs) (r q : ResD restore.signature κs) (s o : AtExit (ended_of 2 restore_kinds.ps restore_kinds.r) κs)
     → restore_reads.Post κs a r s → restore_reads.Post κs a q o → (r ≡ q) × (s.1.0.now ≡ o.1.0.now)
-restore-decides κs a r q s o p t = both _ _ (sym p ∙ t)
-  where
-    both : (x y : Outcome × List ℕ) → x ≡ y → (x.0 ≡ y.0) × (x.1 ≡ y.1)
-    both x y e = (ap (λ (z : Outcome × List ℕ). z.0) e, ap (λ (z : Outcome × List ℕ). z.1) e)
+restore-decides κs a r q s o p t = halves _ _ (sym p ∙ t)

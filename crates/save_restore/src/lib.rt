@@ -98,6 +98,7 @@ impl Reading<'_> {
         ensures { result ≡ shares_tally (row_of field) slot_count self.now.slots self.now.form.now }
     {
         let mut at = field.begins(&self.slots) + 3;
+        // Kept: a place that runs along, here, in read_shares, in store and in save_entry's put_shares: each does something else there.
         let mut ok = true;
         for s in &self.slots {
             ok = ok & self.share_tallies(field, s, at);

@@ -2,6 +2,7 @@
 -- accepted form has at each place, so that a form which has anything else there is refused; and that nothing may stand behind it or be missing, but for
 -- P8's field 5 and P9's field 6, without which it is another bench's.
 -- Assumes nothing.
+use Rattle.rules.proofs.Run.Cases.{older-present}
 use Prim.Native.Nat.{ℕ, zero, suc, ◌+◌, ◌*◌, ◌/◌, ◌%◌, ◌^◌, ◌≤◌, ◌<◌}
 use native.Mathlib.Nat.{add-zero, add_assoc}
 use native.Mathlib.Omega.{arith}
@@ -174,11 +175,6 @@ sensors-offset = counts 4 sensing (λ s. unfold size_in field_at fields pending_
 
 olders-offset : (ss : List Slot) → offset 5 slot_count ss ≡ count_to older slot_count ss
 olders-offset = counts 5 older (λ s. unfold size_in field_at fields older_field older in refl) slot_count
-
--- an older slot is present
-older-present : (s : Slot) → older s ≡ true → absent s ≡ false
-unfolding older absent
-older-present s o = ap (λ (k : ℕ). eqb k 0) (eqb-true s.kind 3 o)
 
 -- the two bits of a byte of field 6
 bits_none : (p q : Bool) → (p || q) ≡ true → ◌≡◌ {A = ℕ} (cond p 1 0 + 2 * cond q 1 0) 0 → ⊥

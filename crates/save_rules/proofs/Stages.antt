@@ -10,7 +10,7 @@ use mathlib.Core.List.{List, [], ◌∷◌}
 use lib.Dec.{eqb}
 use lib.ListN.{length, get_or, take}
 use borrow.Author.Tests.{eqb-true, eqb-false}
-use Rattle.proof_lists.specs.Tests.{cond_cases, by-test, and_left, and_right, or_left_false, or_right_false}
+use Rattle.proof_lists.specs.Tests.{cond_cases, by-test, and_left, and_right, or_left_false, or_right_false, bit-back}
 use Rattle.rules.specs.declared.Older.{Older}
 use Rattle.rules.specs.declared.Sensor.{Sensor}
 use Rattle.rules.specs.declared.Slot.{Slot}
@@ -71,12 +71,7 @@ set-up : (s : Slot) → InRange s → setup_slot (record { kind = s.kind; length
 unfolding setup_slot absent
 set-up s v = by-test (eqb s.kind 0) (λ a. rw a (ap (fresh_slot s.kind) (sym (length-zero s v a)))) (λ a. rw a)
 
--- a byte that is 1 or 0
-bit-back : (v : Bool) → eqb (cond v 1 0) 1 ≡ v
-bit-back true = refl
-bit-back false = refl
-
--- and one with two bits
+-- a byte with two bits
 both_bits : (p q : Bool) → older_from (older_byte (record { permanent = p; lasting = false; pin = q })) ≡ record { permanent = p; lasting = false; pin = q }
 unfolding older_from older_byte bits_of
 both_bits true true = refl

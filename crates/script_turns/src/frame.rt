@@ -10,7 +10,7 @@ use rules::Answer;
 
 // The beginning, from the bytes that were read as setup: fewer than sixteen are a setup that is cut. The bench that records are run on, with nothing
 // put; or, where none follow, `short` or `R5` put at the front of the output, and where that ends.
-// Kept: room for six bytes, here and above: programs lend 6, 64, 4,287 and 65,536 bytes, and an array's type would refuse all of them but one.
+// Kept: room for six bytes, here and above: programs lend 6, 64, 4,287, 65,536 and 262,140 bytes, and an array's type would refuse all but one.
 pub fn begin(bytes: &[u8], out: &mut [u8]) -> Result<Bench, usize>
     requires { 6 ≤ length out.old }
     ensures { begin_of bytes.now out.old ≡ (result, out.new) }

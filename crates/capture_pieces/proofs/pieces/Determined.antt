@@ -1,6 +1,7 @@
 -- Any two results that the inner entry's contract allows are equal, and so is every byte of what it is lent: of the contract's own clause, as the
 -- borrow checker reads it.
 -- Assumes nothing.
+use Rattle.proof_lists.specs.Tests.{halves}
 use mathlib.Core.Path.{◌≡◌, sym, ◌∙◌, ap}
 use mathlib.Core.List.{List}
 use Prim.Native.Nat.{ℕ}
@@ -16,7 +17,4 @@ use Rattle.capture_pieces.proofs.pieces.piece.Reads as piece_reads
 -- piece: the bus, the verdict and every byte of the lent memory
 pub piece-decides : (κs : Lfts 2) (a : ArgsD piece.signature κs) (r q : ResD piece.signature κs) (s o : AtExit (ended_of 2 piece_kinds.ps piece_kinds.r) κs)
     → piece_reads.Post κs a r s → piece_reads.Post κs a q o → (r ≡ q) × (s.1.0.now ≡ o.1.0.now)
-piece-decides κs a r q s o p t = both _ _ (sym p ∙ t)
-  where
-    both : (x y : Checked × List ℕ) → x ≡ y → (x.0 ≡ y.0) × (x.1 ≡ y.1)
-    both x y e = (ap (λ (z : Checked × List ℕ). z.0) e, ap (λ (z : Checked × List ℕ). z.1) e)
+piece-decides κs a r q s o p t = halves _ _ (sym p ∙ t)

@@ -3,7 +3,7 @@ use Rattle.std.proofs.Common.{◌≡◌, sym, ◌∙◌, ap, ℕ, ◌*◌, ◌/�
 use Rattle.proof_lists.specs.Alike.{every-from}
 use Rattle.rules.specs.Fresh.{absent_slot}
 use Rattle.rules.specs.Refusals.{in_range}
-use Rattle.plan_pages.proofs.Chunks.{chunk-at}
+use Rattle.proof_lists.specs.Chunks.{chunk-at}
 use Rattle.plan_entry.proofs.Laws.{not-refused, wrong-lengths, good-lengths, missing-above, missing-kind, slot-typed, slot-ranged, plan-lengths, plan-state, plan-slot, plan-alone}
 use Rattle.plan_entry.proofs.plan.Goals as goal
 use Rattle.plan_entry.proofs.plan.Goals.{then-memory-ne-MEMORY-via-then-memory-ne-MEMORY, then-memory-ne-MEMORY-via-else-memory-ne-MEMORY+then-buffer-ne-BUFFER}

@@ -1,9 +1,10 @@
 -- The pin's flags are document 01's: after a conversion bits 15, 14 and 13 of 05h are the three flags of t; and a change is one of the high or low flag.
 -- Assumes nothing.
+use Rattle.proof_lists.specs.Tests.{bit-back}
 use Prim.Native.Nat.{ℕ, ◌+◌, ◌*◌, ◌/◌, ◌%◌}
 use native.Mathlib.Omega.{arith}
-use mathlib.Core.Path.{◌≡◌, refl, sym, ◌∙◌, ap}
-use mathlib.Core.Bool.{Bool, true, false, false≢true, cond}
+use mathlib.Core.Path.{◌≡◌, sym, ◌∙◌, ap}
+use mathlib.Core.Bool.{true, false, false≢true}
 use borrow.Author.Tests.{eqb-true, eqb-false, eq-eqb, not-false, not-true}
 use lib.Dec.{T, eqb}
 use lib.IntN.{ℤ, pos, negsuc}
@@ -13,10 +14,6 @@ use Rattle.rules.specs.declared.Sensor.{Sensor}
 use Rattle.rules.specs.Pin.{critical_set, high_set, low_set, changes}
 use Rattle.rules.specs.Sensor.{stepped_of, shut_down, critical_flag, high_flag, low_flag, converted}
 use Rattle.rules.proofs.Registers.Told.{converted-tells}
-
-digit : (b : Bool) → eqb (cond b 1 0) 1 ≡ b
-digit true = refl
-digit false = refl
 
 -- the flags that a conversion leaves
 pub record Set (x : Sensor) (t : ℤ) (w : ℕ) : Type 0 where
@@ -31,14 +28,14 @@ flags-set x given awake h k =
     let v = converted-tells x given awake h k in
     let t = stepped_of x given in
     record {
-      critical = ap (λ (n : ℕ). eqb n 1) v.critical ∙ digit (critical_flag x t);
-      high = ap (λ (n : ℕ). eqb n 1) v.high ∙ digit (high_flag x t);
-      low = ap (λ (n : ℕ). eqb n 1) v.low ∙ digit (low_flag x t);
+      critical = ap (λ (n : ℕ). eqb n 1) v.critical ∙ bit-back (critical_flag x t);
+      high = ap (λ (n : ℕ). eqb n 1) v.high ∙ bit-back (high_flag x t);
+      low = ap (λ (n : ℕ). eqb n 1) v.low ∙ bit-back (low_flag x t);
     }
 
 -- two digits that are tested alike are the same
-same-digit : (m n : ℕ) → eqb (m % 2) 1 ≡ eqb (n % 2) 1 → m % 2 ≡ n % 2
-same-digit m n e =
+same-bit-back : (m n : ℕ) → eqb (m % 2) 1 ≡ eqb (n % 2) 1 → m % 2 ≡ n % 2
+same-bit-back m n e =
     by-test (eqb (m % 2) 1)
     (λ f. eqb-true _ 1 f ∙ sym (eqb-true _ 1 (sym e ∙ f)))
     (λ f. omega (arith, eqb-false (m % 2) 1 f, eqb-false (n % 2) 1 (sym e ∙ f)))
@@ -60,7 +57,7 @@ module _ (before after : ℕ) where
   pub a-change : changes before after ≡ true → high_set before ≡ high_set after → low_set before ≡ low_set after → ⊥
   unfolding changes high_set low_set
   a-change e h l =
-      let hi = same-digit (before / 16384) (after / 16384) h in
-      let lo = same-digit (before / 8192) (after / 8192) l in
+      let hi = same-bit-back (before / 16384) (after / 16384) h in
+      let lo = same-bit-back (before / 8192) (after / 8192) l in
       let s : before / 8192 % 4 ≡ after / 8192 % 4 = two_digits before ∙ rw (hi, lo) (sym (two_digits after)) in
       false≢true (sym (not-true _ e) ∙ eq-eqb _ _ s)

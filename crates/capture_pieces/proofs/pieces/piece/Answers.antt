@@ -1,7 +1,7 @@
 -- After each turn one record more has been run, and has agreed.
 use Rattle.std.proofs.Common.{◌≡◌, refl, sym, ◌∙◌, ap, ℕ, ◌*◌, ◌/◌, ◌<◌, List, [], length, get_or, arith}
 use Rattle.capture_rules.specs.Capture.{Captured, captured_at}
-use Rattle.capture_pieces.proofs.Chunks.{chunk-at}
+use Rattle.proof_lists.specs.Chunks.{chunk-at}
 use Rattle.capture_pieces.proofs.pieces.Going.{captured-record, going-none, going_on, going-differs, going-ended}
 use Rattle.capture_pieces.proofs.pieces.piece.Goals as goal
 

@@ -1,7 +1,7 @@
 -- The records passed have their lines.
 use Rattle.std.proofs.Common.{ℕ, ◌*◌, ◌/◌, ◌<◌, ◌∙◌, ap, arith, List, [], length, get_or, length-take}
 use Rattle.std.proofs.lemmas.List.{get_or-take}
-use Rattle.plan_pages.proofs.Chunks.{chunk-at}
+use Rattle.proof_lists.specs.Chunks.{chunk-at}
 use Rattle.plan_pages.proofs.text.Laws.{line-at, lines_none, lines-more, line-nine, lines-nine}
 use Rattle.plan_pages.proofs.text.put_records.Goals as goal
 

@@ -7,4 +7,5 @@ pub chunk-at : (size k i : ℕ) (bs : List ℕ) → i < k → get_or (first_chun
 chunk-at size zero i bs h = absurd (omega arith)
 chunk-at size (suc k) zero bs h = rw mul-zero
 chunk-at size (suc k) (suc i) bs h =
-    chunk-at size k i (drop size bs) (omega arith) ∙ ap (take size) (drop-drop (size * i) size bs ∙ ap (λ (n : ℕ). drop n bs) (add_comm size (size * i) ∙ sym (mul-suc size i)))
+    chunk-at size k i (drop size bs) (omega arith)
+    ∙ ap (take size) (drop-drop (size * i) size bs ∙ ap (λ (n : ℕ). drop n bs) (add_comm size (size * i) ∙ sym (mul-suc size i)))
