@@ -1,7 +1,8 @@
 -- What the list program gives a list from, and what it writes for what is left of it: records as events, and answer places as lines.
 -- Assumes nothing.
-use Rattle.std.specs.Prelude.{ℕ, zero, suc, ◌+◌, ◌*◌, Bool, true, false, cond, List, [], ◌∷◌, ◌++◌, length, get_or}
+use Rattle.std.specs.Prelude.{ℕ, zero, suc, ◌+◌, ◌*◌, ◌/◌, Bool, true, false, cond, List, [], ◌∷◌, ◌++◌, pos, length, get_or, replicate}
 use Rattle.std.proofs.lemmas.List.Edits.{sets}
+use Rattle.proof_lists.specs.Each.{filled}
 use Rattle.rules.specs.declared.Answer.{Answer}
 use Rattle.rules.specs.declared.Answer.TheVariants.{Nothing, Ack, Nack, Data, Refused}
 use Rattle.rules.specs.declared.Event.{Event}
@@ -20,6 +21,14 @@ number_in bs = 256 * get_or bs 0 0 + get_or bs 1 0
 unfoldable pub events_in : List ℕ → ℕ → List Event
 events_in bs zero = []
 events_in bs (suc n) = events_in bs n ++ record_at bs (4 * n) ∷ []
+
+-- an event that stands in an array behind a list, and is not given
+abbrev pub no_event : Event
+no_event = record { kind = 0; slot = record { 0 = 0 }; value = pos 0 }
+
+-- the whole records of some bytes, at the front of an array
+unfoldable pub events_for : List ℕ → List Event
+events_for bs = filled (replicate 4096 no_event) (events_in bs (length bs / 4)) (length bs / 4)
 
 -- what a place holds before the list is given: an answer that no event gets, refusal 5 being a setup's alone
 abbrev pub blank : Answer

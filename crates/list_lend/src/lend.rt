@@ -16,10 +16,9 @@ pub fn give_records(bus: Bus, mem: &mut [u8], records: &[u8], places: usize, out
     ensures { given_of bus mem.old (events_in records.now (length records.now / 4))
         (replicate places blank) out.old ≡ (result, mem.new, out.new) }
 {
-    let mut room = [text::NO_EVENT; text::MOST_EVENTS];
-    let list = text::events_in(records, &mut room);
+    let list = text::events_in(records);
     let mut unanswered = [text::BLANK; text::MOST_PLACES];
     let answers = &mut unanswered[..places];
-    let done = list_entry::events(bus, mem, list, answers);
+    let done = list_entry::events(bus, mem, &list[..records.len() / 4], answers);
     text::put_list(done, answers, out)
 }

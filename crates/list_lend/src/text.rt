@@ -1,8 +1,8 @@
 // What the list program gives a list from, and what it writes for what is left of it: records as events, and answer places as lines. There is room
 // for 4,096 events and 65,535 answer places, which is as many as two bytes can ask for.
-ghost use Rattle.std.specs.Prelude.{◌≡◌, ◌+◌, ◌*◌, ◌/◌, ◌≤◌, length};
+ghost use Rattle.std.specs.Prelude.{◌≡◌, ◌+◌, ◌*◌, ◌≤◌, length};
 ghost use Rattle.std.proofs.lemmas.List.Edits.{sets};
-ghost use Rattle.list_lend.specs.Listed.{events_in, number_in, place_line, place_lines, told_of, too_many_text};
+ghost use Rattle.list_lend.specs.Listed.{events_for, number_in, place_line, place_lines, told_of, too_many_text};
 
 use rules::{Answer, Bus, Event, Outcome, Refusal, SlotNo};
 
@@ -10,7 +10,7 @@ pub const MOST_EVENTS: usize = 4096;
 
 pub const MOST_PLACES: usize = 65535;
 
-// What stands in a room for events until they are put there.
+// What stands behind the events of a list; no one is to give it.
 pub const NO_EVENT: Event = Event {
     kind: 0,
     slot: SlotNo(0),
@@ -28,16 +28,16 @@ pub fn number_in(bytes: &[u8]) -> usize
     usize::from(u16::from_be_bytes([bytes[0], bytes[1]]))
 }
 
-// The whole records of some bytes as events, in the front of a room.
-pub fn events_in<'a>(records: &[u8], room: &'a mut [Event; MOST_EVENTS]) -> &'a [Event]
+// The whole records of some bytes as events, at the front of the array; behind them stand events that no one is to give.
+pub fn events_in(records: &[u8]) -> [Event; MOST_EVENTS]
     requires { length records.now ≤ 16384 }
-    ensures { result.now ≡ events_in records.now (length records.now / 4) }
+    ensures { result ≡ events_for records.now }
 {
-    let count = records.len() / 4;
+    let mut all = [NO_EVENT; MOST_EVENTS];
     for (i, record) in records.chunks_exact(4).enumerate() {
-        room[i] = script_text::records::record_at(record, 0);
+        all[i] = script_text::records::record_at(record, 0);
     }
-    &room[..count]
+    all
 }
 
 // A place's line, put at a place of the output; the place after it.

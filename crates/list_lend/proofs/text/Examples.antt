@@ -1,10 +1,10 @@
 -- What the list program reads and writes, byte by byte. Each theorem computes.
 -- Assumes nothing.
-use Prim.Native.Nat.{ℕ, ◌/◌}
+use Prim.Native.Nat.{ℕ}
 use mathlib.Core.Path.{◌≡◌, refl}
 use mathlib.Core.List.{List, [], ◌∷◌, ◌++◌, map}
 use lib.IntN.{ℤ, pos, negsuc}
-use lib.ListN.{length, replicate}
+use lib.ListN.{replicate}
 use Rattle.proof_lists.specs.Each.{filled}
 use Rattle.rules.specs.declared.Answer.{Answer}
 use Rattle.rules.specs.declared.Answer.TheVariants.{Nothing, Ack, Nack, Data, Refused}
@@ -12,14 +12,14 @@ use Rattle.rules.specs.declared.Event.{Event}
 use Rattle.rules.specs.declared.Refusal.TheVariants.{MemoryLength, UnknownKind, WrongSlot, WrongValue, WrongSetup, WrongState, ProtectedPage, Busy, TooShort, WrongForm}
 use Rattle.script_text.specs.Open.{open-text}
 use Rattle.script_text.specs.Quoted.{quoted}
-use Rattle.list_lend.specs.Listed.{number_in, events_in, blank, is_setups, is_blank, place_line, place_lines, answer_lines, dot_lines, list_text, too_many_text}
+use Rattle.list_lend.specs.Listed.{number_in, events_in, events_for, blank, is_setups, is_blank, place_line, place_lines, answer_lines, dot_lines, list_text, too_many_text}
 
 -- "two bytes [..] (high byte first)", and what stands behind them is not looked at
 pub numbers : map number_in ((0x12 ∷ 0x34 ∷ []) ∷ (0x00 ∷ 0xFF ∷ []) ∷ (0xFF ∷ 0x00 ∷ 7 ∷ []) ∷ []) ≡ 0x1234 ∷ 255 ∷ 65280 ∷ []
 unfolding number_in
 numbers = refl
 
--- two records, and three bytes of one that is cut: their events, and these at the front of a room for 4,096
+-- two records, and three bytes of one that is cut: their events, and these at the front of 4,096
 abbrev event : ℕ → ℕ → ℤ → Event
 event kind slot value = record { kind = kind; slot = record { 0 = slot }; value = value }
 
@@ -29,8 +29,8 @@ bytes = 9 ∷ 5 ∷ 0xFD ∷ 0x80 ∷ 2 ∷ 0 ∷ 0 ∷ 0xA6 ∷ 1 ∷ 0 ∷ 0 �
 abbrev given : List Event
 given = event 9 5 (negsuc 639) ∷ event 2 0 (pos 0xA6) ∷ []
 
-pub events : (events_in bytes 2 ≡ given) × (filled (replicate 4096 (event 0 0 (pos 0))) (events_in bytes (length bytes / 4)) (length bytes / 4) ≡ given ++ replicate 4094 (event 0 0 (pos 0)))
-unfolding open-text events_in filled
+pub events : (events_in bytes 2 ≡ given) × (events_for bytes ≡ given ++ replicate 4094 (event 0 0 (pos 0)))
+unfolding open-text events_in events_for filled
 events = (refl, refl)
 
 -- "a line for each answer place, `.` for one that is unchanged": a setup's refusal is what an unchanged place holds
