@@ -1,6 +1,8 @@
 -- The kinds of eight slots, as the law has them of a bus, and the kinds of events by their numbers.
 -- Assumes nothing.
-use Rattle.std.specs.Prelude.{◌≡◌, ℕ, true, ◌||◌, List, map, ltb, ℤ, Result, MatchResult}
+use Rattle.std.specs.Prelude.{◌≡◌, ℕ, true, ◌||◌, List, ◌∷◌, [], map, eqb, ltb, ℤ, Result, MatchResult}
+use Rattle.std.specs.List.{find}
+use Rattle.std.specs.Option.{ok_or}
 use Rattle.rules.specs.declared.Event.{Event}
 use Rattle.rules.specs.declared.Refusal.{Refusal}
 use Rattle.rules.specs.declared.Refusal.TheVariants.{UnknownKind}
@@ -24,6 +26,13 @@ number_of Voltage = 7
 number_of Power = 8
 number_of Temperature = 9
 number_of WriteProtect = 10
+
+abbrev pub kinds : List Kind
+kinds = Start ∷ Byte ∷ Read ∷ Stop ∷ Timeout ∷ Tick ∷ Voltage ∷ Power ∷ Temperature ∷ WriteProtect ∷ []
+
+-- row 2: the kind that has the number, where there is one
+abbrev pub kind_of : ℕ → Result Kind Refusal
+kind_of n = ok_or (find (λ k. eqb (number_of k) n) kinds) UnknownKind
 
 -- the result is the kind with this number, or that no kind has it
 abbrev pub Decodes : ℕ → Result Kind Refusal → Type 0

@@ -2,7 +2,7 @@
 ghost use Rattle.std.specs.Prelude.{◌≡◌, cond, pos, nat_abs, Ok, Err};
 ghost use Rattle.rules.specs.Events.{is_one, act_of};
 ghost use Rattle.rules.specs.Refusals.{kind_at, wrong_slot, outside, wrong_value, ruled_for};
-ghost use Rattle.bus_refusals.specs.Kinds.{kinds_in, Decodes, event_with};
+ghost use Rattle.bus_refusals.specs.Kinds.{kinds_in, kind_of, event_with};
 
 use rules::{Act, Applied, Cut, Event, Refusal, Slot, SlotNo};
 
@@ -32,7 +32,7 @@ enum Kind {
 impl TryFrom<u8> for Kind {
     type Error = Refusal;
 
-    ghost try_from_gives = { Decodes };
+    ghost try_from_gives = { λ n r. r ≡ kind_of n };
 
     fn try_from(number: u8) -> Result<Self, Refusal> {
         match number {

@@ -1,6 +1,6 @@
 -- The code's fields, and their rows in the law's table.
 -- Assumes nothing.
-use Rattle.std.specs.Prelude.{ℕ, List, sum_by}
+use Rattle.std.specs.Prelude.{ℕ, List, [], ◌∷◌, get_or, sum_by}
 use Rattle.rules.specs.declared.Slot.{Slot}
 use Rattle.save_rules.specs.Reading.{span}
 use Rattle.save_fields.specs.declared.shares.Field.{Field}
@@ -14,6 +14,10 @@ row_of State = 2
 row_of Sensor = 3
 row_of Pending = 4
 row_of Older = 5
+
+-- and the field in a row; from row 6 on, where there is none, the first, as the table has it
+abbrev pub field_of : ℕ → Field
+field_of t = get_or (Setup ∷ Memory ∷ State ∷ Sensor ∷ Pending ∷ Older ∷ []) t Setup
 
 -- how many bytes some of them take
 abbrev pub taken : List Field → List Slot → ℕ

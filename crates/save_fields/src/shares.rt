@@ -9,7 +9,7 @@ ghost use Rattle.rules.specs.Fields.{with_pending};
 ghost use Rattle.rules.specs.Fresh.{setup_slot};
 ghost use Rattle.script_text.specs.Records.{pair_at};
 ghost use Rattle.save_rules.specs.Form.{word_of, word_at, bits_of, bits_in, state_from, registers_to, sensor_bytes, sensor_from, older_byte, older_from, field_at, share_of};
-ghost use Rattle.save_fields.specs.Rows.{row_of};
+ghost use Rattle.save_fields.specs.Rows.{row_of, field_of};
 
 use rules::{Older, Pair, Sensor, Slot};
 use script_text::letters::put;
@@ -56,7 +56,7 @@ impl Field {
     // Kept: a row by its number: save_rules/Form.field_at goes by it, from 6 on too, and what was promised of every number holds of this.
     // The field in a row of the table; from row 6 on, where there is none, the first, as the table has it.
     pub fn of_row(t: usize) -> Self
-        ensures { field_at (row_of result) ≡ field_at t }
+        ensures { result ≡ field_of t }
     {
         Self::ALL.get(t).copied().unwrap_or(Field::Setup)
     }

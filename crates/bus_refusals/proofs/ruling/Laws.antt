@@ -15,7 +15,7 @@ use Rattle.rules.specs.Events.{is_one, act_of}
 use Rattle.rules.specs.Refusals.{Ruling, unknown_kind, wrong_slot, outside, wrong_value, ruled_for}
 use Rattle.bus_refusals.specs.declared.ruling.Kind.{Kind}
 use Rattle.bus_refusals.specs.declared.ruling.Kind.TheVariants.{Start, Byte, Read, Stop, Timeout, Tick, Voltage, Power, Temperature, WriteProtect}
-use Rattle.bus_refusals.specs.Kinds.{number_of, event_with}
+use Rattle.bus_refusals.specs.Kinds.{number_of, kind_of, Decodes, event_with}
 
 -- a number in a range that begins with 0
 pub number-in : (most : ℕ) (v : ℤ) → FitsUnsignedBits 8 v → nat_abs v ≤ most → outside (pos 0) (pos most) v ≡ false
@@ -145,3 +145,36 @@ module _ (kind : ℕ) (k : Kind) (e : Event) (named : number_of k ≡ e.kind) wh
   pub ruled-value : wrong_slot kind (event_with k e.slot (pos 0)) ≡ false → cond (wrong_value it) (Err WrongValue) (Ok (act_of it)) ≡ ruled_for kind e
   unfolding ruled_for
   ruled-value w = subst (λ (z : Event). cond (wrong_value it) (Err WrongValue) (Ok (act_of it)) ≡ ruled_for kind z) same (rw (known-kind k e.slot e.value, blind ∙ w))
+
+-- the kind that has a number decodes it
+no-number : (k n : ℕ) → k ≤ 10 → 10 < n → eqb k n ≡ false
+no-number k n l h = by-test (eqb k n) (λ t. absurd (below (eqb-true k n t))) (λ f. f)
+  where
+    below : k ≡ n → ⊥
+    below e = omega (arith, l, h)
+
+over : (n : ℕ) → 10 < n → Decodes n (kind_of n)
+over n h =
+    let is-not = λ (k : ℕ). λ (l : k ≤ 10). no-number k n l h in
+    rw (is-not 1 (omega arith), is-not 2 (omega arith), is-not 3 (omega arith), is-not 4 (omega arith), is-not 5 (omega arith), is-not 6 (omega arith), is-not 7 (omega arith), is-not 8 (omega arith), is-not 9 (omega arith), is-not 10 (omega arith), lt-ltb 10 n h)
+    (refl, or-true (ltb n 1))
+
+pub decodes : (n : ℕ) → Decodes n (kind_of n)
+decodes zero = (refl, refl)
+decodes (suc zero) = refl
+decodes (suc (suc zero)) = refl
+decodes (suc (suc (suc zero))) = refl
+decodes (suc (suc (suc (suc zero)))) = refl
+decodes (suc (suc (suc (suc (suc zero))))) = refl
+decodes (suc (suc (suc (suc (suc (suc zero)))))) = refl
+decodes (suc (suc (suc (suc (suc (suc (suc zero))))))) = refl
+decodes (suc (suc (suc (suc (suc (suc (suc (suc zero)))))))) = refl
+decodes (suc (suc (suc (suc (suc (suc (suc (suc (suc zero))))))))) = refl
+decodes (suc (suc (suc (suc (suc (suc (suc (suc (suc (suc zero)))))))))) = refl
+decodes (suc (suc (suc (suc (suc (suc (suc (suc (suc (suc (suc n))))))))))) = over (suc (suc (suc (suc (suc (suc (suc (suc (suc (suc (suc n))))))))))) (omega arith)
+
+pub decoded-unknown : (n : ℕ) (why : Refusal) → Err why ≡ kind_of n → (why ≡ UnknownKind) × (ltb n 1 || ltb 10 n ≡ true)
+decoded-unknown n why h = subst (Decodes n) (sym h) (decodes n)
+
+pub decoded : (n : ℕ) (k : Kind) → Ok k ≡ kind_of n → number_of k ≡ n
+decoded n k h = subst (Decodes n) (sym h) (decodes n)

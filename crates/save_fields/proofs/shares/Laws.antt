@@ -12,7 +12,8 @@ use mir.Val.{bool_byte}
 use Rattle.script_text.proofs.letters.Laws.{Put, put_on}
 use Rattle.rules.specs.declared.Sensor.{Sensor}
 use Rattle.rules.specs.Sensor.{register_of}
-use Rattle.save_rules.specs.Form.{bits_of, bits_in, word_of, saved_registers, registers_to, sensor_bytes}
+use Rattle.save_rules.specs.Form.{bits_of, bits_in, word_of, saved_registers, registers_to, sensor_bytes, fields, field_at}
+use Rattle.save_fields.specs.Rows.{row_of, field_of}
 
 -- none, or one bit before others
 pub bits-none : (on : List Bool) → length on < 1 → (0 ≡ bits_of on) × (0 < 2 ^ length on)
@@ -76,3 +77,14 @@ length-sensor x = rw (length-registers 7 x)
 pub bit-byte : (b : Bool) → bool_byte b ≡ cond b 1 0
 bit-byte false = refl
 bit-byte true = refl
+
+-- the field in a row is the one that the table has there
+pub field_of-row : (t : ℕ) → field_at (row_of (field_of t)) ≡ field_at t
+unfolding field_at fields
+field_of-row zero = refl
+field_of-row (suc zero) = refl
+field_of-row (suc (suc zero)) = refl
+field_of-row (suc (suc (suc zero))) = refl
+field_of-row (suc (suc (suc (suc zero)))) = refl
+field_of-row (suc (suc (suc (suc (suc zero))))) = refl
+field_of-row (suc (suc (suc (suc (suc (suc t)))))) = refl
