@@ -1,12 +1,14 @@
 -- The steps as the code takes them, and read after read.
 -- Assumes nothing.
 use mathlib.Core.Path.{◌≡◌, refl, sym, ◌∙◌, ap, ap₂}
-use mathlib.Core.Bool.{Bool, true, false, false≢true}
+use mathlib.Core.Bool.{Bool, true, false, not, false≢true}
 use mathlib.Core.List.{List, [], ◌∷◌, ◌++◌}
 use Prim.Native.Nat.{ℕ, ◌+◌, ◌≤◌, ◌<◌}
 use native.Mathlib.Nat.{zero-add}
 use native.Mathlib.Omega.{arith}
-use borrow.Author.Tests.{lt-ltb, le-ltb}
+use borrow.Author.Tests.{lt-ltb, le-ltb, ltb-true, ltb-false}
+use lib.Dec.{ltb}
+use Rattle.std.proofs.Common.{Result, Ok, Err}
 use lib.ListN.{length, take, length-append}
 use lib.Seq.{sets, length-take-le}
 use Rattle.rules.specs.declared.Answer.{Answer}
@@ -21,7 +23,7 @@ use Rattle.script_turns.proofs.frame.Laws.{last-length}
 use Rattle.script_streams.specs.Reading.{most_reads}
 use Rattle.watch_text.specs.Lines.{change_lines, bench_lines}
 use Rattle.watch_streams.specs.Texts.{record_text}
-use Rattle.watch_streams.specs.Steps.{cut, read_text, read_next, step_of}
+use Rattle.watch_streams.specs.Steps.{cut, read_text, read_next, step_of, onward}
 use Rattle.watch_streams.specs.Reading.{bench_left, out_left, UpToLast, Exhausted, Watched}
 
 -- fewer bytes than a record has
@@ -47,6 +49,27 @@ step_by x bs out e a y o p line end h f n w k l =
     rw t at (put_on out o p 0 line end (line_of a) (change_lines x.bus.slots y.bus.slots) k l) in
     let j : length (record_text (record_at bs 0) x) ≡ end = sym (q.0 ∙ zero-add _) in
     rw c (λ i. (j i, sym after i, sym q.1 i))
+
+-- where the telling went well, more is waited for behind a whole record alone
+same-ok : {E : Type 0} {a b : Bool} → ◌≡◌ {A = Result Bool E} (Ok a) (Ok b) → a ≡ b
+same-ok h = grind arith
+
+err-not-ok : {E : Type 0} {e : E} {b : Bool} → ◌≡◌ {A = Result Bool E} (Err e) (Ok b) → ⊥
+err-not-ok h = grind arith
+
+onward-is : {T E : Type 0} (t : Result T E) (n : ℕ) (b : Bool) → onward t n ≡ Ok b → not (ltb n 4) ≡ b
+onward-is (Ok u) n b h = same-ok h
+onward-is (Err e) n b h = absurd (err-not-ok h)
+
+negated : (a b : Bool) → not a ≡ b → a ≡ not b
+negated true b h = ap not h
+negated false b h = ap not h
+
+pub onward-cut : {T E : Type 0} (t : Result T E) (n : ℕ) (b : Bool) → onward t n ≡ Ok b → b ≡ false → n < 4
+onward-cut t n b h f = ltb-true n 4 (negated (ltb n 4) b (onward-is t n b h) ∙ ap not f)
+
+pub onward-whole : {T E : Type 0} (t : Result T E) (n : ℕ) (b : Bool) → onward t n ≡ Ok b → b ≡ true → 4 ≤ n
+onward-whole t n b h f = ltb-false n 4 (negated (ltb n 4) b (onward-is t n b h) ∙ ap not f)
 
 -- reads that were all whole records
 unfoldable pub Each : List (List ℕ) → Type 0

@@ -1,7 +1,7 @@
 -- The steps of watching, on the bytes that were read and the buffers that are lent. What a step has written is the front of the output, as far as its
 -- end says.
 -- Assumes nothing.
-use Rattle.std.specs.Prelude.{ℕ, Bool, cond, List, ltb, length}
+use Rattle.std.specs.Prelude.{ℕ, Bool, not, cond, List, ltb, length, Result, Ok, Err}
 use Rattle.std.proofs.lemmas.List.Edits.{sets}
 use Rattle.rules.specs.Runs.{Bench, next}
 use Rattle.script_text.specs.Records.{record_at}
@@ -22,3 +22,8 @@ read_next x c = cond (cut c) x (next (record_at c 0) x)
 -- a step: where what it put ends; then the bench and the output
 unfoldable pub step_of : Bench → List ℕ → List ℕ → ℕ × Bench × List ℕ
 step_of x c out = (length (read_text x c), read_next x c, sets out 0 (read_text x c))
+
+-- whether a next record is waited for, by what telling this one of n bytes gave; or why it could not be told
+abbrev pub onward : {T E : Type 0} → Result T E → ℕ → Result Bool E
+onward (Ok told) n = Ok (not (ltb n 4))
+onward (Err why) n = Err why

@@ -3,7 +3,7 @@
 #![tactic(auto)]
 
 ghost use Rattle.std.specs.Prelude.{◌≡◌, ◌≤◌, length, is_ok};
-ghost use Rattle.watch_streams.specs.Steps.{step_of};
+ghost use Rattle.watch_streams.specs.Steps.{step_of, onward};
 ghost use Rattle.watch_streams.specs.Reading.{Watched};
 
 use bus_bench::Bench;
@@ -25,6 +25,13 @@ fn step(bench: &mut Bench, bytes: &[u8], out: &mut [u8]) -> usize
     watch_text::lines::put_changes(out, line, was, bench.bus.slots)
 }
 
+// Whether a next record is waited for: where what was put for this one could be told, and it was whole; or why it could not.
+fn onward<E: Drop>(told: Result<(), E>, n: usize) -> Result<bool, E>
+    ensures { result ≡ onward told n }
+{
+    told.map(|()| 4 <= n)
+}
+
 // All present slots, and then record after record, until the input ends or a write fails: what is told of a record is written before the next is
 // waited for. Whether all of it is written. A proved loop has to end, so it counts to a number that no input uses up.
 pub fn watch(input: &mut Stdin, to: &Stdout, bench: &mut Bench, out: &mut [u8]) -> io::Result<()>
@@ -37,8 +44,7 @@ pub fn watch(input: &mut Stdin, to: &Stdout, bench: &mut Bench, out: &mut [u8]) 
     for _ in 0..u64::MAX {
         let n = script_streams::opening::fill(input, &mut four);
         let end = step(bench, &four[..n], out);
-        to.write_all(&out[..end])?;
-        if n < 4 {
+        if !onward(to.write_all(&out[..end]), n)? {
             return Ok(());
         }
     }
