@@ -6,6 +6,7 @@ use super::names::PHASES;
 use super::words::Word;
 use rules::{Older, Phase, Sensor, Slot};
 use std::array;
+use watch_text::numbers;
 
 // A slot, number by number, in the order of `names::NUMBERS`. The last four a try hands in, and tells, of slots of every kind.
 // Kept: a list beside that of the names, and no field for each, since a try hands numbers in by their places: by a name, and those that follow.
@@ -14,7 +15,8 @@ pub struct Numbers(pub [u16; 61]);
 
 impl From<Slot> for Numbers {
     fn from(s: Slot) -> Numbers {
-        let mut all = array::from_fn(|k| watch_text::numbers::number(s, k));
+        let told = numbers::numbers(s);
+        let mut all = array::from_fn(|k| told.get(k).copied().unwrap_or(0));
         all[57] = u16::from(s.sensor.pending);
         all[58] = u16::from(s.old.permanent);
         all[59] = u16::from(s.old.lasting);

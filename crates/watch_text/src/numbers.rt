@@ -71,7 +71,7 @@ fn kind_numbers(s: Slot) -> [u16; 3]
 }
 
 // All of them, noughts behind the last.
-pub(crate) fn numbers(s: Slot) -> [u16; COUNT]
+pub fn numbers(s: Slot) -> [u16; COUNT]
     ensures { result ≡ sixty (numbers_of s) }
 {
     let mut all = [0; COUNT];
@@ -86,7 +86,7 @@ pub(crate) fn numbers(s: Slot) -> [u16; COUNT]
 }
 
 // The number at a place; behind the last there is none, and it is 0.
-// Kept: by its place, which is no kind: edges asks for all of them so, beside names of its own (Numbers.numbers_of has them by place).
+// Kept: by its place, which is no kind, as Numbers.numbers_of has them. Who wants more than one takes `numbers`: each call reckons all.
 pub fn number(s: Slot, k: usize) -> u16
     ensures { result ≡ get_or (numbers_of s) k 0 }
 {
